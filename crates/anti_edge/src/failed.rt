@@ -1,0 +1,3 @@
+/// A read or a write failed. The count of faults of the source or the sink rose with it.
+#[derive(Clone, Copy, Debug, PartialEq, Eq)]
+pub struct Failed;

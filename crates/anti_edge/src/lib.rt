@@ -1,0 +1,31 @@
+//! The outside of Antipode: where bytes come from and where they go, and the counts of faults that every failure shows in.
+#![tactic(auto)]
+
+mod failed;
+mod giving;
+mod memory_sink;
+mod memory_source;
+mod plan;
+mod reading;
+mod real_sink;
+mod real_source;
+mod sink;
+mod source;
+mod sure_sink;
+mod sure_source;
+#[cfg(test)]
+mod tests;
+mod writing;
+
+pub use failed::Failed;
+pub use memory_sink::MemorySink;
+pub use memory_source::MemorySource;
+pub use plan::Plan;
+pub use reading::{ReadRefused, read_all};
+pub use real_sink::RealSink;
+pub use real_source::RealSource;
+pub use sink::Sink;
+pub use source::Source;
+pub use sure_sink::SureSink;
+pub use sure_source::SureSource;
+pub use writing::write_all;

@@ -1,0 +1,50 @@
+ghost use Rattle.std.specs.Prelude.{◌≡◌, ◌<◌, ◌≤◌, length, IfOk, OnOk, IfSome, Err};
+ghost use Rattle.anti_edge.specs.Outside.{Rose, IsEnd, TakesFront};
+
+use crate::failed::Failed;
+use crate::source::Source;
+use anti_ids::{Bytes, NoMemory};
+use std::alloc::Global;
+
+/// Why a source was not read to its end.
+#[derive(Clone, Copy, Debug, PartialEq, Eq)]
+pub enum ReadRefused {
+    /// A read failed, and the count of faults of the source rose.
+    Fault,
+    /// There are more bytes than the limit.
+    TooLong,
+    /// There was no memory for the bytes.
+    NoMemory,
+}
+
+/// Reads the source to its end and answers all its bytes, of which there are at most `limit`.
+pub fn read_all<S: Source>(alloc: Global, src: &mut S, limit: u32) -> Result<Bytes, ReadRefused>
+    ensures all { IfOk result (λ bytes. IfSome (S.left src.old) (λ left. bytes.items ≡ left)) }
+    ensures short { IfOk result (λ bytes. length bytes.items ≤ limit) }
+    ensures end { OnOk result (IsEnd (S.left src.new)) }
+    ensures too_long { result ≡ Err ReadRefused.TooLong → IfSome (S.left src.old) (λ left. limit < length left) }
+    ensures fault { result ≡ Err ReadRefused.Fault → Rose (S.faults src.old) (S.faults src.new) }
+
+    // What stands after any answer.
+    ensures front { TakesFront (S.left src.old) (S.left src.new) }
+    ensures count { S.faults src.old ≤ S.faults src.new }
+{
+    let mut bytes = Bytes::new(alloc);
+    let mut block = [0u8; 4096];
+    loop {
+        let count = match src.read(&mut block) {
+            Ok(count) => count,
+            Err(Failed) => return Err(ReadRefused::Fault),
+        };
+        if count == 0 {
+            return Ok(bytes);
+        }
+        if count > limit as usize - bytes.len() {
+            return Err(ReadRefused::TooLong);
+        }
+        match bytes.append(block.split_at(count).0) {
+            Ok(()) => {}
+            Err(NoMemory) => return Err(ReadRefused::NoMemory),
+        }
+    }
+}
