@@ -1,0 +1,4 @@
+pub mod Stored
+pub mod Store
+pub mod Inbox
+pub mod Objects

@@ -1,0 +1,258 @@
+-- The tables of the five kinds of store: which calls are ready after a history, what they are due, and the units that they need.
+use Rattle.std.specs.Prelude.{ℕ, ◌+◌, ◌*◌, max, Bool, true, false, cond, not, ◌&&◌, ◌||◌, List, [], ◌∷◌, ◌++◌, length, take, ◌==◌, nat_lt, nat_le, bytes_eq, Option, None, Some, find, filter, count_by, sum_by, slice_get, decimal}
+use Rattle.std.specs.List.{list_any, list_all}
+use Rattle.std.specs.Ordering.{nat_cmp, is_lt}
+use Rattle.std.specs.Cmp.Lexicographic.{slice_cmp}
+use Rattle.anti_ids.specs.Names.{is_plain}
+use Rattle.anti_ids.specs.List.{plain}
+use Rattle.anti_ids.specs.declared.id.WriteId.{WriteId}
+use Rattle.anti_kind.specs.declared.call.Call.{Call}
+use Rattle.anti_kind.specs.declared.call.Call.TheVariants.{Write, Read, Scan, Poll, Look, Ship, Again, Pull, Repull, Ack, Nack}
+use Rattle.anti_kind.specs.declared.call.Reply.{Reply}
+use Rattle.anti_kind.specs.declared.call.Reply.TheVariants.{Written, Shown, Missing, Moved, Pulled, Done}
+use Rattle.anti_kind.specs.declared.call.Entry.{Entry}
+use Rattle.anti_kind.specs.declared.call.Row.{Row}
+use Rattle.anti_kind.specs.declared.call.Sub.{Sub}
+use Rattle.anti_kind.specs.declared.call.StoreKind.{StoreKind}
+use Rattle.anti_kind.specs.declared.call.StoreKind.TheVariants.{Kv, Table, Blob, Queue, Topic}
+use Rattle.anti_kind.specs.Stored.{rows, row_of, is_shipped, parts_of, parts, is_whole, shows_of, is_in}
+
+-- What a store starts as: its kind, its number, the regions of its replicas, its subscriptions, how many times a message of a
+-- queue is handed out at most, and what a region of it shows for a key after a history, 0 for nothing.
+pub record Store : Type 0 where
+  pub kind : StoreKind
+  pub number : ℕ
+  pub regions : List ℕ
+  pub subs : List Sub
+  pub tries : ℕ
+  pub shows : List Entry → ℕ → List ℕ → ℕ
+
+-- the stores whose regions show the greatest version that is whole there
+abbrev pub store_of : StoreKind → ℕ → List ℕ → List Sub → ℕ → Store
+store_of kind number regions subs tries =
+    record { kind = kind; number = number; regions = regions; subs = subs; tries = tries; shows = shows_of kind }
+
+abbrev pub kv_store : ℕ → List ℕ → Store
+kv_store number regions = store_of Kv number regions [] 0
+
+-- Kinds.
+
+abbrev pub has_keys : StoreKind → Bool
+has_keys Kv = true
+has_keys Table = true
+has_keys Blob = true
+has_keys _ = false
+
+abbrev pub is_table : StoreKind → Bool
+is_table Table = true
+is_table _ = false
+
+abbrev pub is_queue : StoreKind → Bool
+is_queue Queue = true
+is_queue _ = false
+
+abbrev pub is_topic : StoreKind → Bool
+is_topic Topic = true
+is_topic _ = false
+
+-- Writing.
+
+-- the key that a write gets: the given one, but in a queue and a topic c#n for the nth write to the channel c
+abbrev pub key_for : StoreKind → List Entry → List ℕ → List ℕ
+key_for kind h key =
+    cond (has_keys kind) key (key ++ 35 ∷ decimal (count_by (is_in key) (rows h) + 1))
+
+-- the lineage that a write to a key stores
+abbrev pub over : Store → List Entry → List ℕ → List WriteId → List WriteId
+over s h key lineage = lineage
+
+-- Shipping.
+
+abbrev pub is_replica : Store → ℕ → Bool
+is_replica s g = list_any (λ region. region == g) s.regions
+
+-- whether a part is one of a row that was found
+abbrev pub has_part : StoreKind → Option Row → ℕ → Bool
+has_part kind None p = false
+has_part kind (Some r) p = nat_le 1 p && nat_le p (parts_of kind r.value)
+
+-- whether all versions below v were shipped to g
+abbrev pub is_next : List Entry → ℕ → ℕ → Bool
+is_next h g v = list_all (λ r. nat_le v r.version || is_shipped h g r.version 1) (rows h)
+
+abbrev pub can_ship : Store → List Entry → ℕ → ℕ → ℕ → Bool
+can_ship s h g v p =
+    is_replica s g && (has_part s.kind (row_of h v) p && (not (is_shipped h g v p) && (not (is_table s.kind) || is_next h g v)))
+
+-- Looking.
+
+abbrev pub is_visible : Store → List Entry → ℕ → WriteId → Bool
+is_visible s h g id = nat_le id.version (s.shows h g id.key)
+
+abbrev pub is_written : List Entry → WriteId → Bool
+is_written h id = list_any (λ r. (r.version == id.version) && bytes_eq r.key id.key) (rows h)
+
+-- the ids that are not visible at g
+abbrev pub missing : Store → List Entry → ℕ → List WriteId → List WriteId
+missing s h g ids = filter (λ id. not (is_visible s h g id)) ids
+
+-- the ids that no write of the history made
+abbrev pub unwritten : List Entry → List WriteId → List WriteId
+unwritten h ids = filter (λ id. not (is_written h id)) ids
+
+-- whether every id is of this store, and the look is dry, or nothing is missing, or something is unwritten
+abbrev pub can_look : Store → List Entry → ℕ → List WriteId → Bool → Bool
+can_look s h g ids dry =
+    is_replica s g && (list_all (λ id. id.store == s.number) ids && (dry || (list_all (is_visible s h g) ids || not (list_all (is_written h) ids))))
+
+-- Reading.
+
+abbrev pub absent : List ℕ → Row
+absent k = record { key = k; version = 0; value = []; lineage = [] }
+
+abbrev pub or_absent : List ℕ → Option Row → Row
+or_absent k None = absent k
+or_absent k (Some r) = r
+
+-- the row that g shows for the key k
+abbrev pub shown_row : Store → List Entry → ℕ → List ℕ → Row
+shown_row s h g k = or_absent k (row_of h (s.shows h g k))
+
+-- a row put among rows that ascend by the bytes of their keys
+abbrev pub by_key : Row → List Row → List Row
+by_key r [] = r ∷ []
+by_key r (x ∷ rest) = cond (is_lt (slice_cmp nat_cmp r.key x.key)) (r ∷ x ∷ rest) (x ∷ by_key r rest)
+
+abbrev pub sorted : List Row → List Row
+sorted [] = []
+sorted (r ∷ rest) = by_key r (sorted rest)
+
+abbrev pub has_prefix : List ℕ → Row → Bool
+has_prefix prefix r = bytes_eq prefix (take (length prefix) r.key)
+
+-- the rows that g shows for all keys with the prefix, ascending by the bytes of the key
+abbrev pub scanned : Store → List Entry → ℕ → List ℕ → List Row
+scanned s h g prefix = sorted (filter (λ r. has_prefix prefix r && (s.shows h g r.key == r.version)) (rows h))
+
+-- Handing out: a queue's messages and a topic's cells.
+
+abbrev pub is_pull : Call → Bool
+is_pull (Pull sub) = true
+is_pull _ = false
+
+abbrev pub is_pull_by : ℕ → Call → Bool
+is_pull_by n (Pull sub) = sub == n
+is_pull_by n _ = false
+
+abbrev pub is_ack : ℕ → Call → Bool
+is_ack v (Ack version) = version == v
+is_ack v _ = false
+
+abbrev pub is_nack : ℕ → Call → Bool
+is_nack v (Nack version) = version == v
+is_nack v _ = false
+
+abbrev pub gives : ℕ → Reply → Bool
+gives v (Pulled r) = r.version == v
+gives v _ = false
+
+-- how many times the message of version v was pulled, and how many times given back or done
+abbrev pub pulls : List Entry → ℕ → ℕ
+pulls h v = count_by (λ e. is_pull e.call && gives v e.reply) h
+
+abbrev pub settles : List Entry → ℕ → ℕ
+settles h v = count_by (λ e. is_ack v e.call || is_nack v e.call) h
+
+abbrev pub is_acked : List Entry → ℕ → Bool
+is_acked h v = list_any (λ e. is_ack v e.call) h
+
+-- whether the message of version v was pulled once more than it was given back or done
+abbrev pub is_out : List Entry → ℕ → Bool
+is_out h v = pulls h v == settles h v + 1
+
+-- whether a message is free for a subscription
+abbrev pub is_free : Store → List Entry → Sub → Row → Bool
+is_free s h sub r =
+    is_in sub.channel r && (is_whole s.kind h sub.region r && (not (is_out h r.version) && (not (is_acked h r.version) && nat_lt (pulls h r.version) s.tries)))
+
+-- how many cells a subscription has pulled
+abbrev pub cursor : List Entry → ℕ → ℕ
+cursor h n = count_by (λ e. is_pull_by n e.call) h
+
+-- a cell, where it is whole at the region
+abbrev pub if_whole : Store → List Entry → ℕ → Option Row → Option Row
+if_whole s h g None = None
+if_whole s h g (Some r) = cond (is_whole s.kind h g r) (Some r) None
+
+-- what the subscription numbered n would pull
+abbrev pub next_of : StoreKind → Store → List Entry → ℕ → Sub → Option Row
+next_of Queue s h n sub = find (is_free s h sub) (rows h)
+next_of Topic s h n sub = if_whole s h sub.region (slice_get (filter (is_in sub.channel) (rows h)) (cursor h n))
+next_of _ s h n sub = None
+
+abbrev pub pulled_next : Store → List Entry → ℕ → Option Sub → Option Row
+pulled_next s h n None = None
+pulled_next s h n (Some sub) = next_of s.kind s h n sub
+
+abbrev pub next : Store → List Entry → ℕ → Option Row
+next s h n = pulled_next s h n (slice_get s.subs n)
+
+abbrev pub is_there : Option Row → Bool
+is_there None = false
+is_there (Some r) = true
+
+-- whether the subscription pulled the cell of version v
+abbrev pub was_pulled : List Entry → ℕ → ℕ → Bool
+was_pulled h n v = list_any (λ e. is_pull_by n e.call && gives v e.reply) h
+
+-- The tables.
+
+abbrev pub store_ready : Store → List Entry → Call → Bool
+store_ready s h (Write key value lineage) = has_keys s.kind || is_plain key
+store_ready s h (Ship g v p) = can_ship s h g v p
+store_ready s h (Again g v p) = is_shipped h g v p
+store_ready s h (Look g ids dry) = can_look s h g ids dry
+store_ready s h (Read g k) = has_keys s.kind && is_replica s g
+store_ready s h (Scan g prefix) = is_table s.kind && is_replica s g
+store_ready s h (Poll g k) = is_topic s.kind && is_replica s g
+store_ready s h (Pull n) = is_there (next s h n)
+store_ready s h (Repull n v) = is_topic s.kind && was_pulled h n v
+store_ready s h (Ack v) = is_queue s.kind && is_out h v
+store_ready s h (Nack v) = is_queue s.kind && is_out h v
+store_ready s h _ = false
+
+abbrev pub store_due : Store → List Entry → Call → Reply
+store_due s h (Write key value lineage) = Written (key_for s.kind h key) (length (rows h) + 1)
+store_due s h (Ship g v p) = Moved
+store_due s h (Again g v p) = Moved
+store_due s h (Look g ids dry) = Missing (missing s h g ids) (unwritten h ids)
+store_due s h (Read g k) = Shown (plain (shown_row s h g k ∷ []))
+store_due s h (Scan g prefix) = Shown (plain (scanned s h g prefix))
+store_due s h (Poll g k) = Shown (plain (shown_row s h g k ∷ []))
+store_due s h (Pull n) = Pulled (or_absent [] (next s h n))
+store_due s h (Repull n v) = Pulled (or_absent [] (row_of h v))
+store_due s h _ = Done
+
+abbrev pub store_need : Store → List Entry → Call → ℕ
+store_need s h (Write key value lineage) = 1 + length s.regions * parts_of s.kind value
+store_need s h (Ship g v p) = 0
+store_need s h (Scan g prefix) = max 1 (length (scanned s h g prefix))
+store_need s h (Pull n) = cond (is_queue s.kind) 2 1
+store_need s h (Ack v) = 0
+store_need s h (Nack v) = 0
+store_need s h _ = 1
+
+-- the shipments of a row to g that were not made
+abbrev pub owed_at : Store → List Entry → Row → ℕ → ℕ
+owed_at s h r g = count_by (λ p. not (is_shipped h g r.version p)) (parts s.kind r)
+
+-- the shipments of the writes that were not made
+abbrev pub owed_shipments : Store → List Entry → ℕ
+owed_shipments s h = sum_by (λ r. sum_by (owed_at s h r) s.regions) (rows h)
+
+-- the messages that are out, in a queue
+abbrev pub owed_messages : Store → List Entry → ℕ
+owed_messages s h = cond (is_queue s.kind) (count_by (λ r. is_out h r.version) (rows h)) 0
+
+abbrev pub store_owed : Store → List Entry → ℕ
+store_owed s h = owed_shipments s h + owed_messages s h

@@ -1,0 +1,78 @@
+-- What a history of a store wrote, which parts of it were shipped where, and what a region therefore shows.
+use Rattle.std.specs.Prelude.{ℕ, ◌+◌, ◌/◌, max, Bool, false, cond, not, ◌&&◌, List, [], ◌∷◌, length, ◌==◌, bytes_eq, Option, find, flat_map}
+use Rattle.std.specs.List.{list_any, list_all, range_with_len, prefix_len, take_while}
+use Rattle.anti_ids.specs.declared.id.WriteId.{WriteId}
+use Rattle.anti_kind.specs.declared.limits.TheConstants.{PART_BYTES}
+use Rattle.anti_kind.specs.declared.call.Call.{Call}
+use Rattle.anti_kind.specs.declared.call.Call.TheVariants.{Write, Ship}
+use Rattle.anti_kind.specs.declared.call.Reply.{Reply}
+use Rattle.anti_kind.specs.declared.call.Reply.TheVariants.{Written}
+use Rattle.anti_kind.specs.declared.call.Entry.{Entry}
+use Rattle.anti_kind.specs.declared.call.Row.{Row}
+use Rattle.anti_kind.specs.declared.call.StoreKind.{StoreKind}
+use Rattle.anti_kind.specs.declared.call.StoreKind.TheVariants.{Blob}
+
+-- the lineage that is kept beside a write
+abbrev pub stored : Call → Reply → List WriteId
+stored (Write key value lineage) reply = lineage
+stored _ reply = []
+
+-- the row of a write, from its value, the lineage kept beside it, and its reply
+abbrev pub written : List ℕ → List WriteId → Reply → List Row
+written value lineage (Written key version) = record { key = key; version = version; value = value; lineage = lineage } ∷ []
+written value lineage _ = []
+
+-- the row that a call with its reply wrote, none for most calls
+abbrev pub wrote : Call → Reply → List Row
+wrote (Write key value lineage) reply = written value (stored (Write key value lineage) reply) reply
+wrote _ reply = []
+
+-- what a history wrote, in its order
+abbrev pub rows : List Entry → List Row
+rows h = flat_map (λ e. wrote e.call e.reply) h
+
+-- the row of a version
+abbrev pub row_of : List Entry → ℕ → Option Row
+row_of h v = find (λ r. r.version == v) (rows h)
+
+-- whether a call ships that part of that version to the region g
+abbrev pub is_ship : ℕ → ℕ → ℕ → Call → Bool
+is_ship g v p (Ship region version part) = (region == g) && ((version == v) && (part == p))
+is_ship g v p _ = false
+
+abbrev pub is_shipped : List Entry → ℕ → ℕ → ℕ → Bool
+is_shipped h g v p = list_any (λ e. is_ship g v p e.call) h
+
+-- how many parts a value has: one, but in a blob one for each 64 bytes begun, and one where there is none
+abbrev pub parts_of : StoreKind → List ℕ → ℕ
+parts_of Blob value = max 1 ((length value + 63) / PART_BYTES)
+parts_of _ value = 1
+
+-- the parts of a row, counted from 1
+abbrev pub parts : StoreKind → Row → List ℕ
+parts kind r = range_with_len 1 (parts_of kind r.value)
+
+-- whether all parts of a row were shipped to g
+abbrev pub is_whole : StoreKind → List Entry → ℕ → Row → Bool
+is_whole kind h g r = list_all (λ p. is_shipped h g r.version p) (parts kind r)
+
+-- the greatest version of the key k among the rows that pass the test, 0 where there is none
+abbrev pub greatest : (Row → Bool) → List ℕ → List Row → ℕ
+greatest test k [] = 0
+greatest test k (r ∷ rest) = max (cond (bytes_eq r.key k && test r) r.version 0) (greatest test k rest)
+
+-- What a region shows for a key: the greatest version of it that is whole there, or 0.
+abbrev pub shows_of : StoreKind → List Entry → ℕ → List ℕ → ℕ
+shows_of kind h g k = greatest (is_whole kind h g) k (rows h)
+
+-- How far a region has everything: how many versions, from the first on, are whole there.
+abbrev pub upto_of : StoreKind → List Entry → ℕ → ℕ
+upto_of kind h g = prefix_len (is_whole kind h g) (rows h)
+
+-- In a queue and a topic a write names a channel, and the nth write to the channel c has the key c#n.
+abbrev pub channel_of : List ℕ → List ℕ
+channel_of key = take_while (λ b. not (b == 35)) key
+
+-- the rows of a channel, in their order
+abbrev pub is_in : List ℕ → Row → Bool
+is_in channel r = bytes_eq (channel_of r.key) channel

@@ -1,0 +1,46 @@
+use crate::call::{Call, Reply};
+use anti_ids::NoMemory;
+
+/// The state of an object. It stands for a start and for the history of the calls that were made: what it answers is what the
+/// object's table says after each history that it stands for. The calls but `due` and `apply` take no memory.
+pub trait Machine {
+    ghost use Rattle.std.specs.Prelude.{◌≡◌, List, [], ◌∷◌, ◌++◌, true, IfOk, OnOk, OnErr, IsOk};
+    ghost use Rattle.anti_kind.specs.declared.call.Entry.{Entry};
+    ghost use Rattle.anti_kind.specs.Objects.{Start, ready, need, held, owed, due, Follows, StandsFor, MayMake, IsShip};
+
+    ghost start: { Self → Start };
+
+    ghost Stands: { Self → List Entry → Type 0 };
+
+    /// Whether a call is ready.
+    fn ready(&self, c: &Call) -> bool
+        ensures { (h : List Entry) → StandsFor (start self.now) (Stands self.now) h → result ≡ ready (start self.now) h c.now };
+
+    /// The units that a ready call needs.
+    fn need(&self, c: &Call) -> u32
+        ensures { (h : List Entry) → StandsFor (start self.now) (Stands self.now) h → ready (start self.now) h c.now ≡ true → result ≡ need (start self.now) h c.now };
+
+    /// The units of the calls that were made.
+    fn held(&self) -> u32
+        ensures { (h : List Entry) → StandsFor (start self.now) (Stands self.now) h → result ≡ held h };
+
+    /// The units that are reserved for later calls.
+    fn owed(&self) -> u32
+        ensures { (h : List Entry) → StandsFor (start self.now) (Stands self.now) h → result ≡ owed (start self.now) h };
+
+    /// The reply that a call is due, which is ready and fits. Nothing changes. Of a `Ship` it takes no memory.
+    fn due(&self, c: &Call) -> Result<Reply, NoMemory>
+        requires { MayMake (start self.now) (Stands self.now) c.now }
+        ensures due { (h : List Entry) → StandsFor (start self.now) (Stands self.now) h → IfOk result (λ r. r ≡ due (start self.now) h c.now) }
+        ensures ship { IsShip c.now → IsOk result };
+
+    /// Makes a call that is ready and fits, and answers the reply that it is due. Where there is no memory it stands for what it
+    /// stood for. A `Ship` takes no memory.
+    fn apply(&mut self, c: &Call) -> Result<Reply, NoMemory>
+        requires { MayMake (start self.old) (Stands self.old) c.now }
+        ensures due { (h : List Entry) → StandsFor (start self.old) (Stands self.old) h → IfOk result (λ r. r ≡ due (start self.old) h c.now) }
+        ensures stands { (h : List Entry) (e : Entry) → StandsFor (start self.old) (Stands self.old) h → Follows (start self.old) h e → e.call ≡ c.now → OnOk result (Stands self.new (h ++ e ∷ [])) }
+        ensures err { (h : List Entry) → Stands self.old h → OnErr result (Stands self.new h) }
+        ensures start { start self.new ≡ start self.old }
+        ensures ship { IsShip c.now → IsOk result };
+}
