@@ -1,0 +1,4 @@
+pub mod Filters
+pub mod Takes
+pub mod Stands
+pub mod Others
