@@ -1,0 +1,7 @@
+-- The words of a line.
+use Rattle.std.specs.Prelude.{ℕ, List, not, ◌==◌, length, filter}
+use Rattle.std.specs.List.{slice_split}
+
+-- What stands between spaces and has a byte. A space is the byte 32, and nothing else.
+abbrev pub words : List ℕ → List (List ℕ)
+words text = filter (λ piece. not (length piece == 0)) (slice_split (λ b. b == 32) text)
