@@ -38,5 +38,5 @@ statement_in (what ∷ rest) =
     if bytes_eq what (codes "write") then write_of rest else (if bytes_eq what (codes "read") then read_of rest else None)
 
 -- The statement that a line states.
-abbrev pub statement_of : List ℕ → Option Statement
+unfoldable pub statement_of : List ℕ → Option Statement
 statement_of line = statement_in (words line)

@@ -104,6 +104,7 @@ fn statement_in(alloc: Global, words: &[&[u8]]) -> Result<Option<Statement>, NoM
 }
 
 /// The statement that a line of a body states, or `None` where it states none. Nothing but memory can be wanting.
+#[tactic(auto, unfolding(crate::specs::Statements::statement_of))]
 pub fn read_statement(alloc: Global, line: &[u8]) -> Result<Option<Statement>, NoMemory>
     ensures { IfOk result (λ statement. statement ≡ statement_of line.now) }
 {
