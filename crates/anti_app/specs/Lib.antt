@@ -1,0 +1,6 @@
+pub mod Trees
+pub mod Keys
+pub mod Parts
+pub mod Chosen
+pub mod Sound
+pub mod Stated

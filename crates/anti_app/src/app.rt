@@ -1,0 +1,151 @@
+use anti_ids::{List, Name, Value};
+use anti_kind::StoreKind;
+use anti_lang::Body;
+
+/// Names, in the order of the document.
+pub type Names = List<Name>;
+
+/// Numbers of things of the document, counted from 0.
+pub type Numbers = List<u32>;
+
+/// A store.
+#[derive(Drop)]
+pub struct StoreDef {
+    /// A plain name, unlike that of any other store or service.
+    pub name: Name,
+    /// What the store keeps.
+    pub kind: StoreKind,
+    /// The regions that have a replica: 1 to 8 distinct numbers of regions, in the order of the document.
+    pub replicas: Numbers,
+    /// How often a message is given out at most, 1 to 8. It counts at a queue only.
+    pub tries: u32,
+}
+
+/// The stores, in the order of the document.
+pub type Stores = List<StoreDef>;
+
+/// A handler of a service.
+#[derive(Drop)]
+pub struct HandlerDef {
+    /// A plain name, unlike that of any other handler of the service.
+    pub name: Name,
+    /// At most 64 statements.
+    pub body: Body,
+}
+
+/// The handlers of a service, in the order of the document.
+pub type Handlers = List<HandlerDef>;
+
+/// A service.
+#[derive(Drop)]
+pub struct ServiceDef {
+    /// A plain name, unlike that of any other store or service.
+    pub name: Name,
+    /// The number of the region in which its processes run.
+    pub region: u32,
+    /// At most 16 handlers.
+    pub handlers: Handlers,
+}
+
+/// The services, in the order of the document.
+pub type Services = List<ServiceDef>;
+
+/// A request that waits in the inbox of a service from the start.
+#[derive(Drop)]
+pub struct RequestDef {
+    /// The number of the service.
+    pub service: u32,
+    /// The number of the handler among those of the service.
+    pub handler: u32,
+    /// What the handler gets.
+    pub value: Value,
+}
+
+/// The requests, in the order of the document.
+pub type Requests = List<RequestDef>;
+
+/// What happens next in a run. Each number of a choice that counts from 1 is at most 4,096.
+#[derive(Clone, Copy, Debug, PartialEq, Eq)]
+pub enum Choice {
+    /// The delivery of this number, counted from 1 among the free ones of the service's inbox, is taken: a process is born.
+    Take {
+        service: u32,
+        nth: u32,
+    },
+    /// A carrier moves a part, counted from 1, of a version to a region. The part is the first where none is given.
+    Ship {
+        store: u32,
+        region: u32,
+        version: u64,
+        part: Option<u32>,
+    },
+    /// The process goes on whose birth stands at this place, counted from 1, of the history of an object. Objects are
+    /// numbered from 0: first the stores, then the inboxes of the services.
+    Go {
+        object: u32,
+        place: u32,
+    },
+}
+
+/// The choices, in the order of the document.
+pub type Choices = List<Choice>;
+
+/// An application: what a document states.
+#[derive(Drop)]
+pub struct App {
+    /// 1 to 8 distinct plain names.
+    pub regions: Names,
+    /// The stores.
+    pub stores: Stores,
+    /// The services.
+    pub services: Services,
+    /// The requests.
+    pub requests: Requests,
+    /// The choices.
+    pub choices: Choices,
+}
+
+/// A part of a document, in the order in which faults are sought.
+#[derive(Clone, Copy, Debug, PartialEq, Eq)]
+pub enum Part {
+    /// The top of the document.
+    Top,
+    /// The name of a region.
+    Region,
+    /// A store.
+    Store,
+    /// A service.
+    Service,
+    /// A handler. Handlers are counted over all services together.
+    Handler,
+    /// A subscription of a handler to a channel.
+    Sub,
+    /// A request.
+    Request,
+    /// A choice.
+    Choice,
+}
+
+/// A place of a document.
+#[derive(Clone, Copy, Debug, PartialEq, Eq)]
+pub struct Place {
+    /// The part.
+    pub part: Part,
+    /// Which one of its part, counted from 1. The top is item 0.
+    pub item: u32,
+    /// The line of a body, counted from 1, or 0 where no line is meant.
+    pub line: u32,
+}
+
+/// Why bytes state no application.
+#[derive(Clone, Copy, Debug, PartialEq, Eq)]
+pub enum AppFault {
+    /// The bytes are no TOML document.
+    NotToml,
+    /// The document fails a rule of the format, at this place first. Rule 25 stands for all that is not built yet.
+    Bad { rule: u32, place: Place },
+    /// The choice of this number, counted from 1, is none.
+    BadChoice { number: u32 },
+    /// There was no memory. It says nothing of the bytes.
+    NoMemory,
+}

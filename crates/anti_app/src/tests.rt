@@ -1,0 +1,116 @@
+use crate::{App, AppFault, Choice, Part, Place, read_app};
+use anti_lang::{Statement, ValueWord};
+use std::alloc::Global;
+use std::test::Fail;
+
+// Whether the application is the one of the test's document, but for its choices.
+fn has_parts(app: &App) -> bool {
+    let [us, eu] = app.regions.as_slice() else {
+        return false;
+    };
+    let [store] = app.stores.as_slice() else {
+        return false;
+    };
+    let [service] = app.services.as_slice() else {
+        return false;
+    };
+    let [request] = app.requests.as_slice() else {
+        return false;
+    };
+    us.bytes() == b"us".as_slice()
+        && eu.bytes() == b"eu".as_slice()
+        && store.name.bytes() == b"s".as_slice()
+        && store.replicas.as_slice() == [1].as_slice()
+        && service.region == 1
+        && service.handlers.len() == 2
+        && request.handler == 1
+        && request.value.bytes() == b"a.1".as_slice()
+}
+
+// Whether the body of the service's last handler is the one of the test's document.
+fn has_body(app: &App) -> bool {
+    let [service] = app.services.as_slice() else {
+        return false;
+    };
+    let [_, handler] = service.handlers.as_slice() else {
+        return false;
+    };
+    let [write, read] = handler.body.as_slice() else {
+        return false;
+    };
+    let writes = match write {
+        Statement::Write {
+            store: _,
+            key,
+            value: ValueWord::Input,
+        } => key.bytes() == b"k".as_slice(),
+        _ => false,
+    };
+    let reads = match read {
+        Statement::Read {
+            store: _,
+            key: _,
+            variable,
+        } => variable.bytes() == b"x".as_slice(),
+        _ => false,
+    };
+    writes && reads
+}
+
+// Why the bytes state no application.
+fn fault(alloc: Global, bytes: &[u8]) -> Option<AppFault> {
+    match read_app(alloc, bytes) {
+        Ok(_) => None,
+        Err(fault) => Some(fault),
+    }
+}
+
+#[test]
+fn documents_are_read(rt: HostRuntime) -> Result<(), Fail> {
+    let text = b"regions = ['us', 'eu']
+store = [{name = 's', kind = 'kv', replicas = ['eu']}]
+request = [{service = 'w', handler = 'two', value = 'a.1'}]
+choices = ['take w 1', ' go  w.12 ', 'go s.1', 'ship s us 4096', 'ship s eu 1 2']
+[[service]]
+name = 'w'
+region = 'eu'
+handler = [{name = 'one', body = []}, {name = 'two', body = ['write s k $in', 'read s k as x']}]";
+    let app = read_app(rt.alloc(), text).ok().ok_or("an application")?;
+    assert!(rt; has_parts(&app));
+    assert!(rt; has_body(&app));
+    let choices = [
+        Choice::Take { service: 0, nth: 1 },
+        Choice::Go {
+            object: 1,
+            place: 12,
+        },
+        Choice::Go {
+            object: 0,
+            place: 1,
+        },
+        Choice::Ship {
+            store: 0,
+            region: 0,
+            version: 4096,
+            part: None,
+        },
+        Choice::Ship {
+            store: 0,
+            region: 1,
+            version: 1,
+            part: Some(2),
+        },
+    ];
+    assert!(rt; app.choices.as_slice() == choices.as_slice());
+    assert!(rt; fault(rt.alloc(), b"regions") == Some(AppFault::NotToml));
+    let bad = AppFault::Bad {
+        rule: 25,
+        place: Place {
+            part: Part::Top,
+            item: 0,
+            line: 0,
+        },
+    };
+    assert!(rt; fault(rt.alloc(), b"regions = []") == Some(bad));
+    Ok(())
+}
