@@ -1,0 +1,5 @@
+pub mod Orders
+pub mod Puts
+pub mod Sames
+pub mod Bounds
+pub mod Merges
