@@ -1,0 +1,4 @@
+pub mod Lineages
+pub mod Runs
+pub mod StoreCalls
+pub mod Worked

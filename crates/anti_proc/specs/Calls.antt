@@ -1,0 +1,31 @@
+-- What is true of all calls of a process.
+use Rattle.std.specs.Prelude.{ℕ, ◌≡◌, ◌≤◌, length}
+use Rattle.anti_kind.specs.declared.call.Call.{Call}
+use Rattle.anti_kind.specs.declared.call.Call.TheVariants as calls
+use Rattle.anti_kind.specs.declared.call.Reply.{Reply}
+use Rattle.anti_app.specs.declared.app.App.{App}
+use Rattle.anti_proc.specs.declared.want.Want.{Want}
+use Rattle.anti_proc.specs.declared.want.Want.TheVariants.{Make, Over}
+use Rattle.anti_proc.specs.Trees.{Tree, Asks, Ends}
+
+-- a write or a read
+abbrev pub IsStoreCall : Call → Type 0
+IsStoreCall (calls.Write key value lineage) = Unit {0}
+IsStoreCall (calls.Read region key) = Unit {0}
+IsStoreCall _ = ⊥
+
+-- a call of a store of the application, in the first span; the number past the stores stands for a store that is not there
+pub record IsOfStores (app : App) (o n : ℕ) (c : Call) : Type 0 where
+  pub object : o ≤ length app.stores.items
+  pub span : n ≡ 1
+  pub call : IsStoreCall c
+
+-- each call that the process makes, whatever it is answered, is one of a store
+abbrev pub AllOfStores : App → Tree → Type 0
+AllOfStores app (Asks ask go) = IsOfStores app ask.object ask.span ask.call × ((reply : Reply) → AllOfStores app (go reply))
+AllOfStores app (Ends end) = Unit {0}
+
+-- the same of the next call, where there is one
+abbrev pub WantsOfStores : App → Want → Type 0
+WantsOfStores app (Make object span call) = IsOfStores app object span call
+WantsOfStores app (Over end) = Unit {0}

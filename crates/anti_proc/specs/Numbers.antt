@@ -1,0 +1,59 @@
+-- The numbers of objects and handlers. The stores come first, in the order of the application, and then the inboxes of its
+-- services.
+use Rattle.std.specs.Prelude.{ℕ, ◌+◌, suc, List, [], ◌∷◌, Option, Some, None, length, slice_get, if◌then◌else◌}
+use Rattle.std.specs.Str.{bytes_eq}
+use Rattle.anti_lang.specs.declared.statement.Statement.{Statement}
+use Rattle.anti_app.specs.declared.app.App.{App}
+use Rattle.anti_app.specs.declared.app.HandlerDef.{HandlerDef}
+use Rattle.anti_app.specs.declared.app.ServiceDef.{ServiceDef}
+use Rattle.anti_app.specs.declared.app.StoreDef.{StoreDef}
+
+-- the place of the store with a name among these, counted from 0; how many they are, where none has the name
+abbrev pub store_among : List StoreDef → List ℕ → ℕ
+store_among [] name = 0
+store_among (s ∷ ss) name = if bytes_eq s.name name then 0 else suc (store_among ss name)
+
+-- the same of a handler
+abbrev pub handler_among : List HandlerDef → List ℕ → ℕ
+handler_among [] name = 0
+handler_among (h ∷ hs) name = if bytes_eq h.name name then 0 else suc (handler_among hs name)
+
+-- the number of the store with a name
+abbrev pub store_number : App → List ℕ → ℕ
+store_number app name = store_among app.stores.items name
+
+-- how many objects there are: the stores, and an inbox for each service
+abbrev pub object_count : App → ℕ
+object_count app = length app.stores.items + length app.services.items
+
+-- the number of the inbox of a service
+abbrev pub inbox_number : App → ℕ → ℕ
+inbox_number app service = length app.stores.items + service
+
+-- the number of the handler with a name, in its service
+abbrev pub handler_in : Option ServiceDef → List ℕ → ℕ
+handler_in None name = 0
+handler_in (Some s) name = handler_among s.handlers.items name
+
+abbrev pub handler_number : App → ℕ → List ℕ → ℕ
+handler_number app service name = handler_in (slice_get app.services.items service) name
+
+-- the body of a handler by its number; the empty one, where there is no such handler
+abbrev pub body_in : Option HandlerDef → List Statement
+body_in None = []
+body_in (Some h) = h.body.items
+
+abbrev pub body_among : Option ServiceDef → ℕ → List Statement
+body_among None handler = []
+body_among (Some s) handler = body_in (slice_get s.handlers.items handler)
+
+abbrev pub body_of : App → ℕ → ℕ → List Statement
+body_of app service handler = body_among (slice_get app.services.items service) handler
+
+-- the region of a service
+abbrev pub region_in : Option ServiceDef → ℕ
+region_in None = 0
+region_in (Some s) = s.region
+
+abbrev pub region_of : App → ℕ → ℕ
+region_of app service = region_in (slice_get app.services.items service)

@@ -1,0 +1,43 @@
+-- Everything that a process may do, as a tree: a call, and what follows on each reply to it; or its end.
+use Rattle.std.specs.Prelude.{ℕ, Option, Some, None, List, [], ◌∷◌}
+use Rattle.anti_ids.specs.declared.id.WriteId.{WriteId}
+use Rattle.anti_kind.specs.declared.call.Call.{Call}
+use Rattle.anti_kind.specs.declared.call.Reply.{Reply}
+use Rattle.anti_proc.specs.declared.want.End.{End}
+use Rattle.anti_proc.specs.declared.want.Want.{Want}
+use Rattle.anti_proc.specs.declared.want.Want.TheVariants.{Make, Over}
+
+-- a call at an object, in a span, with the lineage that the process carries as it makes it
+pub record Ask : Type 0 where
+  pub object : ℕ
+  pub span : ℕ
+  pub call : Call
+  pub carried : List WriteId
+
+pub data Tree : Type 0 where
+  Asks : (ask : Ask) → (Reply → Tree) → Tree
+  Ends : (end : End) → Tree
+
+-- what follows on a reply; after the end there is nothing more
+abbrev pub branch : Tree → Reply → Tree
+branch (Asks ask go) reply = go reply
+branch (Ends end) reply = Ends end
+
+-- what follows on these replies
+abbrev pub after : Tree → List Reply → Tree
+after tree [] = tree
+after tree (reply ∷ replies) = after (branch tree reply) replies
+
+-- the next call, or the end
+abbrev pub want_of : Tree → Want
+want_of (Asks ask go) = Make ask.object ask.span ask.call
+want_of (Ends end) = Over end
+
+-- the next call after these replies, or the end
+abbrev pub next_of : Tree → List Reply → Want
+next_of tree replies = want_of (after tree replies)
+
+-- the end, where there is no further call
+abbrev pub end_of : Tree → Option End
+end_of (Asks ask go) = None
+end_of (Ends end) = Some end
