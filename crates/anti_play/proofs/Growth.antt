@@ -1,0 +1,210 @@
+-- How the trace of a run grows.
+use Rattle.std.proofs.Common.{◌≡◌, ℕ, ◌+◌, ◌-◌, ◌*◌, ◌<◌, ◌≤◌, ◌++◌, ◌⊎◌, inl, inr, max, List, [], ◌∷◌, Bool, true, false, cond, ◌&&◌, length, get_or, nat_lt, nat_eq, refl, sym, ap, ◌∙◌, subst, arith, length-append}
+use borrow.Author.Tests.{eqb-true, eqb-false, ltb-true, ltb-false}
+use Rattle.std.specs.Prelude.{All, Option, None, Some, option_map, slice_get}
+use Rattle.std.proofs.lemmas.List.Elements.{All-filter, All-nil}
+use Rattle.std.proofs.lemmas.Option.{slice_get_past, slice_get_cases}
+use Rattle.std.proofs.lemmas.Bool.Decides.{nat_tests}
+use Rattle.anti_kind.specs.declared.limits.TheConstants.{MOST_UNITS}
+use Rattle.anti_kind.specs.declared.call.Actor.{Actor}
+use Rattle.anti_kind.specs.declared.call.Actor.TheVariants.{Carrier, Process, Newborn}
+use Rattle.anti_kind.specs.declared.call.Birth.{Birth}
+use Rattle.anti_kind.specs.declared.call.Entry.{Entry}
+use Rattle.anti_kind.specs.Objects.{Start, IsLegal, Follows, ready, fits, last_stamp}
+use Rattle.anti_kind.proofs.Histories.{legal_more, below_last, last_below, length_held, fits_number, by_entries}
+use Rattle.anti_app.specs.declared.app.App.{App}
+use Rattle.anti_trace.specs.Traces.{entries_on, entries_by, put, is_on, is_by}
+use Rattle.anti_trace.proofs.Bounds.{length_bound}
+use Rattle.anti_trace.proofs.Puts.{put_next_is_trace, All-put, length-put, entries_on-put_same, entries_on-put_other, entries_by-put_same, entries_by-put_other}
+use Rattle.anti_play.specs.declared.asked.Asked.{Asked}
+use Rattle.anti_play.specs.Schedule.{start_of, store_start, inbox_start, named, clock_of, entry_of, made}
+use Rattle.anti_proc.specs.Numbers.{object_count}
+use Rattle.anti_play.specs.Runs.{IsRun, IsBorn}
+
+-- an entry that is made follows its object's history
+pub made_parts : (start : Start) (h trace : List Entry) (q : Asked) (e : Entry) → made start h trace q ≡ Some e
+    → (ready start h q.call ≡ true) × (fits start h q.call ≡ true) × (e ≡ entry_of start h trace q)
+made_parts start h trace q e m = parts (ready start h q.call) (fits start h q.call) (entry_of start h trace q) e m
+  where
+    parts : (r f : Bool) (x e : Entry) → cond (r && f) (Some x) None ≡ Some e → (r ≡ true) × (f ≡ true) × (e ≡ x)
+    parts true true x e m = (refl, refl, cc)
+    parts true false x e m = absurd (cc)
+    parts false f x e m = absurd (cc)
+
+stamp_above : (start : Start) (h trace : List Entry) (q : Asked) → All (λ d. d.stamp < (entry_of start h trace q).stamp) h
+stamp_above start h trace q k d lt = let below : (get_or h k d).stamp ≤ last_stamp h = below_last h k d lt in omega arith
+
+pub entry_follows : (start : Start) (h trace : List Entry) (q : Asked) → ready start h q.call ≡ true → fits start h q.call ≡ true
+    → Follows start h (entry_of start h trace q)
+entry_follows start h trace q r f = record { place = refl; is_ready = r; fits = f; reply = refl; stamp = stamp_above start h trace q }
+
+-- ---- objects
+
+pub decide : (a b : ℕ) → (a ≡ b) ⊎ (a ≡ b → ⊥)
+decide a b = by_test (nat_eq a b) refl
+  where
+    by_test : (t : Bool) → t ≡ nat_eq a b → (a ≡ b) ⊎ (a ≡ b → ⊥)
+    by_test true e = inl (eqb-true a b (sym e))
+    by_test false e = inr (λ same. eqb-false a b (sym e) same)
+
+-- what stands at a number of the stores, and at one past them
+stores_at : App → ℕ → Option Start
+stores_at app o = option_map (store_start o) (slice_get app.stores.items o)
+
+inboxes_at : App → ℕ → Option Start
+inboxes_at app o = option_map (inbox_start app (o - length app.stores.items)) (slice_get app.services.items (o - length app.stores.items))
+
+pub start_of-store : (app : App) (o : ℕ) → o < length app.stores.items → start_of app o ≡ option_map (store_start o) (slice_get app.stores.items o)
+start_of-store app o lt =
+    let yes_store : nat_lt o (length app.stores.items) ≡ true = grind (arith, nat_tests) in
+    ap (λ (t : Bool). cond t (option_map (store_start o) (slice_get app.stores.items o)) (option_map (inbox_start app (o - length app.stores.items)) (slice_get app.services.items (o - length app.stores.items)))) yes_store
+
+pub start_of-inbox : (app : App) (o : ℕ) → length app.stores.items ≤ o → start_of app o ≡ option_map (inbox_start app (o - length app.stores.items)) (slice_get app.services.items (o - length app.stores.items))
+start_of-inbox app o le =
+    let no_store : nat_lt o (length app.stores.items) ≡ false = grind (arith, nat_tests) in
+    ap (λ (t : Bool). cond t (option_map (store_start o) (slice_get app.stores.items o)) (option_map (inbox_start app (o - length app.stores.items)) (slice_get app.services.items (o - length app.stores.items)))) no_store
+
+pub below_or : (a b : ℕ) → (a < b) ⊎ (b ≤ a)
+below_or a b = by_test (nat_lt a b) refl
+  where
+    by_test : (t : Bool) → t ≡ nat_lt a b → (a < b) ⊎ (b ≤ a)
+    by_test true e = inl (ltb-true a b (sym e))
+    by_test false e = inr (ltb-false a b (sym e))
+
+pub start_there : (app : App) (o : ℕ) → o < object_count app → (start : Start) × (start_of app o ≡ Some start)
+start_there app o lt =
+    elim (below_or o (length app.stores.items)) [
+      | inl low ↦ elim ((slice_get_cases app.stores.items o).1) [
+        | inl found ↦ (store_start o found.0, start_of-store app o low ∙ ap (option_map (store_start o)) found.2)
+        | inr past ↦ absurd (let h = past.0 in omega arith)
+      ]
+      | inr high ↦ elim ((slice_get_cases app.services.items (o - length app.stores.items)).1) [
+        | inl found ↦ (inbox_start app (o - length app.stores.items) found.0, start_of-inbox app o high ∙ ap (option_map (inbox_start app (o - length app.stores.items))) found.2)
+        | inr past ↦ absurd (let h = past.0 in omega arith)
+      ]
+    ]
+
+pub start_known : (app : App) (o : ℕ) (start : Start) → start_of app o ≡ Some start → o < object_count app
+start_known app o start there =
+    elim (below_or o (object_count app)) [
+      | inl low ↦ low
+      | inr high ↦
+          let past : slice_get app.services.items (o - length app.stores.items) ≡ None = slice_get_past app.services.items (o - length app.stores.items) (omega arith) in
+          let none : start_of app o ≡ None = start_of-inbox app o (omega arith) ∙ ap (option_map (inbox_start app (o - length app.stores.items))) past in
+          absurd (cc)
+    ]
+
+-- ---- stamps
+
+-- a legal history is short
+pub legal_short : (start : Start) (h : List Entry) → IsLegal start h → length h ≤ MOST_UNITS + 1
+legal_short start h l =
+    by_entries start (λ x. length x ≤ MOST_UNITS + 1) (omega arith)
+    (λ x e lx f short. let fit = fits_number start x e f in let weigh = length_held x in omega (arith, length-append x (e ∷ [])))
+    h l
+
+pub last_stamp_within : (h : List Entry) (n : ℕ) → All (λ e. e.stamp ≤ n) h → last_stamp h ≤ n
+last_stamp_within h n within = let below : last_stamp h < n + 1 = last_below h (n + 1) (omega arith) (λ k d lt. let le : (get_or h k d).stamp ≤ n = within k d lt in omega arith) in omega arith
+
+module _ (app : App) (trace : List Entry) (run : IsRun app trace) where
+  pub run_short : length trace ≤ object_count app * (MOST_UNITS + 1)
+  run_short = length_bound (object_count app) (MOST_UNITS + 1) trace run.known (λ o lt.
+      let there : (start : Start) × (start_of app o ≡ Some start) = start_there app o lt in
+      legal_short there.0 (entries_on o trace) (run.legal o there.0 there.1))
+
+  pub history_stamps : (o : ℕ) → last_stamp (entries_on o trace) ≤ length trace
+  history_stamps o = last_stamp_within (entries_on o trace) (length trace) (All-filter (is_on o) (λ e. e.stamp ≤ length trace) trace run.stamps)
+
+  pub actor_stamps : (a : Actor) → last_stamp (entries_by a trace) ≤ length trace
+  actor_stamps a = last_stamp_within (entries_by a trace) (length trace) (All-filter (is_by a) (λ e. e.stamp ≤ length trace) trace run.stamps)
+
+  pub clock_within : (a : Actor) → clock_of a trace ≤ length trace
+  clock_within Newborn = omega arith
+  clock_within (Carrier n) = actor_stamps (Carrier n)
+  clock_within (Process b) = actor_stamps (Process b)
+
+-- ---- the run with one more entry
+
+module _ (app : App) (trace : List Entry) (run : IsRun app trace) (q : Asked) (start : Start) (there : start_of app q.object ≡ Some start)
+    (is_ready : ready start (entries_on q.object trace) q.call ≡ true) (is_fit : fits start (entries_on q.object trace) q.call ≡ true)
+    (born : IsBorn q.actor trace) where
+  abbrev it : Entry
+  it = entry_of start (entries_on q.object trace) trace q
+
+  follows : Follows start (entries_on q.object trace) it
+  follows = entry_follows start (entries_on q.object trace) trace q is_ready is_fit
+
+  pub run_history : entries_on q.object (put it trace) ≡ entries_on q.object trace ++ it ∷ []
+  run_history = entries_on-put_same it trace run.order follows.stamp
+
+  pub run_others : (o : ℕ) → (q.object ≡ o → ⊥) → entries_on o (put it trace) ≡ entries_on o trace
+  run_others o other = entries_on-put_other o it trace other
+
+  longer : (o : ℕ) → length (entries_on o trace) ≤ length (entries_on o (put it trace))
+  longer o =
+      elim (decide q.object o) [
+        | inl same ↦ subst (λ (x : ℕ). length (entries_on x trace) ≤ length (entries_on x (put it trace))) same
+            (rw run_history (omega (arith, length-append (entries_on q.object trace) (it ∷ []))))
+        | inr other ↦ let e : length (entries_on o (put it trace)) ≡ length (entries_on o trace) = ap length (run_others o other) in omega arith
+      ]
+
+  pub run_stamp : it.stamp ≤ length trace + 1
+  run_stamp = let a : clock_of q.actor trace ≤ length trace = clock_within app trace run q.actor in
+      let b : last_stamp (entries_on q.object trace) ≤ length trace = history_stamps app trace run q.object in omega arith
+
+  legal_then : (o : ℕ) (found : Start) → start_of app o ≡ Some found → IsLegal found (entries_on o (put it trace))
+  legal_then o found at =
+      elim (decide q.object o) [
+        | inl same ↦
+            let here : start_of app q.object ≡ Some found = subst (λ (x : ℕ). start_of app x ≡ Some found) (sym same) at in
+            let is : start ≡ found = cc in
+            subst (λ (x : ℕ). IsLegal found (entries_on x (put it trace))) same
+            (rw run_history (subst (λ (s : Start). IsLegal s (entries_on q.object trace ++ it ∷ [])) is
+            (legal_more start (entries_on q.object trace) it (run.legal q.object start there) follows)))
+        | inr other ↦ rw (run_others o other) (run.legal o found at)
+      ]
+
+  born_place : (a : Actor) (b : Birth) → IsBorn a trace → named a q.object (length (entries_on q.object trace) + 1) ≡ Process b
+      → length (entries_on b.object (put it trace)) < b.place → ⊥
+  born_place (Carrier n) b is e lt = absurd (cc)
+  born_place Newborn b is e lt =
+      let same : record { object = q.object; place = length (entries_on q.object trace) + 1 } ≡ b = cc in
+      subst (λ (x : Birth). length (entries_on x.object (put it trace)) < x.place → ⊥) same
+      (λ low. let count : length (entries_on q.object (put it trace)) ≡ length (entries_on q.object trace) + 1 = rw run_history (length-append (entries_on q.object trace) (it ∷ [])) in omega arith)
+      lt
+  born_place (Process c) b is e lt =
+      let same : c ≡ b = cc in
+      subst (λ (x : Birth). entries_by (Process x) trace ≡ [] → ⊥) same is (run.unborn b (let more = longer b.object in omega arith))
+
+  unborn_then : (b : Birth) → length (entries_on b.object (put it trace)) < b.place → entries_by (Process b) (put it trace) ≡ []
+  unborn_then b lt =
+      entries_by-put_other (Process b) it trace (λ same. born_place q.actor b born same lt) ∙ run.unborn b (let more = longer b.object in omega arith)
+
+  pub run_more : IsRun app (put it trace)
+  run_more = record {
+    order = put_next_is_trace it trace run.order follows.stamp;
+    known = All-put (λ e. e.object < object_count app) it trace (start_known app q.object start there) run.known;
+    legal = legal_then;
+    stamps = subst (λ (n : ℕ). All (λ e. e.stamp ≤ n) (put it trace)) (sym (length-put it trace))
+        (All-put (λ e. e.stamp ≤ length trace + 1) it trace run_stamp (λ k d lt. let le : (get_or trace k d).stamp ≤ length trace = run.stamps k d lt in omega arith));
+    unborn = unborn_then;
+  }
+
+  newborn_before : All (λ d. d.stamp < max 0 (last_stamp (entries_on q.object trace)) + 1)
+      (entries_by (Process (record { object = q.object; place = length (entries_on q.object trace) + 1 })) trace)
+  newborn_before =
+      rw (run.unborn (record { object = q.object; place = length (entries_on q.object trace) + 1 }) (omega arith))
+      (All-nil (λ (d : Entry). d.stamp < max 0 (last_stamp (entries_on q.object trace)) + 1))
+
+  -- the entry comes after all of its actor's
+  pub actor_before : (a : Actor) → IsBorn a trace → All (λ d. d.stamp < max (clock_of a trace) (last_stamp (entries_on q.object trace)) + 1)
+      (entries_by (named a q.object (length (entries_on q.object trace) + 1)) trace)
+  actor_before (Carrier n) is k d lt = let le : (get_or (entries_by (Carrier n) trace) k d).stamp ≤ last_stamp (entries_by (Carrier n) trace) = below_last (entries_by (Carrier n) trace) k d lt in omega arith
+  actor_before (Process b) is k d lt = let le : (get_or (entries_by (Process b) trace) k d).stamp ≤ last_stamp (entries_by (Process b) trace) = below_last (entries_by (Process b) trace) k d lt in omega arith
+  actor_before Newborn is k d lt = newborn_before k d lt
+
+  pub run_actor : entries_by it.actor (put it trace) ≡ entries_by it.actor trace ++ it ∷ []
+  run_actor = entries_by-put_same it trace run.order (actor_before q.actor born)
+
+  pub run_other_actors : (a : Actor) → (it.actor ≡ a → ⊥) → entries_by a (put it trace) ≡ entries_by a trace
+  run_other_actors a other = entries_by-put_other a it trace other

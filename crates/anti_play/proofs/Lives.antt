@@ -1,0 +1,236 @@
+-- The processes of a world, as the trace grows.
+use Rattle.std.proofs.Common.{◌≡◌, ◌≢◌, ℕ, ◌+◌, ◌<◌, ◌≤◌, ◌++◌, ◌⊎◌, inl, inr, List, [], ◌∷◌, Bool, true, false, not, cond, length, get_or, nat_lt, nat_eq, refl, sym, ap, ◌∙◌, subst, arith, length-append}
+use borrow.Author.Tests.{ltb-true, ltb-false, lt-ltb, le-ltb, eq-eqb, ne_eqb}
+use Rattle.std.specs.Prelude.{All, Option, None, Some, position, slice_set}
+use Rattle.std.specs.List.{position_or_len}
+use Rattle.std.proofs.lemmas.List.{length-set, get_or-set_same, get_or-set_other, get_or_append_left}
+use Rattle.std.proofs.lemmas.List.Folds.{prefix_len-append, prefix_len-set}
+use Rattle.std.proofs.lemmas.List.Sums.{prefix_len-le-length}
+use Rattle.std.proofs.lemmas.List.Quantifiers.{position-Some}
+use Rattle.std.proofs.Math.Seq.{get_or-append_seam}
+use Rattle.std.proofs.lemmas.Bool.{true≢false}
+use Rattle.anti_kind.specs.declared.call.Actor.{Actor}
+use Rattle.anti_kind.specs.declared.call.Actor.TheVariants.{Process as Acting}
+use Rattle.anti_kind.specs.declared.call.Birth.{Birth}
+use Rattle.anti_kind.specs.declared.call.Entry.{Entry}
+use Rattle.anti_kind.specs.Objects.{last_stamp}
+use Rattle.anti_kind.proofs.Histories.{last_is}
+use Rattle.anti_app.specs.declared.app.App.{App}
+use Rattle.anti_trace.specs.Traces.{entries_by, same_actor, put}
+use Rattle.anti_trace.proofs.Puts.{same_actor_true, same_actor_itself}
+use Rattle.anti_proc.specs.declared.process.Process.{Process}
+use Rattle.anti_proc.specs.Trees.{Tree, branch}
+use Rattle.anti_proc.specs.Meaning.{tree_of, process_after}
+use Rattle.anti_proc.specs.Standing.{process_of, birth_of, clock_of}
+use Rattle.anti_proc.proofs.Runs.{process_after_more}
+use Rattle.anti_play.specs.Standing.{is_named, Lives, LivesOn, AllLive}
+
+-- ---- places in a list that grows by an item or changes at one place
+
+module _ {X : Type 0} (p : X → Bool) where
+  pub position_set : (xs : List X) (i : ℕ) (y d : X) → p y ≡ p (get_or xs i d) → position p (slice_set xs i y) ≡ position p xs
+  position_set xs i y d same =
+      let len : length (slice_set xs i y) ≡ length xs = length-set xs i y in
+      let at : position_or_len p (slice_set xs i y) ≡ position_or_len p xs = prefix_len-set (λ x. not (p x)) xs i y d (ap not same) in
+      rw (len, at) refl
+
+  at_end : (at len : ℕ) (i : ℕ) → cond (nat_lt at len) (Some at) None ≡ Some i → (at ≡ i) × (at < len)
+  at_end at len i found = by_test (nat_lt at len) refl found
+    where
+      by_test : (t : Bool) → t ≡ nat_lt at len → cond t (Some at) None ≡ Some i → (at ≡ i) × (at < len)
+      by_test true e f = (cc, ltb-true at len (sym e))
+      by_test false e f = absurd (cc)
+
+  past_end : (at len : ℕ) → cond (nat_lt at len) (Some at) None ≡ None → len ≤ at
+  past_end at len none = by_test (nat_lt at len) refl none
+    where
+      by_test : (t : Bool) → t ≡ nat_lt at len → cond t (Some at) None ≡ None → len ≤ at
+      by_test true e f = absurd (cc)
+      by_test false e f = ltb-false at len (sym e)
+
+  found_at : (at len : ℕ) → at < len → cond (nat_lt at len) (Some at) None ≡ Some at
+  found_at at len lt = let t : nat_lt at len ≡ true = lt-ltb at len lt in ap (λ (b : Bool). cond b (Some at) None) t
+
+  none_at : (at len : ℕ) → len ≤ at → cond (nat_lt at len) (Some at) None ≡ None
+  none_at at len le = let t : nat_lt at len ≡ false = le-ltb at len le in ap (λ (b : Bool). cond b (Some at) None) t
+
+  -- the front that fails the test, with one item more behind the list
+  front_more : (xs : List X) (y : X) → position_or_len p (xs ++ y ∷ []) ≡ cond (nat_eq (position_or_len p xs) (length xs)) (length xs + position_or_len p (y ∷ [])) (position_or_len p xs)
+  front_more xs y = prefix_len-append (λ x. not (p x)) xs (y ∷ [])
+
+  front_of_one : (y : X) (b : Bool) → p y ≡ b → position_or_len p (y ∷ []) ≡ cond b 0 1
+  front_of_one y true e = ap (λ (b : Bool). cond {A = ℕ} (not b) 1 0) e
+  front_of_one y false e = ap (λ (b : Bool). cond {A = ℕ} (not b) 1 0) e
+
+  pub position_pushed : (xs : List X) (y : X) (i : ℕ) → position p xs ≡ Some i → position p (xs ++ y ∷ []) ≡ Some i
+  position_pushed xs y i found =
+      let at : (position_or_len p xs ≡ i) × (position_or_len p xs < length xs) = at_end (position_or_len p xs) (length xs) i found in
+      let differs : nat_eq (position_or_len p xs) (length xs) ≡ false = ne_eqb (position_or_len p xs) (length xs) (λ same. omega arith) in
+      let front : position_or_len p (xs ++ y ∷ []) ≡ position_or_len p xs =
+      front_more xs y ∙ ap (λ (b : Bool). cond b (length xs + position_or_len p (y ∷ [])) (position_or_len p xs)) differs in
+      found_at (position_or_len p (xs ++ y ∷ [])) (length (xs ++ y ∷ [])) (omega (arith, length-append xs (y ∷ []))) ∙ ap Some (front ∙ at.0)
+
+  all_fail : (xs : List X) → position p xs ≡ None → position_or_len p xs ≡ length xs
+  all_fail xs none =
+      let past : length xs ≤ position_or_len p xs = past_end (position_or_len p xs) (length xs) none in
+      let within : position_or_len p xs ≤ length xs = prefix_len-le-length (λ x. not (p x)) xs in
+      omega arith
+
+  front_of_more : (xs : List X) (y : X) → position p xs ≡ None → position_or_len p (xs ++ y ∷ []) ≡ length xs + position_or_len p (y ∷ [])
+  front_of_more xs y none =
+      let same : nat_eq (position_or_len p xs) (length xs) ≡ true = eq-eqb (position_or_len p xs) (length xs) (all_fail xs none) in
+      front_more xs y ∙ ap (λ (b : Bool). cond b (length xs + position_or_len p (y ∷ [])) (position_or_len p xs)) same
+
+  pub position_new : (xs : List X) (y : X) → position p xs ≡ None → p y ≡ true → position p (xs ++ y ∷ []) ≡ Some (length xs)
+  position_new xs y none here =
+      let one : position_or_len p (y ∷ []) ≡ 0 = front_of_one y true here in
+      let front : position_or_len p (xs ++ y ∷ []) ≡ length xs + position_or_len p (y ∷ []) = front_of_more xs y none in
+      let is : position_or_len p (xs ++ y ∷ []) ≡ length xs = omega arith in
+      found_at (position_or_len p (xs ++ y ∷ [])) (length (xs ++ y ∷ [])) (omega (arith, length-append xs (y ∷ []))) ∙ ap Some is
+
+  pub position_other : (xs : List X) (y : X) → position p xs ≡ None → p y ≡ false → position p (xs ++ y ∷ []) ≡ None
+  position_other xs y none other =
+      let one : position_or_len p (y ∷ []) ≡ 1 = front_of_one y false other in
+      let front : position_or_len p (xs ++ y ∷ []) ≡ length xs + position_or_len p (y ∷ []) = front_of_more xs y none in
+      none_at (position_or_len p (xs ++ y ∷ [])) (length (xs ++ y ∷ [])) (omega (arith, length-append xs (y ∷ [])))
+
+-- ---- processes
+
+-- an entry of a process that is there, after the last of its object and of its actor
+module _ (app : App) (ps : List Process) (trace : List Entry) (live : AllLive app ps trace) (e : Entry)
+    (own : entries_by e.actor (put e trace) ≡ entries_by e.actor trace ++ e ∷ [])
+    (others : (a : Actor) → (e.actor ≡ a → ⊥) → entries_by a (put e trace) ≡ entries_by a trace) where
+  -- a carrier's entry is none of a process
+  pub live_kept : ((b : Birth) → e.actor ≡ Acting b → ⊥) → AllLive app ps (put e trace)
+  live_kept none b = subst (λ (x : List Entry). Lives app ps (position (is_named b) ps) x) (sym (others (Acting b) (none b))) (live b)
+
+  same_or : (b c : Birth) → (b ≡ c) ⊎ (same_actor (Acting b) (Acting c) ≡ false)
+  same_or b c = by_test (same_actor (Acting b) (Acting c)) refl
+    where
+      by_test : (t : Bool) → t ≡ same_actor (Acting b) (Acting c) → (b ≡ c) ⊎ (same_actor (Acting b) (Acting c) ≡ false)
+      by_test true t = inl (let is : Acting b ≡ Acting c = same_actor_true (Acting b) (Acting c) (sym t) in cc)
+      by_test false t = inr (sym t)
+
+  differs : (b c : Birth) → same_actor (Acting b) (Acting c) ≡ false → e.actor ≡ Acting b → e.actor ≡ Acting c → ⊥
+  differs b c off is also =
+      let same : Acting b ≡ Acting c = sym is ∙ also in
+      let on : same_actor (Acting b) (Acting c) ≡ true = ap (λ (a : Actor). same_actor (Acting b) a) (sym same) ∙ same_actor_itself (Acting b) in
+      true≢false (sym on ∙ off)
+
+  -- where a process was not found there is none, so its entries are none
+  not_found : (d : Process) (o : Option ℕ) (es : List Entry) → es ≡ [] → Lives app ps o es → o ≡ None
+  not_found d None es none l = refl
+  not_found d (Some i) es none l = let on : LivesOn app (get_or ps i d) es = l d in let some : es ≡ on.birth ∷ on.later = on.entries_are in absurd (cc)
+
+  -- the entries of the entry's own actor
+  own_entries : (b : Birth) → e.actor ≡ Acting b → entries_by (Acting b) (put e trace) ≡ entries_by (Acting b) trace ++ e ∷ []
+  own_entries b is = subst (λ (a : Actor). entries_by a (put e trace) ≡ entries_by a trace ++ e ∷ []) is own
+
+  -- a process that is born by the entry
+  module _ (p : Process) (b : Birth) (named : birth_of p ≡ b) (actor : e.actor ≡ Acting b) (unborn : entries_by (Acting b) trace ≡ [])
+      (tree : process_of app p ≡ tree_of app e) (clock : clock_of p ≡ e.stamp) where
+    entries_new : entries_by (Acting b) (put e trace) ≡ e ∷ []
+    entries_new = own_entries b actor ∙ ap (λ (x : List Entry). x ++ e ∷ []) unborn
+
+    on_new : LivesOn app p (entries_by (Acting b) (put e trace))
+    on_new = record {
+      birth = e;
+      later = [];
+      entries_are = entries_new;
+      tree = tree ∙ sym (ap (λ (x : List Entry). process_after app x) entries_new);
+      clock = clock ∙ (let one : e.stamp ≡ last_stamp (e ∷ []) = omega arith in one) ∙ sym (ap (λ (x : List Entry). last_stamp x) entries_new);
+    }
+
+    lives_here : Lives app (ps ++ p ∷ []) (position (is_named b) (ps ++ p ∷ [])) (entries_by (Acting b) (put e trace))
+    lives_here =
+        let none : position (is_named b) ps ≡ None = not_found p (position (is_named b) ps) (entries_by (Acting b) trace) unborn (live b) in
+        let is : is_named b p ≡ true = ap (λ (x : Birth). same_actor (Acting b) (Acting x)) named ∙ same_actor_itself (Acting b) in
+        let at : position (is_named b) (ps ++ p ∷ []) ≡ Some (length ps) = position_new (is_named b) ps p none is in
+        subst (λ (o : Option ℕ). Lives app (ps ++ p ∷ []) o (entries_by (Acting b) (put e trace))) (sym at)
+        (λ d. subst (λ (x : Process). LivesOn app x (entries_by (Acting b) (put e trace))) (sym (get_or-append_seam ps p [] d)) on_new)
+
+    lives_new : (c : Birth) → c ≡ b → Lives app (ps ++ p ∷ []) (position (is_named c) (ps ++ p ∷ [])) (entries_by (Acting c) (put e trace))
+    lives_new c same = subst (λ (x : Birth). Lives app (ps ++ p ∷ []) (position (is_named x) (ps ++ p ∷ [])) (entries_by (Acting x) (put e trace))) (sym same) lives_here
+
+    lives_old : (c : Birth) → same_actor (Acting c) (Acting b) ≡ false → (o : Option ℕ) → position (is_named c) ps ≡ o → Lives app ps o (entries_by (Acting c) trace)
+        → Lives app (ps ++ p ∷ []) (position (is_named c) (ps ++ p ∷ [])) (entries_by (Acting c) (put e trace))
+    lives_old c off None at l =
+        let not_p : is_named c p ≡ false = ap (λ (x : Birth). same_actor (Acting c) (Acting x)) named ∙ off in
+        subst (λ (o : Option ℕ). Lives app (ps ++ p ∷ []) o (entries_by (Acting c) (put e trace))) (sym (position_other (is_named c) ps p at not_p))
+        (others (Acting c) (λ is. differs c b off is actor) ∙ l)
+    lives_old c off (Some i) at l =
+        subst (λ (o : Option ℕ). Lives app (ps ++ p ∷ []) o (entries_by (Acting c) (put e trace))) (sym (position_pushed (is_named c) ps p i at))
+        (λ d.
+        let within : i < length ps = (position-Some (is_named c) ps i d at).0 in
+        subst (λ (x : Process). LivesOn app x (entries_by (Acting c) (put e trace))) (sym (get_or_append_left ps (p ∷ []) d i within))
+        (subst (λ (x : List Entry). LivesOn app (get_or ps i d) x) (sym (others (Acting c) (λ is. differs c b off is actor))) (l d)))
+
+    pub live_born : AllLive app (ps ++ p ∷ []) (put e trace)
+    live_born c =
+        elim (same_or c b) [
+          | inl same ↦ lives_new c same
+          | inr off ↦ lives_old c off (position (is_named c) ps) refl (live c)
+        ]
+
+  -- a process that the entry is the next of
+  module _ (p : Process) (b : Birth) (i : ℕ) (found : position (is_named b) ps ≡ Some i) (actor : e.actor ≡ Acting b)
+      (named : (d : Process) → birth_of p ≡ birth_of (get_or ps i d))
+      (tree : (d : Process) → process_of app p ≡ branch (process_of app (get_or ps i d)) e.reply) (clock : clock_of p ≡ e.stamp)
+      (last : All (λ d. d.stamp < e.stamp) (entries_by (Acting b) trace)) where
+    within : i < length ps
+    within = (position-Some (is_named b) ps i p found).0
+
+    stays : (c : Birth) → position (is_named c) (slice_set ps i p) ≡ position (is_named c) ps
+    stays c = position_set (is_named c) ps i p p (ap (λ (x : Birth). same_actor (Acting c) (Acting x)) (named p))
+
+    old : LivesOn app (get_or ps i p) (entries_by (Acting b) trace)
+    old = (subst (λ (o : Option ℕ). Lives app ps o (entries_by (Acting b) trace)) found (live b)) p
+
+    entries_then : entries_by (Acting b) (put e trace) ≡ old.birth ∷ (old.later ++ e ∷ [])
+    entries_then = own_entries b actor ∙ ap (λ (x : List Entry). x ++ e ∷ []) old.entries_are
+
+    on_then : LivesOn app p (entries_by (Acting b) (put e trace))
+    on_then = record {
+      birth = old.birth;
+      later = old.later ++ e ∷ [];
+      entries_are = entries_then;
+      tree = tree p
+          ∙ ap (λ (x : Tree). branch x e.reply) (old.tree ∙ ap (λ (x : List Entry). process_after app x) old.entries_are)
+          ∙ sym (process_after_more app old.birth old.later e)
+          ∙ sym (ap (λ (x : List Entry). process_after app x) entries_then);
+      clock = clock ∙ sym (last_is (entries_by (Acting b) trace) e last) ∙ sym (ap (λ (x : List Entry). last_stamp x) (own_entries b actor));
+    }
+
+    lives_there : Lives app (slice_set ps i p) (position (is_named b) (slice_set ps i p)) (entries_by (Acting b) (put e trace))
+    lives_there =
+        subst (λ (o : Option ℕ). Lives app (slice_set ps i p) o (entries_by (Acting b) (put e trace))) (sym (stays b ∙ found))
+        (λ d. subst (λ (x : Process). LivesOn app x (entries_by (Acting b) (put e trace))) (sym (get_or-set_same ps i p d within)) on_then)
+
+    lives_on : (c : Birth) → c ≡ b → Lives app (slice_set ps i p) (position (is_named c) (slice_set ps i p)) (entries_by (Acting c) (put e trace))
+    lives_on c same = subst (λ (x : Birth). Lives app (slice_set ps i p) (position (is_named x) (slice_set ps i p)) (entries_by (Acting x) (put e trace))) (sym same) lives_there
+
+    elsewhere : (c : Birth) → same_actor (Acting c) (Acting b) ≡ false → (j : ℕ) → position (is_named c) ps ≡ Some j → j ≢ i
+    elsewhere c off j at same =
+        let here : is_named c (get_or ps i p) ≡ true = subst (λ (k : ℕ). is_named c (get_or ps k p) ≡ true) same (position-Some (is_named c) ps j p at).1 in
+        let there : is_named b (get_or ps i p) ≡ true = (position-Some (is_named b) ps i p found).1 in
+        let one : Acting c ≡ Acting (birth_of (get_or ps i p)) = same_actor_true (Acting c) (Acting (birth_of (get_or ps i p))) here in
+        let two : Acting b ≡ Acting (birth_of (get_or ps i p)) = same_actor_true (Acting b) (Acting (birth_of (get_or ps i p))) there in
+        differs c b off (actor ∙ two ∙ sym one) actor
+
+    lives_else : (c : Birth) → same_actor (Acting c) (Acting b) ≡ false → (o : Option ℕ) → position (is_named c) ps ≡ o → Lives app ps o (entries_by (Acting c) trace)
+        → Lives app (slice_set ps i p) (position (is_named c) (slice_set ps i p)) (entries_by (Acting c) (put e trace))
+    lives_else c off None at l =
+        subst (λ (o : Option ℕ). Lives app (slice_set ps i p) o (entries_by (Acting c) (put e trace))) (sym (stays c ∙ at))
+        (others (Acting c) (λ is. differs c b off is actor) ∙ l)
+    lives_else c off (Some j) at l =
+        let other : j ≢ i = elsewhere c off j at in
+        subst (λ (o : Option ℕ). Lives app (slice_set ps i p) o (entries_by (Acting c) (put e trace))) (sym (stays c ∙ at))
+        (λ d. subst (λ (x : Process). LivesOn app x (entries_by (Acting c) (put e trace))) (sym (get_or-set_other ps i j p d other))
+        (subst (λ (x : List Entry). LivesOn app (get_or ps j d) x) (sym (others (Acting c) (λ is. differs c b off is actor))) (l d)))
+
+    pub live_went : AllLive app (slice_set ps i p) (put e trace)
+    live_went c =
+        elim (same_or c b) [
+          | inl same ↦ lives_on c same
+          | inr off ↦ lives_else c off (position (is_named c) ps) refl (live c)
+        ]

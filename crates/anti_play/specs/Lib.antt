@@ -1,0 +1,4 @@
+pub mod Schedule
+pub mod Runs
+pub mod Standing
+pub mod Closing

@@ -1,0 +1,29 @@
+-- What is true of each trace that choices have made.
+use Rattle.std.specs.Prelude.{◌≡◌, ℕ, ◌<◌, ◌≤◌, List, [], length, All, Some}
+use Rattle.anti_kind.specs.declared.call.Actor.{Actor}
+use Rattle.anti_kind.specs.declared.call.Actor.TheVariants.{Process}
+use Rattle.anti_kind.specs.declared.call.Birth.{Birth}
+use Rattle.anti_kind.specs.declared.call.Entry.{Entry}
+use Rattle.anti_kind.specs.Objects.{Start, IsLegal}
+use Rattle.anti_app.specs.declared.app.App.{App}
+use Rattle.anti_trace.specs.Traces.{IsTrace, entries_on, entries_by}
+use Rattle.anti_proc.specs.Numbers.{object_count}
+use Rattle.anti_play.specs.Schedule.{start_of}
+
+-- a trace or a history, by its entries
+abbrev pub Entries : Type 0
+Entries = List Entry
+
+-- The entries stand in their order, on objects that are there, whose histories are legal. No stamp is above the number of the
+-- entries. A process that is not born has no entry.
+pub record IsRun (app : App) (trace : List Entry) : Type 0 where
+  pub order : IsTrace trace
+  pub known : All (λ e. e.object < object_count app) trace
+  pub legal : (o : ℕ) (start : Start) → start_of app o ≡ Some start → IsLegal start (entries_on o trace)
+  pub stamps : All (λ e. e.stamp ≤ length trace) trace
+  pub unborn : (b : Birth) → length (entries_on b.object trace) < b.place → entries_by (Process b) trace ≡ []
+
+-- a process that acts is born already; a carrier is always there, and a newborn process is yet to be born
+abbrev pub IsBorn : Actor → List Entry → Type 0
+IsBorn (Process b) trace = entries_by (Process b) trace ≡ [] → ⊥
+IsBorn _ trace = Unit {0}
