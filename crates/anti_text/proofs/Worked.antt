@@ -1,0 +1,92 @@
+-- The record of a small run, worked out: a process writes and reads one key, and its last choice is a wait.
+use Rattle.std.proofs.Common.{◌≡◌, [], ◌∷◌, ◌++◌, refl, None}
+use Rattle.std.specs.Prelude.{codes}
+use Rattle.std.specs.Fmt.{digits}
+use Rattle.anti_ids.specs.List.{plain}
+use Rattle.anti_kind.specs.declared.call.Actor.{Actor}
+use Rattle.anti_kind.specs.declared.call.Actor.TheVariants.{Carrier, Process}
+use Rattle.anti_kind.specs.declared.call.Call.TheVariants as calls
+use Rattle.anti_kind.specs.declared.call.Entry.{Entry}
+use Rattle.anti_kind.specs.declared.call.Message.{Message}
+use Rattle.anti_kind.specs.declared.call.MessageKind.TheVariants as kinds
+use Rattle.anti_kind.specs.declared.call.Reply.TheVariants as replies
+use Rattle.anti_kind.specs.declared.call.Row.{Row}
+use Rattle.anti_kind.specs.declared.call.StoreKind.TheVariants.{Kv}
+use Rattle.anti_ids.specs.declared.id.WriteId.{WriteId}
+use Rattle.anti_lang.specs.declared.statement.Statement.TheVariants as statements
+use Rattle.anti_lang.specs.declared.statement.ValueWord.TheVariants.{Literal}
+use Rattle.anti_app.specs.declared.app.App.{App}
+use Rattle.anti_app.specs.declared.app.Choice.TheVariants.{Take, Ship, Go}
+use Rattle.anti_app.specs.declared.app.HandlerDef.{HandlerDef}
+use Rattle.anti_app.specs.declared.app.ServiceDef.{ServiceDef}
+use Rattle.anti_app.specs.declared.app.StoreDef.{StoreDef}
+use Rattle.anti_text.specs.Entries.{wait_line}
+use Rattle.anti_text.specs.Words.{lineage_text}
+use Rattle.anti_text.specs.Record.{text_of}
+
+abbrev store_s : StoreDef
+store_s = record { name = codes "s"; kind = Kv; replicas = plain (0 ∷ []); tries = 3 }
+
+abbrev handler_one : HandlerDef
+handler_one = record {
+  name = codes "one";
+  body = plain (statements.Write (codes "s") (codes "k") (Literal (codes "a")) ∷ statements.Read (codes "s") (codes "k") (codes "x") ∷ []);
+}
+
+abbrev service_w : ServiceDef
+service_w = record { name = codes "w"; region = 0; handlers = plain (handler_one ∷ []) }
+
+abbrev app : App
+app = record {
+  regions = plain (codes "eu" ∷ []);
+  stores = plain (store_s ∷ []);
+  services = plain (service_w ∷ []);
+  requests = plain [];
+  choices = plain (Take 0 1 ∷ Go 1 1 ∷ Ship 0 0 1 None ∷ Go 1 1 ∷ Go 1 1 ∷ []);
+}
+
+abbrev by_w : Actor
+by_w = Process (record { object = 1; place = 1 })
+
+abbrev message : Message
+message = record { kind = kinds.Request; to = 0; depth = 0; handler = codes "one"; value = []; baggage = plain (codes "1;") }
+
+abbrev id_k : WriteId
+id_k = record { store = 0; key = codes "k"; version = 1 }
+
+abbrev taken : Entry
+taken = record { stamp = 1; object = 1; place = 1; seat = 0; actor = by_w; span = 1; call = calls.Take 1; reply = replies.Got 1 message }
+
+abbrev written : Entry
+written = record { stamp = 2; object = 0; place = 1; seat = 0; actor = by_w; span = 1; call = calls.Write (codes "k") (codes "a") []; reply = replies.Written (codes "k") 1 }
+
+abbrev moved : Entry
+moved = record { stamp = 3; object = 0; place = 2; seat = 0; actor = Carrier 0; span = 0; call = calls.Ship 0 1 1; reply = replies.Moved }
+
+abbrev row : Row
+row = record { key = codes "k"; version = 1; value = codes "a"; lineage = [] }
+
+abbrev shown : Entry
+shown = record { stamp = 4; object = 0; place = 3; seat = 0; actor = by_w; span = 1; call = calls.Read 0 (codes "k"); reply = replies.Shown (plain (row ∷ [])) }
+
+pub whole : text_of app (taken ∷ written ∷ moved ∷ shown ∷ []) (5 ∷ [])
+    ≡ codes "record 1\n1 w.1 w.1/1 take 1 = got 1 request one 0 \"\" 1;\n2 s.1 w.1/1 write k \"a\" 1; = k@1\n"
+    ++ codes "3 s.2 ~0 ship eu 1 1 = moved\n4 s.3 w.1/1 read eu k = k@1 \"a\" 1;\nwait 5 go w.1\nprocess w.1 w one fine\nend 4\n"
+unfolding digits
+whole = refl
+
+pub begun : text_of app (taken ∷ written ∷ []) [] ≡ codes "record 1\n1 w.1 w.1/1 take 1 = got 1 request one 0 \"\" 1;\n2 s.1 w.1/1 write k \"a\" 1; = k@1\nprocess w.1 w one open\nend 2\n"
+unfolding digits
+begun = refl
+
+pub nothing : text_of app [] [] ≡ codes "record 1\nend 0\n"
+unfolding digits
+nothing = refl
+
+pub waits : wait_line app 3 ≡ codes "wait 3 ship s eu 1\n"
+unfolding digits
+waits = refl
+
+pub ids : lineage_text app (id_k ∷ record { store = 0; key = codes "j"; version = 12 } ∷ []) ≡ codes "1;s/k@1,s/j@12"
+unfolding digits
+ids = refl

@@ -1,0 +1,91 @@
+-- The words of a call and of a reply.
+use Rattle.std.specs.Prelude.{ℕ, List, [], ◌∷◌, ◌++◌, ◌==◌, codes, decimal, if◌then◌else◌}
+use Rattle.std.specs.List.{join_by}
+use Rattle.anti_ids.specs.declared.id.WriteId.{WriteId}
+use Rattle.anti_kind.specs.declared.call.Call.{Call}
+use Rattle.anti_kind.specs.declared.call.Call.TheVariants as calls
+use Rattle.anti_kind.specs.declared.call.Message.{Message}
+use Rattle.anti_kind.specs.declared.call.MessageKind.{MessageKind}
+use Rattle.anti_kind.specs.declared.call.MessageKind.TheVariants as messages
+use Rattle.anti_kind.specs.declared.call.Reply.{Reply}
+use Rattle.anti_kind.specs.declared.call.Reply.TheVariants as replies
+use Rattle.anti_kind.specs.declared.call.Row.{Row}
+use Rattle.anti_app.specs.declared.app.App.{App}
+use Rattle.anti_text.specs.Words.{region_name, quoted, lineage_text}
+
+-- the kind, and what a message says: the handler, the depth, the value and the lineage
+abbrev pub kind_text : MessageKind → List ℕ
+kind_text messages.Request = codes "request"
+kind_text messages.Call = codes "call"
+kind_text messages.Send = codes "send"
+kind_text messages.Reply = codes "reply"
+
+abbrev pub value_and_baggage : Message → List ℕ
+value_and_baggage m = quoted m.value ++ codes " " ++ m.baggage.items
+
+abbrev pub handler_and_rest : Message → List ℕ
+handler_and_rest m = m.handler ++ codes " " ++ decimal m.depth ++ codes " " ++ value_and_baggage m
+
+-- a message as it is posted: a reply says to which call it goes
+abbrev pub posted_text : Message → MessageKind → List ℕ
+posted_text m messages.Reply = codes "reply " ++ decimal m.to ++ codes " " ++ value_and_baggage m
+posted_text m kind = kind_text kind ++ codes " " ++ handler_and_rest m
+
+-- a message as it is taken: a reply to a call says its value and its lineage alone
+abbrev pub taken_text : ℕ → Message → MessageKind → List ℕ
+taken_text number m messages.Reply = value_and_baggage m
+taken_text number m kind = decimal number ++ codes " " ++ kind_text kind ++ codes " " ++ handler_and_rest m
+
+-- a key at a region, and a version and its part at a region
+abbrev pub key_at_region : App → ℕ → List ℕ → List ℕ
+key_at_region app region key = region_name app region ++ codes " " ++ key
+
+abbrev pub part_at_region : App → ℕ → ℕ → ℕ → List ℕ
+part_at_region app region version part = region_name app region ++ codes " " ++ decimal version ++ codes " " ++ decimal part
+
+-- A call. No application has subs today, so a pull has no text.
+abbrev pub call_text : App → Call → List ℕ
+call_text app (calls.Write key value lineage) = codes "write " ++ key ++ codes " " ++ quoted value ++ codes " " ++ lineage_text app lineage
+call_text app (calls.Read region key) = codes "read " ++ key_at_region app region key
+call_text app (calls.Scan region prefix) = codes "scan " ++ key_at_region app region prefix
+call_text app (calls.Poll region key) = codes "poll " ++ key_at_region app region key
+call_text app (calls.Look region ids dry) = (if dry then codes "dry " else codes "look ") ++ region_name app region ++ codes " " ++ lineage_text app ids
+call_text app (calls.Ship region version part) = codes "ship " ++ part_at_region app region version part
+call_text app (calls.Again region version part) = codes "again " ++ part_at_region app region version part
+call_text app (calls.Pull sub) = []
+call_text app (calls.Repull sub version) = []
+call_text app (calls.Ack version) = codes "ack " ++ decimal version
+call_text app (calls.Nack version) = codes "nack " ++ decimal version
+call_text app (calls.Post message) = codes "post " ++ posted_text message message.kind
+call_text app (calls.Take nth) = codes "take " ++ decimal nth
+call_text app (calls.Repost number) = codes "repost " ++ decimal number
+call_text app (calls.TakeReply number) = codes "takereply " ++ decimal number
+
+-- a key with its version, as `p1@3`
+abbrev pub version_text : List ℕ → ℕ → List ℕ
+version_text key version = key ++ codes "@" ++ decimal version
+
+-- a row: of version 0, which nobody wrote, its key alone
+abbrev pub row_text : App → Row → List ℕ
+row_text app row =
+    if row.version == 0 then row.key ++ codes "@0"
+    else version_text row.key row.version ++ codes " " ++ quoted row.value ++ codes " " ++ lineage_text app row.lineage
+
+abbrev pub rows_text : App → List Row → List ℕ
+rows_text app [] = codes "none"
+rows_text app (row ∷ rows) = join_by (row_text app) (codes " + ") (row ∷ rows)
+
+-- what a look named: nothing, or the writes that are missing and those that were never written
+abbrev pub look_text : App → List WriteId → List WriteId → List ℕ
+look_text app [] [] = codes "clear"
+look_text app missing unwritten = codes "missing " ++ lineage_text app missing ++ codes " unwritten " ++ lineage_text app unwritten
+
+abbrev pub reply_text : App → Reply → List ℕ
+reply_text app (replies.Written key version) = version_text key version
+reply_text app (replies.Shown rows) = rows_text app rows.items
+reply_text app (replies.Missing missing unwritten) = look_text app missing unwritten
+reply_text app replies.Moved = codes "moved"
+reply_text app (replies.Pulled row) = row_text app row
+reply_text app (replies.Posted number) = codes "posted " ++ decimal number
+reply_text app (replies.Got number message) = codes "got " ++ taken_text number message message.kind
+reply_text app replies.Done = codes "done"

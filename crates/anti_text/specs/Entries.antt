@@ -1,0 +1,42 @@
+-- The lines of the entries, and of the choices that made none.
+use Rattle.std.specs.Prelude.{ℕ, List, [], ◌++◌, ◌-◌, codes, decimal, Option, Some, None, slice_get}
+use Rattle.std.specs.Option.{option_map_or}
+use Rattle.anti_kind.specs.declared.call.Actor.{Actor}
+use Rattle.anti_kind.specs.declared.call.Actor.TheVariants.{Carrier, Process, Newborn}
+use Rattle.anti_kind.specs.declared.call.Entry.{Entry}
+use Rattle.anti_app.specs.declared.app.App.{App}
+use Rattle.anti_app.specs.declared.app.Choice.{Choice}
+use Rattle.anti_app.specs.declared.app.Choice.TheVariants.{Take, Ship, Go}
+use Rattle.anti_text.specs.Words.{store_name, service_name, region_name, mark_text}
+use Rattle.anti_text.specs.Calls.{call_text, reply_text}
+
+-- who made a call: carrier 0 as `~0`, a process by its birth and the span, as `w.1/1`; no entry is a newborn's
+abbrev pub actor_text : App → Actor → ℕ → List ℕ
+actor_text app (Carrier number) span = codes "~" ++ decimal number
+actor_text app (Process birth) span = mark_text app birth.object birth.place ++ codes "/" ++ decimal span
+actor_text app Newborn span = []
+
+-- an entry, as `2 s.1 w.1/1 write k "a" 1; = k@1`
+abbrev pub entry_line : App → Entry → List ℕ
+entry_line app e =
+    decimal e.stamp ++ codes " " ++ mark_text app e.object e.place ++ codes " " ++ actor_text app e.actor e.span
+    ++ codes " " ++ call_text app e.call ++ codes " = " ++ reply_text app e.reply ++ codes "\n"
+
+-- a choice in its own words; a part that was left out stays out
+abbrev pub part_text : Option ℕ → List ℕ
+part_text None = []
+part_text (Some part) = codes " " ++ decimal part
+
+abbrev pub choice_text : App → Choice → List ℕ
+choice_text app (Take service nth) = codes "take " ++ service_name app service ++ codes " " ++ decimal nth
+choice_text app (Ship store region version part) =
+    codes "ship " ++ store_name app store ++ codes " " ++ region_name app region ++ codes " " ++ decimal version ++ part_text part
+choice_text app (Go object place) = codes "go " ++ mark_text app object place
+
+-- the choice with a number, counted from 1; no text where there is none
+abbrev pub choice_numbered : App → ℕ → List ℕ
+choice_numbered app number = option_map_or (choice_text app) (slice_get app.choices.items (number - 1)) []
+
+-- a choice that made no entry, as `wait 5 go w.1`
+abbrev pub wait_line : App → ℕ → List ℕ
+wait_line app number = codes "wait " ++ decimal number ++ codes " " ++ choice_numbered app number ++ codes "\n"

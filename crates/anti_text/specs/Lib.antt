@@ -1,0 +1,6 @@
+pub mod Calls
+pub mod Entries
+pub mod Following
+pub mod Processes
+pub mod Record
+pub mod Words

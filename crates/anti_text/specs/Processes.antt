@@ -1,0 +1,52 @@
+-- The lines of the processes.
+use Rattle.std.specs.Prelude.{ℕ, zero, suc, ◌+◌, ◌-◌, ◌&&◌, List, [], ◌++◌, length, codes, if◌then◌else◌, Option, Some, None}
+use Rattle.std.specs.List.{flat_map}
+use Rattle.anti_kind.specs.declared.call.Actor.TheVariants.{Process}
+use Rattle.anti_kind.specs.declared.call.Birth.{Birth}
+use Rattle.anti_kind.specs.declared.call.Entry.{Entry}
+use Rattle.anti_kind.specs.declared.call.Reply.{Reply}
+use Rattle.anti_kind.specs.declared.call.Reply.TheVariants as replies
+use Rattle.anti_app.specs.declared.app.App.{App}
+use Rattle.anti_proc.specs.Births.{birth_at, is_birth}
+use Rattle.anti_proc.specs.Meaning.{process_after}
+use Rattle.anti_proc.specs.Trees.{end_of}
+use Rattle.anti_proc.specs.declared.want.End.{End}
+use Rattle.anti_proc.specs.declared.want.End.TheVariants.{Fine, LineageFull}
+use Rattle.anti_trace.specs.Traces.{is_on, entries_by}
+use Rattle.anti_text.specs.Words.{service_name, mark_text}
+
+-- how a process ended by the end of the trace, where it did: what its handler does after the replies to all that it did there
+abbrev pub end_in : App → List Entry → Birth → Option End
+end_in app trace birth = end_of (process_after app (entries_by (Process birth) trace))
+
+abbrev pub end_text : Option End → List ℕ
+end_text (Some Fine) = codes "fine"
+end_text (Some LineageFull) = codes "lineage"
+end_text None = codes "open"
+
+-- the handler that a birth started: the one that the message names
+abbrev pub handler_text : Reply → List ℕ
+handler_text (replies.Got number message) = message.handler
+handler_text _ = []
+
+-- the service of an inbox
+abbrev pub service_text : App → ℕ → List ℕ
+service_text app object = service_name app (object - length app.stores.items)
+
+-- a birth, as `w.1 w one`: its place, and the service and the handler that it runs
+abbrev pub birth_text : App → Entry → List ℕ
+birth_text app e = mark_text app e.object e.place ++ codes " " ++ service_text app e.object ++ codes " " ++ handler_text e.reply
+
+-- the process of a birth, as `process w.1 w one fine`
+abbrev pub process_line : App → Entry → Option End → List ℕ
+process_line app e end = codes "process " ++ birth_text app e ++ codes " " ++ end_text end ++ codes "\n"
+
+-- the line of the process that an entry starts on an object; no text, where it starts none there
+abbrev pub birth_line : App → List Entry → ℕ → Entry → List ℕ
+birth_line app trace object e =
+    if is_on object e && is_birth e then process_line app e (end_in app trace (birth_at e)) else []
+
+-- the lines of the processes that were born on the first so many objects, object by object
+abbrev pub process_lines : App → List Entry → ℕ → List ℕ
+process_lines app trace zero = []
+process_lines app trace (suc object) = process_lines app trace object ++ flat_map (birth_line app trace object) trace

@@ -1,0 +1,37 @@
+-- The words of the printed record: names, values, ids and lineages.
+use Rattle.std.specs.Prelude.{ℕ, List, [], ◌++◌, ◌-◌, length, codes, decimal, if◌then◌else◌, nat_lt, slice_get}
+use Rattle.std.specs.List.{join_by}
+use Rattle.std.specs.Option.{option_map_or}
+use Rattle.anti_ids.specs.declared.id.WriteId.{WriteId}
+use Rattle.anti_app.specs.declared.app.App.{App}
+
+-- the name of a store and of a service by its number, and of a region; no text where there is none
+abbrev pub store_name : App → ℕ → List ℕ
+store_name app store = option_map_or (λ s. s.name) (slice_get app.stores.items store) []
+
+abbrev pub service_name : App → ℕ → List ℕ
+service_name app service = option_map_or (λ s. s.name) (slice_get app.services.items service) []
+
+abbrev pub region_name : App → ℕ → List ℕ
+region_name app region = option_map_or (λ name. name) (slice_get app.regions.items region) []
+
+-- the name of an object by its number: the stores come first, then the services, each for its inbox
+abbrev pub object_name : App → ℕ → List ℕ
+object_name app object =
+    if nat_lt object (length app.stores.items) then store_name app object else service_name app (object - length app.stores.items)
+
+-- a place on an object, as `posts.3`
+abbrev pub mark_text : App → ℕ → ℕ → List ℕ
+mark_text app object place = object_name app object ++ codes "." ++ decimal place
+
+-- A value in quotation marks. The values that an application may have today need no escape.
+abbrev pub quoted : List ℕ → List ℕ
+quoted value = codes "\"" ++ value ++ codes "\""
+
+-- an id, as `posts/p1@3`; the names that an application may have today need no escape
+abbrev pub id_text : App → WriteId → List ℕ
+id_text app id = store_name app id.store ++ codes "/" ++ id.key ++ codes "@" ++ decimal id.version
+
+-- a lineage, as `1;posts/p1@3,posts/p2@4`
+abbrev pub lineage_text : App → List WriteId → List ℕ
+lineage_text app ids = codes "1;" ++ join_by (id_text app) (codes ",") ids

@@ -1,0 +1,44 @@
+ghost use Rattle.std.specs.Prelude.{◌≡◌, ◌++◌, OnOk};
+ghost use Rattle.anti_text.specs.Entries.{actor_text, entry_line};
+
+use crate::call_words::call_text;
+use crate::output::Output;
+use crate::reply_words::reply_text;
+use crate::words::mark_text;
+use anti_app::App;
+use anti_ids::NoMemory;
+use anti_kind::{Actor, Entry};
+
+// Writes who made a call.
+fn actor_text(out: &mut Output, app: &App, actor: Actor, span: u32) -> Result<(), NoMemory>
+    ensures { OnOk result (out.new ≡ out.old ++ actor_text app.now actor span) }
+{
+    match actor {
+        Actor::Carrier(number) => {
+            out.put(b"~")?;
+            out.number(u64::from(number))
+        }
+        Actor::Process(birth) => {
+            mark_text(out, app, birth.object, birth.place)?;
+            out.put(b"/")?;
+            out.number(u64::from(span))
+        }
+        Actor::Newborn => Ok(()),
+    }
+}
+
+/// Writes the line of an entry.
+pub fn entry_line(out: &mut Output, app: &App, entry: &Entry) -> Result<(), NoMemory>
+    ensures { OnOk result (out.new ≡ out.old ++ entry_line app.now entry.now) }
+{
+    out.number(entry.stamp)?;
+    out.put(b" ")?;
+    mark_text(out, app, entry.object, entry.place)?;
+    out.put(b" ")?;
+    actor_text(out, app, entry.actor, entry.span)?;
+    out.put(b" ")?;
+    call_text(out, app, &entry.call)?;
+    out.put(b" = ")?;
+    reply_text(out, app, &entry.reply)?;
+    out.put(b"\n")
+}

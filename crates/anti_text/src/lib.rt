@@ -1,0 +1,13 @@
+//! The printed forms of a run.
+#![tactic(auto)]
+
+mod call_words;
+mod entry_lines;
+mod output;
+mod printed;
+mod process_lines;
+mod reply_words;
+mod wait_lines;
+mod words;
+
+pub use printed::{Waits, text};

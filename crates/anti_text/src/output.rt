@@ -1,0 +1,57 @@
+ghost use Rattle.std.specs.Prelude.{◌≡◌, [], ◌++◌, decimal, OnOk};
+ghost use Rattle.anti_ids.specs.List.{plain};
+
+use anti_ids::{Bytes, NoMemory};
+use itoa::Buffer;
+use std::alloc::Global;
+use std::marker::Model;
+
+/// Text that grows at its end. Contracts see its bytes.
+#[derive(Drop)]
+pub struct Output {
+    bytes: Bytes,
+}
+
+impl Model for Output {
+    ghost use Rattle.std.specs.Prelude.{◌≡◌, ℕ, List};
+
+    ghost Value = { List ℕ };
+
+    ghost view = { λ o. o.bytes.items };
+
+    ghost invariant = { λ o. o.bytes.spare ≡ 0 };
+}
+
+impl Output {
+    /// No text.
+    pub fn new(alloc: Global) -> Output
+        ensures { result ≡ [] }
+    {
+        Output {
+            bytes: Bytes::new(alloc),
+        }
+    }
+
+    /// Adds bytes at the end.
+    pub fn put(&mut self, bytes: &[u8]) -> Result<(), NoMemory>
+        ensures { OnOk result (self.new ≡ self.old ++ bytes.now) }
+    {
+        self.bytes.append(bytes)
+    }
+
+    /// Adds a number in decimal at the end.
+    pub fn number(&mut self, number: u64) -> Result<(), NoMemory>
+        ensures { OnOk result (self.new ≡ self.old ++ decimal number) }
+    {
+        let mut digits = Buffer::new();
+        self.put(digits.format(number).as_bytes())
+    }
+
+    /// The text as a list of bytes.
+    pub fn into_bytes(self) -> Bytes
+        ensures { result ≡ plain self }
+    {
+        let Output { bytes } = self;
+        bytes
+    }
+}

@@ -1,0 +1,57 @@
+ghost use Rattle.std.specs.Prelude.{◌≡◌, ◌++◌, ◌<◌, ◌^◌, OnOk, IfOk};
+ghost use Rattle.std.specs.List.{flat_map};
+ghost use Rattle.anti_ids.specs.List.{plain};
+ghost use Rattle.anti_text.specs.Entries.{entry_line, wait_line};
+ghost use Rattle.anti_proc.specs.Numbers.{object_count};
+ghost use Rattle.anti_text.specs.Record.{text_of};
+
+use crate::entry_lines::entry_line;
+use crate::output::Output;
+use crate::process_lines::process_lines;
+use crate::wait_lines::wait_line;
+use anti_app::App;
+use anti_ids::{Bytes, List, NoMemory};
+use anti_kind::Entry;
+use anti_trace::Trace;
+use std::alloc::Global;
+
+/// The numbers of the choices that made no entry, counted from 1, ascending.
+pub type Waits = List<u32>;
+
+// Writes the lines of the entries.
+fn entry_lines(out: &mut Output, app: &App, trace: &[Entry]) -> Result<(), NoMemory>
+    ensures { OnOk result (out.new ≡ out.old ++ flat_map (entry_line app.now) trace.now) }
+{
+    for entry in trace {
+        entry_line(out, app, entry)?;
+    }
+    Ok(())
+}
+
+// Writes the lines of the choices that made no entry.
+fn wait_lines(out: &mut Output, app: &App, waits: &[u32]) -> Result<(), NoMemory>
+    ensures { OnOk result (out.new ≡ out.old ++ flat_map (wait_line app.now) waits.now) }
+{
+    for number in waits {
+        wait_line(out, app, *number)?;
+    }
+    Ok(())
+}
+
+/// The record of a run of an application: a line for each entry in the order of the trace, for each choice that made no entry, and
+/// for each process. The only error is want of memory.
+pub fn text(alloc: Global, app: &App, trace: &Trace, waits: &Waits) -> Result<Bytes, NoMemory>
+    requires { object_count app.now < 2 ^ 32 }
+    ensures { IfOk result (λ t. t ≡ plain (text_of app.now trace.now waits.now.items)) }
+{
+    let mut out = Output::new(alloc);
+    let entries = trace.as_slice();
+    out.put(b"record 1\n")?;
+    entry_lines(&mut out, app, entries)?;
+    wait_lines(&mut out, app, waits.as_slice())?;
+    process_lines(alloc, &mut out, app, entries)?;
+    out.put(b"end ")?;
+    out.number(entries.len() as u64)?;
+    out.put(b"\n")?;
+    Ok(out.into_bytes())
+}

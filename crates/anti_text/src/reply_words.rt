@@ -1,0 +1,111 @@
+ghost use Rattle.std.specs.Prelude.{◌≡◌, ◌++◌, OnOk};
+ghost use Rattle.anti_text.specs.Calls.{taken_text, version_text, row_text, rows_text, look_text, reply_text};
+
+use crate::call_words::{handler_and_rest, kind_text, value_and_baggage};
+use crate::output::Output;
+use crate::words::{lineage_text, quoted};
+use anti_app::App;
+use anti_ids::{Lineage, Name, NoMemory};
+use anti_kind::{Message, MessageKind, Reply, Row};
+
+// Writes a message as it is taken.
+fn taken_text(
+    out: &mut Output,
+    number: u32,
+    message: &Message,
+    kind: MessageKind,
+) -> Result<(), NoMemory>
+    ensures { OnOk result (out.new ≡ out.old ++ taken_text number message.now kind) }
+{
+    match kind {
+        MessageKind::Reply => value_and_baggage(out, message),
+        MessageKind::Request | MessageKind::Call | MessageKind::Send => {
+            out.number(u64::from(number))?;
+            out.put(b" ")?;
+            kind_text(out, kind)?;
+            out.put(b" ")?;
+            handler_and_rest(out, message)
+        }
+    }
+}
+
+// Writes a key with its version.
+fn version_text(out: &mut Output, key: &Name, version: u64) -> Result<(), NoMemory>
+    ensures { OnOk result (out.new ≡ out.old ++ version_text key.now version) }
+{
+    out.put(key.bytes())?;
+    out.put(b"@")?;
+    out.number(version)
+}
+
+// Writes a row.
+fn row_text(out: &mut Output, app: &App, row: &Row) -> Result<(), NoMemory>
+    ensures { OnOk result (out.new ≡ out.old ++ row_text app.now row.now) }
+{
+    if row.version == 0 {
+        out.put(row.key.bytes())?;
+        return out.put(b"@0");
+    }
+    version_text(out, &row.key, row.version)?;
+    out.put(b" ")?;
+    quoted(out, row.value.bytes())?;
+    out.put(b" ")?;
+    lineage_text(out, app, &row.lineage)
+}
+
+// Writes rows.
+fn rows_text(out: &mut Output, app: &App, rows: &[Row]) -> Result<(), NoMemory>
+    ensures { OnOk result (out.new ≡ out.old ++ rows_text app.now rows.now) }
+{
+    let Some((first, rest)) = rows.split_first() else {
+        return out.put(b"none");
+    };
+    row_text(out, app, first)?;
+    for row in rest {
+        out.put(b" + ")?;
+        row_text(out, app, row)?;
+    }
+    Ok(())
+}
+
+// Writes what a look named.
+fn look_text(
+    out: &mut Output,
+    app: &App,
+    missing: &Lineage,
+    unwritten: &Lineage,
+) -> Result<(), NoMemory>
+    ensures { OnOk result (out.new ≡ out.old ++ look_text app.now missing.now unwritten.now) }
+{
+    match (missing.as_slice(), unwritten.as_slice()) {
+        ([], []) => out.put(b"clear"),
+        _ => {
+            out.put(b"missing ")?;
+            lineage_text(out, app, missing)?;
+            out.put(b" unwritten ")?;
+            lineage_text(out, app, unwritten)
+        }
+    }
+}
+
+/// Writes a reply.
+pub fn reply_text(out: &mut Output, app: &App, reply: &Reply) -> Result<(), NoMemory>
+    ensures { OnOk result (out.new ≡ out.old ++ reply_text app.now reply.now) }
+{
+    match reply {
+        Reply::Written { key, version } => version_text(out, key, *version),
+        Reply::Shown(rows) => rows_text(out, app, rows.as_slice()),
+        Reply::Missing { missing, unwritten } => look_text(out, app, missing, unwritten),
+        Reply::Moved => out.put(b"moved"),
+        Reply::Pulled(row) => row_text(out, app, row),
+        Reply::Posted(number) => {
+            out.put(b"posted ")?;
+            out.number(u64::from(*number))
+        }
+        Reply::Got { number, message } => {
+            out.put(b"got ")?;
+            taken_text(out, *number, message, message.kind)
+        }
+        Reply::Done => out.put(b"done"),
+    }
+}

@@ -1,0 +1,77 @@
+ghost use Rattle.std.specs.Prelude.{◌≡◌, ◌++◌, OnOk};
+ghost use Rattle.anti_text.specs.Entries.{part_text, choice_text, choice_numbered, wait_line};
+
+use crate::output::Output;
+use crate::words::{mark_text, region_name, service_name, store_name};
+use anti_app::{App, Choice};
+use anti_ids::NoMemory;
+
+// Writes the part of a ship.
+fn part_text(out: &mut Output, part: Option<u32>) -> Result<(), NoMemory>
+    ensures { OnOk result (out.new ≡ out.old ++ part_text part) }
+{
+    match part {
+        None => Ok(()),
+        Some(part) => {
+            out.put(b" ")?;
+            out.number(u64::from(part))
+        }
+    }
+}
+
+// Writes a choice.
+fn choice_text(out: &mut Output, app: &App, choice: &Choice) -> Result<(), NoMemory>
+    ensures { OnOk result (out.new ≡ out.old ++ choice_text app.now choice.now) }
+{
+    match choice {
+        Choice::Take { service, nth } => {
+            out.put(b"take ")?;
+            service_name(out, app, *service as usize)?;
+            out.put(b" ")?;
+            out.number(u64::from(*nth))
+        }
+        Choice::Ship {
+            store,
+            region,
+            version,
+            part,
+        } => {
+            out.put(b"ship ")?;
+            store_name(out, app, *store as usize)?;
+            out.put(b" ")?;
+            region_name(out, app, *region)?;
+            out.put(b" ")?;
+            out.number(*version)?;
+            part_text(out, *part)
+        }
+        Choice::Go { object, place } => {
+            out.put(b"go ")?;
+            mark_text(out, app, *object, *place)
+        }
+    }
+}
+
+// Writes the choice with a number, counted from 1.
+fn choice_numbered(out: &mut Output, app: &App, number: u32) -> Result<(), NoMemory>
+    ensures { OnOk result (out.new ≡ out.old ++ choice_numbered app.now number) }
+{
+    match app
+        .choices
+        .as_slice()
+        .get((number as usize).saturating_sub(1))
+    {
+        Some(choice) => choice_text(out, app, choice),
+        None => Ok(()),
+    }
+}
+
+/// Writes the line of a choice that made no entry, by its number.
+pub fn wait_line(out: &mut Output, app: &App, number: u32) -> Result<(), NoMemory>
+    ensures { OnOk result (out.new ≡ out.old ++ wait_line app.now number) }
+{
+    out.put(b"wait ")?;
+    out.number(u64::from(number))?;
+    out.put(b" ")?;
+    choice_numbered(out, app, number)?;
+    out.put(b"\n")
+}
