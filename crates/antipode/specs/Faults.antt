@@ -1,0 +1,30 @@
+-- The status of a fault, and which faults leave a run behind.
+use Rattle.std.specs.Prelude.{ℕ, Option, None, Some, Bool, true, false}
+use Rattle.anti_app.specs.declared.app.AppFault.{AppFault}
+use Rattle.anti_app.specs.declared.app.AppFault.TheVariants as app
+use Rattle.antipode.specs.declared.fault.TopFault.{TopFault}
+use Rattle.antipode.specs.declared.fault.TopFault.TheVariants.{Usage, ReadFault, WriteFault, TooLong, NotToml, BadApp, BadChoice, NoMemory}
+
+-- the fault of the call for the fault of its bytes
+abbrev pub fault_of : AppFault → TopFault
+fault_of app.NotToml = NotToml
+fault_of (app.Bad rule place) = BadApp rule place
+fault_of (app.BadChoice number) = BadChoice number
+fault_of app.NoMemory = NoMemory
+
+abbrev pub status_of : Option TopFault → ℕ
+status_of None = 0
+status_of (Some Usage) = 2
+status_of (Some ReadFault) = 3
+status_of (Some WriteFault) = 4
+status_of (Some TooLong) = 5
+status_of (Some NotToml) = 5
+status_of (Some (BadApp rule place)) = 5
+status_of (Some (BadChoice number)) = 5
+status_of (Some NoMemory) = 6
+
+-- a run is kept where its text was written, or begun
+abbrev pub keeps_run : Option TopFault → Bool
+keeps_run None = true
+keeps_run (Some WriteFault) = true
+keeps_run _ = false

@@ -1,0 +1,38 @@
+-- What bytes state, a run of it, and its printed form.
+use Rattle.std.specs.Prelude.{ℕ, ◌≡◌, ◌≤◌, List, length, Option, IfSome, Result, Ok, IsTrue}
+use Rattle.anti_ids.specs.List.{plain}
+use Rattle.anti_app.specs.declared.app.App.{App}
+use Rattle.anti_app.specs.declared.app.AppFault.{AppFault}
+use Rattle.anti_app.specs.Sound.{is_sound}
+use Rattle.anti_app.specs.Stated.{app_of}
+use Rattle.anti_text.specs.Record.{text_of}
+use Rattle.anti_play.specs.Runs.{IsRun}
+use Rattle.anti_play.specs.Schedule.{trace_of, waits_of}
+use Rattle.antipode.specs.declared.outcome.RunKept.{RunKept}
+use Rattle.antipode.specs.declared.preparing.TheConstants.{LONGEST_DOCUMENT}
+
+-- the application that bytes state, or why they state none
+unfoldable pub application_of : List ℕ → Result App AppFault
+application_of bytes = app_of bytes
+
+-- an application that can be played
+unfoldable pub IsPlayable : App → Type 0
+IsPlayable app = IsTrue (is_sound app)
+
+-- the choices of the application were played, each in its turn
+unfoldable pub IsPlayed : RunKept → Type 0
+IsPlayed kept = (kept.trace ≡ trace_of kept.app) × (kept.waits ≡ plain (waits_of kept.app))
+
+-- the entries stand in their order, and the history of each object is legal
+unfoldable pub IsLegalRun : RunKept → Type 0
+IsLegalRun kept = IsRun kept.app kept.trace
+
+-- the record of the run
+unfoldable pub printed : RunKept → List ℕ
+printed kept = text_of kept.app kept.trace kept.waits.items
+
+-- the run is that of the application which the bytes state, where the source tells them
+pub record IsRunOf (left : Option (List ℕ)) (kept : RunKept) : Type 0 where
+  pub given : IfSome left (λ bytes. (length bytes ≤ LONGEST_DOCUMENT) × (application_of bytes ≡ Ok kept.app))
+  pub played : IsPlayed kept
+  pub legal : IsLegalRun kept
