@@ -10,7 +10,7 @@ use Rattle.std.specs.Ordering.{ordering_reverse}
 use Rattle.anti_ids.specs.Each.{Each}
 use Rattle.anti_ids.specs.declared.id.WriteId.{WriteId}
 use Rattle.anti_ids.specs.Ids.{id_cmp, with_id, placed, IsAscending}
-use Rattle.anti_ids.proofs.IdLemmas.{behind_first, id_total}
+use Rattle.anti_ids.proofs.IdLemmas.{id_total, with_id-last}
 use Rattle.anti_kind.specs.declared.call.Entry.{Entry}
 use Rattle.anti_kind.specs.declared.call.Row.{Row}
 use Rattle.anti_kind.specs.Stored.{rows, row_of, greatest}
@@ -65,13 +65,6 @@ any_at q n (r ∷ rest) all v zero d is short =
 any_at q n (r ∷ rest) all v (suc i) d is short =
     let off : (r.version == v) ≡ false = ne_eqb r.version v (λ same. omega (arith, all.0)) in
     rw off (any_at q (n + 1) rest all.1 v i d (omega arith) (omega arith))
-
--- An id above all of a list goes to its end.
-
-pub with_id-last : (i : WriteId) (ids : List WriteId) → Each (λ j. id_cmp i j ≡ Greater) ids → with_id i ids ≡ ids ++ i ∷ []
-with_id-last i [] above = refl
-with_id-last i (j ∷ js) above =
-    behind_first (id_cmp i j) i j js (with_id i js) above.0 ∙ ap (λ (xs : List WriteId). j ∷ xs) (with_id-last i js above.1)
 
 -- One more row gone over: the greatest version so far.
 module _ (m : Kv) (h : List Entry) (stands : KvStands m h) (test : Row → Bool) (k : List ℕ) (i : ℕ) (kept : Kept) (here : i < length m.kept.items) (is : kept ≡ get_or m.kept.items i kept) where
