@@ -1,3 +1,4 @@
 pub mod NameLemmas
 pub mod ValueLemmas
 pub mod IdLemmas
+pub mod Places

@@ -1,5 +1,5 @@
 -- Ids of writes in their order, and lineages: sets of ids, each written as its ascending list.
-use Rattle.std.specs.Prelude.{◌≡◌, ℕ, ◌≤◌, List, [], ◌∷◌, ◌++◌, Bool, true, false, length, take, drop, Option, None, Some}
+use Rattle.std.specs.Prelude.{◌≡◌, ℕ, ◌+◌, ◌<◌, ◌≤◌, List, [], ◌∷◌, ◌++◌, ◌==◌, Bool, true, false, not, length, take, drop, filter, Result, Ok, Err}
 use Rattle.std.specs.declared.cmp.Ordering.{Ordering}
 use Rattle.std.specs.declared.cmp.Ordering.TheVariants.{Less, Equal, Greater}
 use Rattle.std.specs.Cmp.Lexicographic.{slice_cmp}
@@ -7,6 +7,7 @@ use Rattle.std.specs.Ordering.{nat_cmp, on, then_cmp, is_eq}
 use Rattle.std.specs.List.{list_any}
 use Rattle.anti_ids.specs.Each.{Each}
 use Rattle.anti_ids.specs.declared.id.WriteId.{WriteId}
+use Rattle.anti_ids.specs.declared.lineage.TheConstants.{MOST_IDS}
 
 -- by store, then version, then the bytes of the key
 abbrev pub id_cmp : WriteId → WriteId → Ordering
@@ -31,18 +32,31 @@ abbrev pub with_id : WriteId → List WriteId → List WriteId
 with_id i [] = i ∷ []
 with_id i (j ∷ js) = placed (id_cmp i j) i j js (with_id i js)
 
+-- the set with these ids too, one after another
+abbrev pub with_ids : List WriteId → List WriteId → List WriteId
+with_ids [] js = js
+with_ids (i ∷ is) js = with_ids is (with_id i js)
+
+-- the set without an id
+abbrev pub without_id : WriteId → List WriteId → List WriteId
+without_id i js = filter (λ j. not (is_id i j)) js
+
+-- the ids of one store
+abbrev pub ids_of : ℕ → List WriteId → List WriteId
+ids_of store js = filter (λ j. j.store == store) js
+
 -- each id is before all that stand behind it
 abbrev pub IsAscending : List WriteId → Type 0
 IsAscending [] = Unit {0}
 IsAscending (i ∷ is) = Each (λ j. id_cmp i j ≡ Less) is × IsAscending is
 
--- a set of at most 256 ids, each of version 1 or later
+-- a set of at most `MOST_IDS` ids, each of version 1 or later
 pub record IsLineage (ids : List WriteId) : Type 0 where
   pub ascending : IsAscending ids
   pub written : Each (λ i. 1 ≤ i.version) ids
-  pub short : length ids ≤ 256
+  pub short : length ids ≤ MOST_IDS
 
--- where an id goes among ascending ids, or that it is there
-abbrev pub IsPlace : WriteId → List WriteId → Option ℕ → Type 0
-IsPlace i ids None = (has_id i ids ≡ true) × (with_id i ids ≡ ids)
-IsPlace i ids (Some at) = (at ≤ length ids) × (has_id i ids ≡ false) × (with_id i ids ≡ take at ids ++ i ∷ drop at ids)
+-- where an id stands among ascending ids, or where it goes as it is not there
+abbrev pub IsPlace : WriteId → List WriteId → Result ℕ ℕ → Type 0
+IsPlace i ids (Ok at) = (at < length ids) × (has_id i ids ≡ true) × (with_id i ids ≡ ids) × (without_id i ids ≡ take at ids ++ drop (at + 1) ids)
+IsPlace i ids (Err at) = (at ≤ length ids) × (has_id i ids ≡ false) × (with_id i ids ≡ take at ids ++ i ∷ drop at ids) × (without_id i ids ≡ ids)

@@ -4,4 +4,5 @@ pub mod NameBytes
 pub mod Values
 pub mod Each
 pub mod Ids
+pub mod Roomy
 pub mod formers

@@ -1,4 +1,10 @@
-use crate::{Copies, Lineage, List, Name, NameFault, Value, ValueFault, WriteId};
+ghost use Rattle.std.specs.Prelude.{◌≡◌, ◌≤◌, IfSome};
+
+use crate::{
+    Bytes, Copies, Lineage, LineageRefused, List, Name, NameFault, RoomyFull, Value, ValueFault,
+    WriteId,
+};
+use std::alloc::Global;
 use std::test::Fail;
 
 #[test]
@@ -30,34 +36,121 @@ fn names_and_values_are_judged(rt: HostRuntime) -> Result<(), Fail> {
     Ok(())
 }
 
-#[test]
-fn lineages_and_lists_grow_and_are_copied(rt: HostRuntime) -> Result<(), Fail> {
-    let key = Name::new(b"k").ok().ok_or("a name")?;
-    let id = WriteId {
-        store: 0,
+// The id of a version of one key of a store.
+fn id_of(store: u32, version: u64) -> Option<WriteId>
+    ensures { IfSome result (λ id. id.version ≡ version) }
+{
+    let key = Name::new(b"k").ok()?;
+    Some(WriteId {
+        store,
         key,
-        version: 2,
+        version,
+    })
+}
+
+// The first versions of one key of a store.
+fn versions(alloc: Global, store: u32, count: u64) -> Option<Lineage> {
+    let mut lineage = Lineage::root(alloc);
+    for version in 1..=count {
+        lineage.append(id_of(store, version)?).ok()?;
+    }
+    Some(lineage)
+}
+
+// What `Roomy::append` answers on a lineage, with room for one id, and the lineage after it.
+fn appended(lineage: Lineage, id: WriteId) -> Option<(Result<bool, RoomyFull>, Lineage)>
+    requires { 1 ≤ id.version }
+{
+    let Ok(mut roomy) = lineage.reserve(1) else {
+        return None;
     };
-    let mut lineage = Lineage::root(rt.alloc());
-    assert!(rt; lineage.append(id) == Ok(true));
-    assert!(rt; lineage.append(id) == Ok(false));
-    assert!(rt;
-        lineage.append(WriteId {
-            store: 0,
-            key,
-            version: 1
-        }) == Ok(true)
-    );
-    let again = lineage.copy(rt.alloc()).ok().ok_or("a copy")?;
-    assert_eq!(rt; again.as_slice().len(), 2);
-    assert!(rt; again.contains(&id));
-    let value = Value::new(rt.alloc(), b"v").ok().ok_or("a value")?;
-    assert!(rt; value.copy(rt.alloc()).is_ok());
-    let mut list: List<u8> = List::new(rt.alloc());
-    assert!(rt; list.reserve(2).is_ok());
-    assert!(rt; list.push(1).is_ok());
-    assert!(rt; list.append(b"bc").is_ok());
-    let copied = list.copy(rt.alloc()).ok().ok_or("a copy")?;
-    assert_eq!(rt; copied.len(), 3);
+    let answer = roomy.append(id);
+    Some((answer, roomy.into_lineage()))
+}
+
+// What `Roomy::transfer` answers on a lineage, with room for the other, and the lineage after it.
+fn united(lineage: Lineage, other: &Lineage) -> Option<(Result<(), RoomyFull>, Lineage)> {
+    let Ok(mut roomy) = lineage.reserve(other.len()) else {
+        return None;
+    };
+    let answer = roomy.transfer(other);
+    Some((answer, roomy.into_lineage()))
+}
+
+// How many ids there are after each step: the ids of two stores, one of them twice, without one, of one store.
+fn lengths(alloc: Global, one: Lineage, other: &Lineage, id: WriteId) -> Option<[u32; 6]>
+    requires { 1 ≤ id.version }
+{
+    let mut lineage = one.copy(alloc).ok()?;
+    one.stop();
+    lineage.transfer(other).ok()?;
+    let both = lineage.len();
+    lineage.append(id).ok()?;
+    let twice = lineage.len();
+    lineage.remove(&id);
+    let without = lineage.len();
+    let of_store = lineage.ids_of(alloc, id.store).ok()?.len();
+    let (_, again) = appended(lineage, id)?;
+    let with = again.len();
+    let (_, united) = united(again, other)?;
+    Some([both, twice, without, of_store, with, united.len()])
+}
+
+// Whether a full lineage refuses one more id in each way, and stays as it was.
+fn refuses(alloc: Global, full: &Lineage, id: WriteId) -> Option<bool>
+    requires { 1 ≤ id.version }
+{
+    let mut one = Lineage::root(alloc);
+    one.append(id).ok()?;
+    let mut lineage = full.copy(alloc).ok()?;
+    let by_append = lineage.append(id) == Err(LineageRefused::Full);
+    let by_transfer = lineage.transfer(&one) == Err(LineageRefused::Full);
+    let (roomy_append, lineage) = appended(lineage, id)?;
+    let (roomy_transfer, lineage) = united(lineage, &one)?;
+    let by_roomy = roomy_append == Err(RoomyFull) && roomy_transfer == Err(RoomyFull);
+    Some(by_append && by_transfer && by_roomy && lineage.as_slice() == full.as_slice())
+}
+
+#[test]
+fn lineages_are_sets(rt: HostRuntime) -> Result<(), Fail> {
+    let alloc = rt.alloc();
+    let id = id_of(0, 2).ok_or("an id")?;
+    let mut lineage = Lineage::root(alloc);
+    for is_new in [true, false] {
+        assert!(rt; lineage.append(id) == Ok(is_new) && lineage.contains(&id));
+    }
+    let one = versions(alloc, 0, 3).ok_or("a lineage")?;
+    let other = versions(alloc, 1, 4).ok_or("a lineage")?;
+    assert_eq!(rt; lengths(alloc, one, &other, id), Some([7, 7, 6, 2, 7, 7]));
+    Ok(())
+}
+
+#[test]
+fn full_lineages_stay_as_they_were(rt: HostRuntime) -> Result<(), Fail> {
+    let full = versions(rt.alloc(), 0, 256).ok_or("a lineage")?;
+    let beyond = id_of(0, 257).ok_or("an id")?;
+    assert_eq!(rt; refuses(rt.alloc(), &full, beyond), Some(true));
+    assert!(rt; full.reserve(256).is_ok());
+    Ok(())
+}
+
+#[test]
+fn lists_have_the_room_that_they_reserve(rt: HostRuntime) -> Result<(), Fail> {
+    let alloc = rt.alloc();
+    let value = Value::new(alloc, b"v").ok().ok_or("a value")?;
+    assert!(rt; value.copy(alloc).is_ok());
+    let mut bytes = Bytes::new(alloc);
+    assert!(rt; bytes.reserve(4).is_ok());
+    for byte in *b"abcd" {
+        assert!(rt; bytes.push(byte).is_ok());
+    }
+    assert!(rt; bytes.append(b"ef").is_ok());
+    let copied = bytes.copy(alloc).ok().ok_or("a copy")?;
+    assert!(rt; copied.bytes() == b"abcdef".as_slice());
+    let mut lineages: List<Lineage> = List::new(alloc);
+    assert!(rt; lineages.reserve(4).is_ok());
+    for _ in 0..4 {
+        assert!(rt; lineages.push(Lineage::root(alloc)).is_ok());
+    }
     Ok(())
 }

@@ -1,0 +1,88 @@
+// Ids in ascending order, as lineages keep them.
+ghost use Rattle.std.specs.Prelude.{◌≡◌, ◌↔◌, ◌+◌, ◌<◌, ◌≤◌, ◌∷◌, ◌++◌, true, not, length, take, drop, vec_len, vec_capacity, IsTrue, IfOk};
+ghost use Rattle.std.specs.declared.cmp.Ordering.TheVariants.{Less};
+ghost use Rattle.anti_ids.specs.Each.{Each};
+ghost use Rattle.anti_ids.specs.Ids.{IsAscending, IsPlace, has_id, id_cmp, ids_of, with_id, with_ids};
+
+use crate::id::WriteId;
+use std::alloc::{AllocError, Global};
+
+// Whether an id goes behind all others.
+fn goes_last(ids: &[WriteId], id: &WriteId) -> bool
+    requires { IsAscending ids.now }
+    ensures { IsTrue result ↔ Each (λ other. id_cmp other id.now ≡ Less) ids.now }
+{
+    match ids.last() {
+        Some(last) => last.cmp(id).is_lt(),
+        None => true,
+    }
+}
+
+// Where an id stands, or where it goes as it is not there. An id that goes last costs one comparison.
+pub(crate) fn place_of(ids: &[WriteId], id: &WriteId) -> Result<usize, usize>
+    requires { IsAscending ids.now }
+    ensures { IsPlace id.now ids.now result }
+{
+    if goes_last(ids, id) {
+        return Err(ids.len());
+    }
+    ids.binary_search(id)
+}
+
+// Whether an id is among the others.
+pub(crate) fn is_among(ids: &[WriteId], id: &WriteId) -> bool
+    requires { IsAscending ids.now }
+    ensures { result ≡ has_id id.now ids.now }
+{
+    place_of(ids, id).is_ok()
+}
+
+// How many of the further ids are not among the ids.
+pub(crate) fn count_new(ids: &[WriteId], further: &[WriteId]) -> usize
+    requires ids { IsAscending ids.now }
+    requires further { IsAscending further.now }
+    ensures { length ids.now + result ≡ length (with_ids further.now ids.now) }
+{
+    further.iter().filter(|id| !is_among(ids, id)).count()
+}
+
+// Puts an id at an index of ids that have room for it.
+pub(crate) fn put_at(ids: &mut Vec<WriteId>, at: usize, id: WriteId)
+    requires within { at ≤ vec_len ids.old }
+    requires room { vec_len ids.old < vec_capacity ids.old }
+    ensures ids { ids.new.items ≡ take at ids.old.items ++ id ∷ drop at ids.old.items }
+    ensures capacity { vec_capacity ids.old ≤ vec_capacity ids.new }
+{
+    match ids.insert(at, id) {
+        Ok(()) => {}
+        Err(_) => unreachable!(),
+    }
+}
+
+// Adds the further ids to ids that have room for those that are new.
+pub(crate) fn add_all(ids: &mut Vec<WriteId>, further: &[WriteId])
+    requires ascending { IsAscending ids.old.items }
+    requires room { length (with_ids further.now ids.old.items) ≤ vec_capacity ids.old }
+    ensures ids { ids.new.items ≡ with_ids further.now ids.old.items }
+    ensures capacity { vec_capacity ids.old ≤ vec_capacity ids.new }
+{
+    for id in further {
+        if let Err(at) = place_of(ids.as_slice(), id) {
+            put_at(ids, at, *id);
+        }
+    }
+}
+
+// The ids of one store, of ids.
+pub(crate) fn of_store(
+    alloc: Global,
+    ids: &[WriteId],
+    store: u32,
+) -> Result<Vec<WriteId>, AllocError>
+    ensures { IfOk result (λ v. v.items ≡ ids_of store ids.now) }
+{
+    ids.iter()
+        .filter(|id| id.store == store)
+        .copied()
+        .collect(alloc)
+}
