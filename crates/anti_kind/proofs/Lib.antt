@@ -7,5 +7,9 @@ pub mod Handed
 pub mod Balance
 pub mod Deliveries
 pub mod Bounds
+pub mod Showing
+pub mod Keeping
+pub mod Scans
 pub mod Fullness
+pub mod Making
 mod Worked

@@ -14,8 +14,11 @@ use Rattle.anti_kind.specs.declared.call.MessageKind.TheVariants as kinds
 use Rattle.anti_kind.specs.declared.call.Row.{Row}
 use Rattle.anti_kind.specs.declared.call.StoreKind.TheVariants.{Kv, Table, Blob, Queue, Topic}
 use Rattle.anti_kind.specs.Stored.{parts_of, upto_of}
-use Rattle.anti_kind.specs.Store.{store_of, kv_store}
+use Rattle.anti_kind.specs.Store.{store_of, kv_store, is_visible}
 use Rattle.anti_kind.specs.Inbox.{free}
+use Rattle.anti_kind.specs.Laws.{speaks_of, shown, KeepsLaws}
+use Rattle.anti_kind.specs.Fulls.{is_asking}
+use Rattle.anti_kind.proofs.Keeping.{keeps_laws}
 use Rattle.anti_kind.specs.Objects.{Start, store, inbox, ready, due, need, held, owed, fits, last_stamp}
 
 -- the entry that a carrier's call makes
@@ -387,3 +390,56 @@ served_no_repost = refl
 
 served_no_answer : ready served (after served [] served_calls) (Post (record answer { to = 3 })) ≡ false
 served_no_answer = refl
+
+-- The laws, of each kind of store that is no table.
+
+laws_kv : KeepsLaws (kv_store 0 (0 ∷ 1 ∷ []))
+laws_kv = keeps_laws (kv_store 0 (0 ∷ 1 ∷ [])) refl refl
+
+laws_blob : KeepsLaws (store_of Blob 1 (0 ∷ []) [] 0)
+laws_blob = keeps_laws (store_of Blob 1 (0 ∷ []) [] 0) refl refl
+
+laws_queue : KeepsLaws (store_of Queue 2 (0 ∷ []) [] 3)
+laws_queue = keeps_laws (store_of Queue 2 (0 ∷ []) [] 3) refl refl
+
+laws_topic : KeepsLaws (store_of Topic 3 (0 ∷ []) [] 0)
+laws_topic = keeps_laws (store_of Topic 3 (0 ∷ []) [] 0) refl refl
+
+-- A write whose lineage names a version that comes after it: a read then shows it without that version.
+
+abbrev ahead_calls : List Call
+ahead_calls = Write (107 ∷ []) (97 ∷ []) ((record { store = 0; key = (107 ∷ []); version = 2 }) ∷ []) ∷ Write (107 ∷ []) (98 ∷ []) [] ∷ Ship 0 1 1 ∷ []
+
+ahead_goes : goes kv [] ahead_calls ≡ true
+ahead_goes = refl
+
+ahead_shows : map (λ r. r.lineage) (shown (due kv (after kv [] ahead_calls) (Read 0 (107 ∷ [])))) ≡ ((record { store = 0; key = (107 ∷ []); version = 2 }) ∷ []) ∷ []
+ahead_shows = refl
+
+ahead_misses : is_visible (kv_store 0 (0 ∷ [])) (after kv [] ahead_calls) 0 (record { store = 0; key = (107 ∷ []); version = 2 }) ≡ false
+ahead_misses = refl
+
+-- Of which keys reads speak.
+
+speaks_read : speaks_of (107 ∷ []) (Read 0 (107 ∷ [])) ≡ true
+speaks_read = refl
+
+speaks_other : speaks_of (107 ∷ 49 ∷ []) (Read 0 (107 ∷ [])) ≡ false
+speaks_other = refl
+
+speaks_scan : speaks_of (107 ∷ 49 ∷ []) (Scan 0 (107 ∷ [])) ≡ true
+speaks_scan = refl
+
+speaks_past : speaks_of (107 ∷ []) (Scan 0 (107 ∷ 49 ∷ [])) ≡ false
+speaks_past = refl
+
+-- A look that misses an id may be ready for what nobody wrote, and is then no call that stays ready.
+
+asking_waits : is_asking kv kv_written (Look 0 ((record { store = 0; key = (107 ∷ []); version = 9 }) ∷ []) false) ≡ false
+asking_waits = refl
+
+asking_dry : is_asking kv kv_written (Look 0 ((record { store = 0; key = (107 ∷ []); version = 1 }) ∷ []) true) ≡ true
+asking_dry = refl
+
+asking_clear : is_asking kv (after kv kv_written (Ship 0 1 1 ∷ [])) (Look 0 ((record { store = 0; key = (107 ∷ []); version = 1 }) ∷ []) false) ≡ true
+asking_clear = refl

@@ -11,6 +11,7 @@ use Rattle.anti_kind.specs.declared.call.Message.{Message}
 use Rattle.anti_kind.specs.declared.call.MessageKind.TheVariants as kinds
 use Rattle.anti_kind.specs.declared.call.StoreKind.{StoreKind}
 use Rattle.anti_kind.specs.declared.call.StoreKind.TheVariants.{Queue}
+use Rattle.anti_kind.specs.Stored.{upto_of}
 use Rattle.anti_kind.specs.Store.{Store, store_ready, store_due, store_need, store_owed}
 use Rattle.anti_kind.specs.Inbox.{inbox_ready, inbox_due, inbox_need, inbox_owed}
 
@@ -45,6 +46,11 @@ held h = sum_by (λ e. weight e.reply) h
 abbrev pub owed : Start → List Entry → ℕ
 owed (store s) h = store_owed s h
 owed (inbox requests) h = inbox_owed requests h
+
+-- how far a region has everything: how many versions, from the first on, are whole there
+abbrev pub upto : Start → List Entry → ℕ → ℕ
+upto (store s) h g = upto_of s.kind h g
+upto (inbox requests) h g = 0
 
 abbrev pub fits : Start → List Entry → Call → Bool
 fits start h c = nat_le (held h + owed start h + need start h c) MOST_UNITS

@@ -1,3 +1,6 @@
+ghost use Rattle.std.specs.Prelude.{◌≡◌};
+ghost use Rattle.anti_kind.specs.Ports.{named};
+
 use anti_ids::{Bytes, Copies, Lineage, List, Name, NoMemory, Value};
 use std::alloc::Global;
 
@@ -15,6 +18,18 @@ pub enum Actor {
     Carrier(u32),
     Process(Birth),
     Newborn,
+}
+
+impl Actor {
+    /// The actor of the entry with this object and place. A process that the entry itself begins is named by them.
+    pub fn named(self, birth: Birth) -> Actor
+        ensures { result ≡ named self birth.object birth.place }
+    {
+        match self {
+            Actor::Newborn => Actor::Process(birth),
+            actor => actor,
+        }
+    }
 }
 
 /// The kinds of store.

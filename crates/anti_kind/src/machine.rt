@@ -6,7 +6,7 @@ use anti_ids::NoMemory;
 pub trait Machine {
     ghost use Rattle.std.specs.Prelude.{◌≡◌, List, [], ◌∷◌, ◌++◌, true, IfOk, OnOk, OnErr, IsOk};
     ghost use Rattle.anti_kind.specs.declared.call.Entry.{Entry};
-    ghost use Rattle.anti_kind.specs.Objects.{Start, ready, need, held, owed, due, Follows, StandsFor, MayMake, IsShip};
+    ghost use Rattle.anti_kind.specs.Objects.{Start, ready, need, held, owed, upto, due, Follows, StandsFor, MayMake, IsShip};
 
     ghost start: { Self → Start };
 
@@ -27,6 +27,10 @@ pub trait Machine {
     /// The units that are reserved for later calls.
     fn owed(&self) -> u32
         ensures { (h : List Entry) → StandsFor (start self.now) (Stands self.now) h → result ≡ owed (start self.now) h };
+
+    /// How many versions, from the first on, are whole at the region. An object that is no store has none.
+    fn upto(&self, region: u32) -> u64
+        ensures { (h : List Entry) → StandsFor (start self.now) (Stands self.now) h → result ≡ upto (start self.now) h region };
 
     /// The reply that a call is due, which is ready and fits. Nothing changes. Of a `Ship` it takes no memory.
     fn due(&self, c: &Call) -> Result<Reply, NoMemory>

@@ -1,3 +1,5 @@
+pub mod Places
 pub mod Reading
 pub mod Shipping
+pub mod Shows
 pub mod Standing

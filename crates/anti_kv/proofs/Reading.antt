@@ -1,10 +1,10 @@
--- What is read off the rows that are kept: the loops of `shown_version`, `missing`, `unwritten` and the like, a step at a time.
-use Rattle.std.proofs.Common.{◌≡◌, ℕ, zero, suc, ◌+◌, ◌-◌, ◌<◌, ◌≤◌, Bool, true, false, cond, not, ◌||◌, ◌&&◌, max, List, [], ◌∷◌, ◌++◌, length, get_or, take, filter, refl, sym, ap, ◌∙◌, ◌⊎◌, inl, inr, ⊎_elim, ◌==◌, eq-eqb, ne_eqb, subst, arith}
+-- What is read off the rows that are kept, and the loops of `missing`, `unwritten` and the like, a step at a time.
+use Rattle.std.proofs.Common.{◌≡◌, ℕ, zero, suc, ◌+◌, ◌-◌, ◌<◌, ◌≤◌, Bool, true, false, cond, not, ◌&&◌, List, [], ◌∷◌, ◌++◌, length, get_or, take, filter, refl, sym, ap, ◌∙◌, ◌⊎◌, inl, inr, ⊎_elim, ◌==◌, eq-eqb, ne_eqb, subst, arith}
 use Rattle.std.specs.Prelude.{bytes_eq}
 use Rattle.std.specs.List.{list_any}
 use Rattle.std.specs.declared.cmp.Ordering.{Ordering}
 use Rattle.std.specs.declared.cmp.Ordering.TheVariants.{Less, Equal, Greater}
-use Rattle.std.proofs.lemmas.List.{take_more, get_or-map, length-map, append-nil}
+use Rattle.std.proofs.lemmas.List.{get_or-map, length-map, append-nil}
 use Rattle.std.proofs.lemmas.List.Elements.{filter_more}
 use Rattle.std.specs.Ordering.{ordering_reverse}
 use Rattle.anti_ids.specs.Each.{Each}
@@ -13,9 +13,9 @@ use Rattle.anti_ids.specs.Ids.{id_cmp, with_id, placed, IsAscending}
 use Rattle.anti_ids.proofs.IdLemmas.{id_total, with_id-last}
 use Rattle.anti_kind.specs.declared.call.Entry.{Entry}
 use Rattle.anti_kind.specs.declared.call.Row.{Row}
-use Rattle.anti_kind.specs.Stored.{rows, row_of, greatest}
+use Rattle.anti_kind.specs.Stored.{rows, row_of}
 use Rattle.anti_kind.specs.Store.{is_written, absent, or_absent, shown_row}
-use Rattle.anti_kind.proofs.Rows.{Numbered, rows_numbered, row_of_at, row_of_none}
+use Rattle.anti_kind.proofs.Rows.{or_false, Numbered, rows_numbered, row_of_at, row_of_none}
 use Rattle.anti_kv.specs.declared.state.Kv.{Kv}
 use Rattle.anti_kv.specs.declared.state.Kept.{Kept}
 use Rattle.anti_kv.specs.KvStates.{KvStands, At, its_store}
@@ -27,22 +27,6 @@ row_is m h i d e s lt = ap (λ (rs : List Row). get_or rs i e) (sym s.rows_are) 
 pub count_is : (m : Kv) (h : List Entry) → KvStands m h → length (rows h) ≡ length m.kept.items
 count_is m h s = ap (λ (rs : List Row). length rs) (sym s.rows_are) ∙ length-map m.kept.items (λ (k : Kept). k.row)
 
--- The greatest version.
-
-max_zero : (n : ℕ) → max n 0 ≡ n
-max_zero n = omega arith
-
-greatest-push : (test : Row → Bool) (k : List ℕ) (rs : List Row) (r : Row)
-    → greatest test k (rs ++ r ∷ []) ≡ max (cond (bytes_eq r.key k && test r) r.version 0) (greatest test k rs)
-greatest-push test k [] r = refl
-greatest-push test k (x ∷ rs) r =
-    let more : greatest test k (rs ++ r ∷ []) ≡ max (cond (bytes_eq r.key k && test r) r.version 0) (greatest test k rs) = greatest-push test k rs r in
-    rw more (omega arith)
-
-pub greatest_more : (test : Row → Bool) (k : List ℕ) (rs : List Row) (i : ℕ) (d : Row) → i < length rs
-    → greatest test k (take (i + 1) rs) ≡ max (cond (bytes_eq (get_or rs i d).key k && test (get_or rs i d)) (get_or rs i d).version 0) (greatest test k (take i rs))
-greatest_more test k rs i d lt = ap (greatest test k) (take_more rs i d lt) ∙ greatest-push test k (take i rs) (get_or rs i d)
-
 -- A row by its version.
 
 any_none : (q : Row → Bool) (n : ℕ) (rs : List Row) → Numbered n rs → (v : ℕ) → (v ≤ n) ⊎ (n + length rs < v) → list_any (λ r. (r.version == v) && q r) rs ≡ false
@@ -50,10 +34,6 @@ any_none q n [] all v out = refl
 any_none q n (r ∷ rest) all v out =
     let off : (r.version == v) ≡ false = ne_eqb r.version v (λ same. ⊎_elim (λ (low : v ≤ n). omega (arith, all.0)) (λ (high : n + suc (length rest) < v). omega (arith, all.0)) out) in
     rw off (any_none q (n + 1) rest all.1 v (⊎_elim (λ (low : v ≤ n). inl (omega arith)) (λ (high : n + suc (length rest) < v). inr (omega arith)) out))
-
-or_false : (b : Bool) → (b || false) ≡ b
-or_false true = refl
-or_false false = refl
 
 any_at : (q : Row → Bool) (n : ℕ) (rs : List Row) → Numbered n rs → (v i : ℕ) (d : Row) → v ≡ n + i + 1 → i < length rs
     → list_any (λ r. (r.version == v) && q r) rs ≡ q (get_or rs i d)
@@ -65,25 +45,6 @@ any_at q n (r ∷ rest) all v zero d is short =
 any_at q n (r ∷ rest) all v (suc i) d is short =
     let off : (r.version == v) ≡ false = ne_eqb r.version v (λ same. omega (arith, all.0)) in
     rw off (any_at q (n + 1) rest all.1 v i d (omega arith) (omega arith))
-
--- One more row gone over: the greatest version so far.
-module _ (m : Kv) (h : List Entry) (stands : KvStands m h) (test : Row → Bool) (k : List ℕ) (i : ℕ) (kept : Kept) (here : i < length m.kept.items) (is : kept ≡ get_or m.kept.items i kept) where
-  the_row : get_or (rows h) i kept.row ≡ kept.row
-  the_row = row_is m h i kept kept.row stands here ∙ ap (λ (x : Kept). x.row) (sym is)
-
-  one_more : greatest test k (take (i + 1) (rows h)) ≡ max (cond (bytes_eq kept.row.key k && test kept.row) kept.row.version 0) (greatest test k (take i (rows h)))
-  one_more =
-      let short : i < length (rows h) = omega (arith, count_is m h stands) in
-      let more : greatest test k (take (i + 1) (rows h)) ≡ max (cond (bytes_eq (get_or (rows h) i kept.row).key k && test (get_or (rows h) i kept.row)) (get_or (rows h) i kept.row).version 0) (greatest test k (take i (rows h))) = greatest_more test k (rows h) i kept.row short in
-      subst (λ (r : Row). greatest test k (take (i + 1) (rows h)) ≡ max (cond (bytes_eq r.key k && test r) r.version 0) (greatest test k (take i (rows h)))) the_row more
-
-  pub came_step : (best : ℕ) → best ≡ greatest test k (take i (rows h)) → true ≡ (bytes_eq kept.row.key k && test kept.row)
-      → max kept.row.version best ≡ greatest test k (take (i + 1) (rows h))
-  came_step best so came = rw (one_more, ← came, ← so) refl
-
-  pub stayed_step : (best : ℕ) → best ≡ greatest test k (take i (rows h)) → false ≡ (bytes_eq kept.row.key k && test kept.row)
-      → best ≡ greatest test k (take (i + 1) (rows h))
-  stayed_step best so off = rw (one_more, ← off, ← so) (omega arith)
 
 -- An id gone over, in an ascending list: it goes to the end of what was kept of those before it.
 

@@ -1,5 +1,6 @@
--- What was never shipped.
-use Rattle.std.proofs.Common.{◌≡◌, ℕ, ◌-◌, ◌<◌, ◌≤◌, Bool, true, false, ◌&&◌, List, [], length, Option, Some, None, sym, ap, ◌∙◌, ◌==◌, ⊎_elim, leb, eqb-true, leb-true, inl, inr, arith}
+-- What was shipped, by the marks, and what never was.
+use Rattle.std.proofs.Common.{◌≡◌, ℕ, suc, ◌+◌, ◌-◌, ◌<◌, ◌≤◌, Bool, true, false, ◌&&◌, List, [], ◌∷◌, length, get_or, Option, Some, None, refl, sym, ap, ◌∙◌, ◌==◌, ⊎_elim, leb, eqb-true, leb-true, inl, inr, arith}
+use Rattle.std.specs.List.{prefix_len}
 use Rattle.std.proofs.lemmas.Bool.{and_parts, false_from_ne_true, cases_lt}
 use Rattle.std.proofs.lemmas.Bool.Decides.{nat_tests}
 use Rattle.std.proofs.lemmas.List.Folds.{Any-from_list_any}
@@ -8,13 +9,30 @@ use Rattle.anti_kind.specs.declared.call.Call.TheVariants.{Ship}
 use Rattle.anti_kind.specs.declared.call.Entry.{Entry}
 use Rattle.anti_kind.specs.declared.call.Row.{Row}
 use Rattle.anti_kind.specs.declared.call.StoreKind.TheVariants.{Kv as kv}
-use Rattle.anti_kind.specs.Stored.{rows, row_of, is_shipped}
+use Rattle.anti_kind.specs.Stored.{rows, row_of, is_shipped, is_whole, shows_of, upto_of}
 use Rattle.anti_kind.specs.Store.{absent, has_part, is_replica, can_ship, store_ready}
-use Rattle.anti_kind.proofs.Rows.{row_of_at, row_of_none}
+use Rattle.anti_kind.proofs.Rows.{version_at, row_of_at, row_of_none}
 use Rattle.anti_kind.proofs.Shipped.{shipped_sound, version_shipped, version_within}
 use Rattle.anti_kv.specs.declared.state.Kv.{Kv}
+use Rattle.anti_kv.specs.declared.state.Kept.{Kept}
 use Rattle.anti_kv.specs.KvStates.{At, its_store}
 use Rattle.anti_kv.proofs.Reading.{count_is}
+use Rattle.anti_kv.proofs.Shows.{greatest_none, whole_one}
+
+-- tests that agree at each place pass alike
+prefix_alike : {X Y : Type 0} (p : X → Bool) (q : Y → Bool) (xs : List X) (ys : List Y) → length xs ≡ length ys
+    → ((i : ℕ) (d : X) (e : Y) → i < length xs → p (get_or xs i d) ≡ q (get_or ys i e)) → prefix_len p xs ≡ prefix_len q ys
+prefix_alike p q [] [] long same = refl
+prefix_alike p q [] (y ∷ ys) long same = absurd (omega arith)
+prefix_alike p q (x ∷ xs) [] long same = absurd (omega arith)
+prefix_alike p q (x ∷ xs) (y ∷ ys) long same =
+    let first : p x ≡ q y = same 0 x y (omega arith) in
+    let rest : prefix_len p xs ≡ prefix_len q ys = prefix_alike p q xs ys (omega arith) (λ i d e short. same (suc i) d e (omega arith)) in
+    rw (first, rest) refl
+
+prefix_none : {X : Type 0} (p : X → Bool) (xs : List X) → ((x : X) → p x ≡ false) → prefix_len p xs ≡ 0
+prefix_none p [] none = refl
+prefix_none p (x ∷ xs) none = rw (none x) refl
 
 one_part : (o : Option Row) (p : ℕ) → has_part kv o p ≡ true → p ≡ 1
 one_part None p has = absurd (cc)
@@ -41,12 +59,34 @@ module _ (m : Kv) (h : List Entry) (at : At m h) where
   no_such_region g v p above =
       false_from_ne_true (is_shipped h g v p) (λ was. omega (arith, replica_below m h at g (shipped_sound (its_store m) h at.legal g v p was).replica))
 
+  nothing_whole : (g : ℕ) → 8 ≤ g → (r : Row) → is_whole kv h g r ≡ false
+  nothing_whole g above r = whole_one h g r ∙ no_such_region g r.version 1 above
+
   pub no_version : (g v p : ℕ) → v ≡ 0 → is_shipped h g v p ≡ false
   no_version g v p zero = false_from_ne_true (is_shipped h g v p) (λ was. omega (arith, (version_shipped (its_store m) h at.legal g v p was).0))
 
   pub no_version_yet : (g v p : ℕ) → length m.kept.items < v → is_shipped h g v p ≡ false
   no_version_yet g v p above =
       false_from_ne_true (is_shipped h g v p) (λ was. omega (arith, count_is m h at.state, (version_shipped (its_store m) h at.legal g v p was).1))
+
+  -- the mark of a kept row
+  pub mark_is : (g v p : ℕ) (kept : Kept) → p ≡ 1 → g < 8 → 1 ≤ v → v ≤ length m.kept.items → kept ≡ get_or m.kept.items (v - 1) kept → get_or kept.moved g false ≡ is_shipped h g v p
+  mark_is g v p kept one low first within is =
+      ap (λ (k : Kept). get_or k.moved g false) is ∙ at.state.moved (v - 1) g kept (omega arith) low
+      ∙ ap (λ (n : ℕ). is_shipped h g n 1) (omega arith) ∙ ap (is_shipped h g v) (sym one)
+
+  -- a region that is none shows nothing, and has nothing
+  pub shows_nothing : (g : ℕ) (k : List ℕ) → 8 ≤ g → 0 ≡ shows_of kv h g k
+  shows_nothing g k above = sym (greatest_none (is_whole kv h g) k (rows h) (nothing_whole g above))
+
+  pub upto_nothing : (g : ℕ) → 8 ≤ g → 0 ≡ upto_of kv h g
+  upto_nothing g above = sym (prefix_none (is_whole kv h g) (rows h) (nothing_whole g above))
+
+  -- how far a region has everything, by the marks
+  pub upto_is : (g : ℕ) → g < 8 → prefix_len (λ (k : Kept). get_or k.moved g false) m.kept.items ≡ upto_of kv h g
+  upto_is g low = prefix_alike (λ (k : Kept). get_or k.moved g false) (is_whole kv h g) m.kept.items (rows h) (sym (count_is m h at.state)) (λ i d r short.
+      let version : (get_or (rows h) i r).version ≡ i + 1 = version_at (its_store m) h at.legal i r (omega (arith, count_is m h at.state)) in
+      at.state.moved i g d short low ∙ ap (λ (v : ℕ). is_shipped h g v 1) (sym version) ∙ sym (whole_one h g (get_or (rows h) i r)))
 
 -- The one part of a version that was written.
 module _ (m : Kv) (h : List Entry) (at : At m h) where

@@ -1,5 +1,6 @@
 -- A store that made one call more stands for the history with that call.
-use Rattle.std.proofs.Common.{◌≡◌, ◌≢◌, ℕ, ◌+◌, ◌-◌, ◌*◌, ◌<◌, ◌≤◌, Bool, true, false, ◌&&◌, ◌||◌, List, [], ◌∷◌, ◌++◌, length, map, get_or, set, replicate, refl, sym, ap, subst, ◌∙◌, ⊎_elim, ◌==◌, eq-eqb, ne_eqb, arith}
+use Rattle.std.proofs.Common.{◌≡◌, ◌≢◌, ℕ, ◌+◌, ◌-◌, ◌*◌, ◌<◌, ◌≤◌, max, Bool, true, false, cond, ◌&&◌, ◌||◌, List, [], ◌∷◌, ◌++◌, length, map, get_or, set, replicate, refl, sym, ap, subst, ◌∙◌, ⊎_elim, ◌==◌, eq-eqb, ne_eqb, arith}
+use Rattle.std.specs.Prelude.{bytes_eq}
 use Rattle.std.proofs.lemmas.Bool.{cases_lt, cases_eq}
 use Rattle.std.proofs.lemmas.List.{map_push, length_push, get_or_append_left, get_or_push, get_or-replicate, map-set, set-get_or, get_or-set_same, get_or-set_other, length-set, get_or_default}
 use Rattle.anti_ids.specs.declared.id.WriteId.{WriteId}
@@ -8,33 +9,21 @@ use Rattle.anti_kind.specs.declared.call.Call.{Call}
 use Rattle.anti_kind.specs.declared.call.Call.TheVariants.{Write, Ship, Read, Scan, Poll}
 use Rattle.anti_kind.specs.declared.call.Entry.{Entry}
 use Rattle.anti_kind.specs.declared.call.Row.{Row}
-use Rattle.anti_kind.specs.Stored.{rows, is_shipped}
+use Rattle.anti_kind.specs.declared.call.StoreKind.TheVariants.{Kv as kv}
+use Rattle.anti_kind.specs.Stored.{rows, is_shipped, shows_of}
 use Rattle.anti_kind.specs.Store.{absent, store_ready, store_due, owed_shipments}
 use Rattle.anti_kind.specs.Objects.{Start, Follows, MayMake, ready, fits, weight, held, owed, need, last_stamp}
 use Rattle.anti_kind.proofs.Histories.{held_more, below_last, fits_number}
-use Rattle.anti_kind.proofs.Rows.{is_write, is_shipping, new_row, rows_write, rows_other, shipped_other, shipped_ship}
+use Rattle.anti_kind.proofs.Rows.{is_write, is_shipping, new_row, rows_write, rows_other, shipped_other, shipped_ship, or_false}
 use Rattle.anti_kind.proofs.Units.{owed_write, owed_ship, owed_other}
 use Rattle.anti_kv.specs.declared.state.Kv.{Kv}
 use Rattle.anti_kv.specs.declared.state.Kept.{Kept}
+use Rattle.anti_kv.specs.declared.newest.Newest.{Newest}
+use Rattle.anti_kv.specs.Newest.{newest_at, HasPlace, MakesPlace}
 use Rattle.anti_kv.specs.KvStates.{KvStands, At, Keeps, Marks, marked, its_store, its_start, kv_start}
-use Rattle.anti_kv.proofs.Reading.{count_is}
+use Rattle.anti_kv.proofs.Reading.{row_is, count_is}
 use Rattle.anti_kv.proofs.Shipping.{no_version_yet, ready_part}
-
-and_true : (b : Bool) → (b && true) ≡ b
-and_true true = refl
-and_true false = refl
-
-and_false : (b : Bool) → (b && false) ≡ false
-and_false true = refl
-and_false false = refl
-
-or_false : (b : Bool) → (b || false) ≡ b
-or_false true = refl
-or_false false = refl
-
-or_true : (b : Bool) → true ≡ (b || true)
-or_true true = refl
-or_true false = refl
+use Rattle.anti_kv.proofs.Shows.{and_true, and_false, or_true, shows_write, shows_ship, shows_other}
 
 -- What the relation says of the marks of the kept rows.
 abbrev MarksAre : List Entry → List Kept → Type 0
@@ -42,6 +31,9 @@ MarksAre h xs = (i g : ℕ) (d : Kept) → i < length xs → g < 8 → get_or (g
 
 abbrev AllSized : List Kept → Type 0
 AllSized xs = (i : ℕ) (d : Kept) → i < length xs → length (get_or xs i d).moved ≡ 8
+
+abbrev AllPlaced : Newest → List Kept → Type 0
+AllPlaced newest xs = (i : ℕ) (d : Kept) → i < length xs → HasPlace newest (get_or xs i d).row.key
 
 same_start : (m n : Kv) → n.store ≡ m.store → n.regions ≡ m.regions → its_start n ≡ its_start m
 same_start m n a b = ap (λ (number : ℕ). kv_start number n.regions.items) a ∙ ap (λ (v : _). kv_start m.store v.items) b
@@ -93,11 +85,23 @@ module _ (m n : Kv) (h : List Entry) (e : Entry) (key value : List ℕ) (lineage
       ap (λ (k : Kept). length k.moved) (get_or_push m.kept.items one_kept d i here))
       (cases_lt i (length m.kept.items))
 
+  wrote_placed : AllPlaced n.newest (m.kept.items ++ one_kept ∷ [])
+  wrote_placed i d short =
+      ⊎_elim (λ (before : i < length m.kept.items).
+      subst (λ (k : Kept). HasPlace n.newest k.row.key) (sym (get_or_append_left m.kept.items (one_kept ∷ []) d i before))
+      (keeps.makes.places (get_or m.kept.items i d).row.key (at.state.placed i d before)))
+      (λ (last : length m.kept.items ≤ i).
+      let here : length m.kept.items ≡ i = omega (arith, length_push m.kept.items one_kept) in
+      subst (λ (k : Kept). HasPlace n.newest k.row.key) (sym (get_or_push m.kept.items one_kept d i here)) keeps.place)
+      (cases_lt i (length m.kept.items))
+
   pub stands_write : KvStands n (h ++ e ∷ [])
   stands_write = record {
     rows_are = wrote_rows;
     moved = subst (MarksAre (h ++ e ∷ [])) (sym keeps.kept_is) wrote_marks;
     sized = subst AllSized (sym keeps.kept_is) wrote_sized;
+    shows = λ g k low. keeps.makes.same g k ∙ at.state.shows g k low ∙ sym (shows_write (its_store m) h e at.legal f g k key value lineage is);
+    placed = subst (AllPlaced n.newest) (sym keeps.kept_is) wrote_placed;
     held_is = omega (arith, keeps.held_is, at.state.held_is, weighs_due m h e (Write key value lineage) f is refl);
     owed_is =
         let more : owed_shipments (its_store m) (h ++ e ∷ []) ≡ owed_shipments (its_store m) h + length m.regions.items * 1 = owed_write (its_store m) h e key value lineage at.legal f is in
@@ -149,7 +153,7 @@ module _ (m n : Kv) (h : List Entry) (e : Entry) (region version part : ℕ) (at
       let yes' : (region == g) ≡ true = eq-eqb region g (sym same) in
       ap (λ (x : ℕ). get_or (set (was d).moved region true) x false) same
       ∙ get_or-set_same (was d).moved region true false (omega (arith, its_part.0))
-      ∙ sym (shipped_now g i ∙ ap (λ (b : Bool). is_shipped h g (i + 1) 1 || (b && (version == i + 1))) yes' ∙ ap (λ (b : Bool). is_shipped h g (i + 1) 1 || b) number ∙ sym (or_true (is_shipped h g (i + 1) 1))))
+      ∙ sym (shipped_now g i ∙ ap (λ (b : Bool). is_shipped h g (i + 1) 1 || (b && (version == i + 1))) yes' ∙ ap (λ (b : Bool). is_shipped h g (i + 1) 1 || b) number ∙ or_true (is_shipped h g (i + 1) 1)))
       (λ (other : g ≢ region).
       let no : (region == g) ≡ false = ne_eqb region g (λ x. other (sym x)) in
       get_or-set_other (was d).moved region g true false other
@@ -183,6 +187,28 @@ module _ (m n : Kv) (h : List Entry) (e : Entry) (region version part : ℕ) (at
       ap (λ (x : Kept). length x.moved) (get_or-set_other m.kept.items (version - 1) i k d other) ∙ at.state.sized i d within)
       (cases_eq i (version - 1))
 
+  -- the version now stands beside its key
+  shipped_shows : (g : ℕ) (k : List ℕ) → g < 8 → newest_at n.newest g k ≡ shows_of kv (h ++ e ∷ []) g k
+  shipped_shows g k low =
+      let short : version - 1 < length (rows h) = omega (arith, here, count_is m h at.state) in
+      let place : version ≡ version - 1 + 1 = omega (arith, its_part.1) in
+      (marks.brings no_kept).now g k
+      ∙ ap (λ (v : ℕ). max (cond ((region == g) && bytes_eq (was no_kept).row.key k) version 0) v) (at.state.shows g k low)
+      ∙ ap (λ (r : Row). max (cond ((region == g) && bytes_eq r.key k) version 0) (shows_of kv h g k)) (sym (row_is m h (version - 1) no_kept (absent []) at.state here))
+      ∙ sym (shows_ship (its_store m) h e at.legal f g k region version part is its_part.3 (version - 1) (absent []) place short)
+
+  shipped_placed : (k : Kept) → ((d : Kept) → k ≡ marked region (was d)) → AllPlaced n.newest (set m.kept.items (version - 1) k)
+  shipped_placed k k_is i d short =
+      ⊎_elim (λ (same : i ≡ version - 1).
+      let is : get_or (set m.kept.items (version - 1) k) i d ≡ marked region (was d) =
+      ap (λ (x : ℕ). get_or (set m.kept.items (version - 1) k) x d) same ∙ get_or-set_same m.kept.items (version - 1) k d here ∙ k_is d in
+      subst (λ (x : Kept). HasPlace n.newest x.row.key) (sym is) ((marks.brings no_kept).places (was d).row.key (at.state.placed (version - 1) d here)))
+      (λ (other : i ≢ version - 1).
+      let within : i < length m.kept.items = omega (arith, length-set m.kept.items (version - 1) k) in
+      subst (λ (x : Kept). HasPlace n.newest x.row.key) (sym (get_or-set_other m.kept.items (version - 1) i k d other))
+      ((marks.brings no_kept).places (get_or m.kept.items i d).row.key (at.state.placed i d within)))
+      (cases_eq i (version - 1))
+
   default_free : (d : Kept) → marked region (was no_kept) ≡ marked region (was d)
   default_free d = ap (marked region) (get_or_default m.kept.items (version - 1) no_kept d here)
 
@@ -191,6 +217,8 @@ module _ (m n : Kv) (h : List Entry) (e : Entry) (region version part : ℕ) (at
     rows_are = shipped_rows;
     moved = subst (MarksAre (h ++ e ∷ [])) (sym (marks.kept_is no_kept)) (shipped_marks (marked region (was no_kept)) default_free);
     sized = subst AllSized (sym (marks.kept_is no_kept)) (shipped_sized (marked region (was no_kept)) default_free);
+    shows = shipped_shows;
+    placed = subst (AllPlaced n.newest) (sym (marks.kept_is no_kept)) (shipped_placed (marked region (was no_kept)) default_free);
     held_is = omega (arith, marks.held_is, at.state.held_is, weighs_due m h e (Ship region version part) f is refl);
     owed_is =
         let less : owed_shipments (its_store m) h ≡ owed_shipments (its_store m) (h ++ e ∷ []) + 1 = owed_ship (its_store m) h e region version part at.sane at.legal f is in
@@ -224,12 +252,29 @@ stands_other m n h e at f writes ships is = subst (λ (x : Kv). KvStands x (h ++
   rows_are = at.state.rows_are ∙ sym (rows_other h e writes);
   moved = λ i g d short low. at.state.moved i g d short low ∙ sym (shipped_other h e g (i + 1) 1 ships);
   sized = at.state.sized;
+  shows = λ g k low. at.state.shows g k low ∙ sym (shows_other (its_store m) h e at.legal f g k writes ships);
+  placed = at.state.placed;
   held_is = omega (arith, at.state.held_is, weighs_due m h e e.call f refl (weight_other m h e.call f.is_ready writes ships));
   owed_is =
       let same : owed_shipments (its_store m) (h ++ e ∷ []) ≡ owed_shipments (its_store m) h = owed_other (its_store m) h e writes ships in
       let was : m.owed ≡ owed_shipments (its_store m) h + 0 = at.state.owed_is in
       omega arith;
   replicas_are = at.state.replicas_are;
+})
+
+-- A write that found no memory: the key may have got its place.
+
+pub stands_with_place : (m n : Kv) (h : List Entry) → KvStands m h → MakesPlace m.newest n.newest → n.kept.items ≡ m.kept.items
+    → n ≡ record m { newest = n.newest; kept = n.kept } → KvStands n h
+stands_with_place m n h state makes kept is = subst (λ (x : Kv). KvStands x h) (sym is) (record {
+  rows_are = ap (map (λ (k : Kept). k.row)) kept ∙ state.rows_are;
+  moved = subst (MarksAre h) (sym kept) state.moved;
+  sized = subst AllSized (sym kept) state.sized;
+  shows = λ g k low. makes.same g k ∙ state.shows g k low;
+  placed = subst (AllPlaced n.newest) (sym kept) (λ i d short. makes.places (get_or m.kept.items i d).row.key (state.placed i d short));
+  held_is = state.held_is;
+  owed_is = state.owed_is;
+  replicas_are = state.replicas_are;
 })
 
 -- What a shipment that may be made finds.
@@ -239,6 +284,7 @@ pub record Shippable (m : Kv) (g v : ℕ) : Type 0 where
   pub first : 1 ≤ v
   pub kept : v ≤ length m.kept.items
   pub sized : AllSized m.kept.items
+  pub placed : (d : Kept) → HasPlace m.newest (get_or m.kept.items (v - 1) d).row.key
   pub owed : 1 ≤ m.owed
   pub held : m.held < 4096
 
@@ -265,6 +311,7 @@ shippable m c g v p is may =
       first = part.1;
       kept = part.2;
       sized = at.state.sized;
+      placed = λ d. at.state.placed (v - 1) d (omega (arith, part.1, part.2));
       owed = omega arith;
       held = omega (arith, at.state.held_is);
     }

@@ -1,1 +1,3 @@
+pub mod KvLaws
 pub mod KvStates
+pub mod Newest

@@ -1,6 +1,6 @@
 use crate::state::Kv;
 use anti_ids::NoMemory;
-use anti_kind::{Call, Machine, Reply};
+use anti_kind::{Call, MOST_REGIONS, Machine, Reply};
 
 /// The table of a kv store: `Write`, `Ship`, `Again`, `Look` and `Read`. No other call is ever ready.
 impl Machine for Kv {
@@ -43,6 +43,16 @@ impl Machine for Kv {
 
     fn owed(&self) -> u32 {
         self.owed
+    }
+
+    fn upto(&self, region: u32) -> u64 {
+        if region as usize >= MOST_REGIONS {
+            return 0;
+        }
+        self.kept
+            .iter()
+            .take_while(|kept| kept.moved[region as usize])
+            .count() as u64
     }
 
     fn due(&self, c: &Call) -> Result<Reply, NoMemory> {

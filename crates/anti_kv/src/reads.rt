@@ -1,15 +1,14 @@
-ghost use Rattle.std.specs.Prelude.{◌≡◌, ℕ, ◌<◌, ◌≤◌, ◌==◌, ◌&&◌, bytes_eq, List, [], ◌∷◌, length, IfOk, OnOk};
+ghost use Rattle.std.specs.Prelude.{◌≡◌, ℕ, ◌<◌, ◌≤◌, ◌==◌, List, [], ◌∷◌, length, IfOk, OnOk};
 ghost use Rattle.std.specs.List.{list_all};
 ghost use Rattle.anti_ids.specs.declared.id.WriteId.{WriteId};
 ghost use Rattle.anti_ids.specs.Ids.{with_id};
 ghost use Rattle.anti_ids.specs.List.{plain};
 ghost use Rattle.anti_kind.specs.declared.call.Entry.{Entry};
-ghost use Rattle.anti_kind.specs.Stored.{is_whole};
 ghost use Rattle.anti_kind.specs.Store.{is_visible, is_written, missing, unwritten, can_look, shown_row};
 
 use crate::state::Kv;
 use anti_ids::{Copies, Lineage, LineageRefused, MOST_IDS, Name, NoMemory, Value, WriteId};
-use anti_kind::{Row, Rows, StoreKind};
+use anti_kind::{MOST_REGIONS, Row, Rows};
 
 // Adds an id to a lineage that has room for it.
 fn add(ids: &mut Lineage, id: WriteId) -> Result<(), NoMemory>
@@ -27,27 +26,15 @@ fn add(ids: &mut Lineage, id: WriteId) -> Result<(), NoMemory>
 impl Kv {
     ghost use Rattle.anti_kv.specs.KvStates.{At, its_store};
 
-    // Whether a row is one of the key, and its version came to the region.
-    fn came(&self, region: u32, key: &Name, row: &Row) -> bool
-        ensures { (h : List Entry) → At self.now h → result ≡ (bytes_eq row.now.key key.now && is_whole StoreKind.Kv h region row.now) }
-    {
-        if row.key != *key {
-            return false;
-        }
-        self.was_shipped(region, row.version, 1)
-    }
-
     // The version that the region's replica shows for the key, 0 where it shows none.
+    #[tactic(auto, using(crate::proofs::Shipping::shows_nothing))]
     pub(crate) fn shown_version(&self, region: u32, key: &Name) -> u64
         ensures { (h : List Entry) → At self.now h → result ≡ (its_store self.now).shows h region key.now }
     {
-        let mut best = 0;
-        for kept in &self.kept {
-            if self.came(region, key, &kept.row) {
-                best = kept.row.version.max(best);
-            }
+        if region as usize >= MOST_REGIONS {
+            return 0;
         }
-        best
+        self.newest.version(region, key)
     }
 
     // Whether the region's replica shows the id's version of its key, or a later one.

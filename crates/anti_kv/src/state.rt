@@ -1,9 +1,10 @@
-ghost use Rattle.std.specs.Prelude.{◌≡◌, ℕ, ◌+◌, ◌<◌, ◌≤◌, List, [], length, IfOk, OnOk, OnErr, slice_index_or};
+ghost use Rattle.std.specs.Prelude.{◌≡◌, ℕ, ◌+◌, ◌-◌, ◌<◌, ◌≤◌, List, [], length, IfOk, OnOk, OnErr, slice_index_or};
 ghost use Rattle.anti_kind.specs.declared.call.Entry.{Entry};
 ghost use Rattle.anti_kind.specs.Stored.{is_shipped, row_of};
 ghost use Rattle.anti_kind.specs.Store.{is_replica, has_part, can_ship};
 ghost use Rattle.anti_kind.specs.Objects.{IsStart};
 
+use crate::newest::Newest;
 use anti_ids::{Copies, Lineage, Name, NoMemory, Value};
 use anti_kind::{MOST_REGIONS, MOST_UNITS, Row, StoreKind};
 use std::alloc::Global;
@@ -15,13 +16,15 @@ pub(crate) struct Kept {
     pub(crate) moved: [bool; MOST_REGIONS],
 }
 
-/// A store of the kind kv. The write of version v stands at the index v - 1 of what it keeps.
+/// A store of the kind kv. The write of version v stands at the index v - 1 of what it keeps. What the replicas show stands beside
+/// each key, so that no look and no read goes over the writes.
 #[derive(Drop)]
 pub struct Kv {
     pub(crate) store: u32,
     pub(crate) regions: Vec<u32>,
     pub(crate) replicas: u8,
     pub(crate) kept: Vec<Kept>,
+    pub(crate) newest: Newest,
     pub(crate) held: u32,
     pub(crate) owed: u32,
     pub(crate) alloc: Global,
@@ -30,6 +33,7 @@ pub struct Kv {
 impl Kv {
     ghost use Rattle.anti_kv.specs.declared.state.Kept.{Kept};
     ghost use Rattle.anti_kv.specs.KvStates.{KvStands, At, Keeps, Marks, kv_start, its_start, its_store};
+    ghost use Rattle.anti_kv.specs.Newest.{HasPlace};
 
     /// A store with this number, of which no call was made yet. It has a replica in each of these regions: one to eight, all
     /// different, each below 8. It is refused only for want of memory.
@@ -44,6 +48,7 @@ impl Kv {
                 replicas: regions.len() as u8,
                 regions,
                 kept: Vec::new(alloc),
+                newest: Newest::new(alloc),
                 held: 0,
                 owed: 0,
                 alloc,
@@ -60,7 +65,7 @@ impl Kv {
     }
 
     // Whether the part of the version was brought to the region.
-    #[tactic(auto, using(crate::proofs::Shipping::no_such_part, crate::proofs::Shipping::no_such_region, crate::proofs::Shipping::no_version, crate::proofs::Shipping::no_version_yet))]
+    #[tactic(auto, using(crate::proofs::Shipping::no_such_part, crate::proofs::Shipping::no_such_region, crate::proofs::Shipping::no_version, crate::proofs::Shipping::no_version_yet, crate::proofs::Shipping::mark_is))]
     pub(crate) fn was_shipped(&self, region: u32, version: u64, part: u32) -> bool
         ensures { (h : List Entry) → At self.now h → result ≡ is_shipped h region version part }
     {
@@ -125,6 +130,7 @@ impl Kv {
             value: value.copy(self.alloc)?,
             lineage: lineage.copy(self.alloc)?,
         };
+        self.newest.make_place(key)?;
         let kept = Kept {
             row,
             moved: [false; MOST_REGIONS],
@@ -137,7 +143,7 @@ impl Kv {
         Ok(version)
     }
 
-    // Marks that the version came to the region. Its shipment is owed no more.
+    // Marks that the version came to the region, which shows it unless a later one came before. Its shipment is owed no more.
     pub(crate) fn mark(&mut self, region: u32, version: u64)
         requires region { region < MOST_REGIONS }
         requires first { 1 ≤ version }
@@ -145,10 +151,12 @@ impl Kv {
         requires sized { (i : ℕ) (d : Kept) → i < length self.old.kept.items → length (slice_index_or self.old.kept.items i d).moved ≡ MOST_REGIONS }
         requires owed { 1 ≤ self.old.owed }
         requires held { self.old.held < MOST_UNITS }
+        requires placed { (d : Kept) → HasPlace self.old.newest (slice_index_or self.old.kept.items (version - 1) d).row.key }
         ensures { Marks self.old self.new region version }
     {
         let kept = &mut self.kept[(version - 1) as usize];
         kept.moved[region as usize] = true;
+        self.newest.bring(region, &kept.row.key, version);
         self.held += 1;
         self.owed -= 1;
     }

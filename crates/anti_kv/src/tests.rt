@@ -1,9 +1,9 @@
-ghost use Rattle.std.specs.Prelude.{List};
+ghost use Rattle.std.specs.Prelude.{◌≤◌, List};
 ghost use Rattle.anti_kind.specs.declared.call.Entry.{Entry};
 ghost use Rattle.anti_kv.specs.KvStates.{At};
 
 use crate::state::Kv;
-use anti_ids::{Copies, Lineage, Name, NoMemory, Value};
+use anti_ids::{Copies, Lineage, Name, NoMemory, Value, WriteId};
 use anti_kind::{Call, MOST_UNITS, Machine, Reply};
 use std::alloc::Global;
 use std::test::Fail;
@@ -59,6 +59,30 @@ fn shown(kv: &mut Kv, key: Name, text: &[u8]) -> Result<Option<(u64, bool)>, NoM
     }
 }
 
+// Looks for the version of the key in region 0, and tells how many ids are missing. The look may have to wait.
+fn missing(kv: &mut Kv, alloc: Global, key: Name, version: u64) -> Result<Option<usize>, Fail>
+    requires first { 1 ≤ version }
+    requires stands { (h : List Entry) × At kv.old h }
+    ensures { (h : List Entry) × At kv.new h }
+{
+    let mut ids = Lineage::root(alloc);
+    let id = WriteId {
+        store: 0,
+        key,
+        version,
+    };
+    ids.append(id).ok().ok_or("no lineage")?;
+    let look = Call::Look {
+        region: 0,
+        ids,
+        dry: false,
+    };
+    match make(kv, &look)? {
+        Some(Reply::Missing { missing, .. }) => Ok(Some(missing.as_slice().len())),
+        _ => Ok(None),
+    }
+}
+
 fn moved(reply: Option<Reply>) -> bool {
     matches!(reply, Some(Reply::Moved))
 }
@@ -70,6 +94,7 @@ fn a_late_shipment_takes_nothing_back(rt: HostRuntime) -> Result<(), Fail> {
     let mut kv = Kv::new(alloc, 0, &[0])?;
     assert_eq!(rt; write(&mut kv, alloc, key, b"a")?, Some(1));
     assert_eq!(rt; write(&mut kv, alloc, key, b"b")?, Some(2));
+    assert_eq!(rt; missing(&mut kv, alloc, key, 1)?, None);
     assert!(rt;
         moved(make(
             &mut kv,
@@ -81,6 +106,8 @@ fn a_late_shipment_takes_nothing_back(rt: HostRuntime) -> Result<(), Fail> {
         )?)
     );
     assert_eq!(rt; shown(&mut kv, key, b"b")?, Some((2, true)));
+    assert_eq!(rt; missing(&mut kv, alloc, key, 1)?, Some(0));
+    assert_eq!(rt; kv.upto(0), 0);
     assert!(rt;
         moved(make(
             &mut kv,
@@ -103,7 +130,8 @@ fn a_late_shipment_takes_nothing_back(rt: HostRuntime) -> Result<(), Fail> {
         )?)
     );
     assert_eq!(rt; shown(&mut kv, key, b"b")?, Some((2, true)));
-    assert_eq!(rt; kv.held(), 8);
+    assert_eq!(rt; kv.upto(0), 2);
+    assert_eq!(rt; kv.held(), 9);
     assert_eq!(rt; kv.owed(), 0);
     Ok(())
 }

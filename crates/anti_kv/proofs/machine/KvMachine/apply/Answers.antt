@@ -11,6 +11,7 @@ mark-requires c =
       first = may.first;
       kept = may.kept;
       sized = may.sized;
+      placed = may.placed;
       owed = may.owed;
       held = may.held;
     }

@@ -1,0 +1,99 @@
+-- The laws of a store's kind: what can be relied on at every store, whatever its table says and whatever its regions show.
+use Rattle.std.specs.Prelude.{◌≡◌, ℕ, ◌≤◌, ◌⊎◌, ◌↔◌, Bool, true, false, List, [], ◌∷◌, ◌++◌, length, take, ◌==◌, bytes_eq, All, Contains}
+use Rattle.anti_ids.specs.declared.id.WriteId.{WriteId}
+use Rattle.anti_kind.specs.declared.call.Call.{Call}
+use Rattle.anti_kind.specs.declared.call.Call.TheVariants.{Read, Scan, Poll, Look}
+use Rattle.anti_kind.specs.declared.call.Reply.{Reply}
+use Rattle.anti_kind.specs.declared.call.Reply.TheVariants.{Shown, Missing}
+use Rattle.anti_kind.specs.declared.call.Entry.{Entry}
+use Rattle.anti_kind.specs.declared.call.Row.{Row}
+use Rattle.anti_kind.specs.Stored.{stored}
+use Rattle.anti_kind.specs.Store.{Store, is_visible, is_written, shown_row}
+use Rattle.anti_kind.specs.Objects.{store, ready, due, IsLegal}
+
+-- What a region shows for a key never falls as a legal history grows.
+abbrev pub NeverFalls : Store → Type 0
+NeverFalls s = (h rest : List Entry) → IsLegal (store s) (h ++ rest) → (g : ℕ) (k : List ℕ) → s.shows h g k ≤ s.shows (h ++ rest) g k
+
+-- the id of a version of a key
+abbrev pub id_of : Store → List ℕ → ℕ → WriteId
+id_of s k version = record { store = s.number; key = k; version = version }
+
+-- What a region shows for a key is 0 or the version of a write of that history with that key.
+abbrev pub ShowsWritten : Store → Type 0
+ShowsWritten s = (h : List Entry) → IsLegal (store s) h → (g : ℕ) (k : List ℕ) → (s.shows h g k ≡ 0) ⊎ (is_written h (id_of s k (s.shows h g k)) ≡ true)
+
+-- Looks.
+
+-- the ids that a look's reply names as missing
+abbrev pub named_missing : Reply → List WriteId
+named_missing (Missing missing unwritten) = missing
+named_missing _ = []
+
+-- A look names as missing exactly those of its ids that are not visible at its region.
+abbrev pub LooksRight : Store → Type 0
+LooksRight s =
+    (h : List Entry) → IsLegal (store s) h → (g : ℕ) (ids : List WriteId) (dry : Bool) (id : WriteId)
+    → Contains (named_missing (due (store s) h (Look g ids dry))) id ↔ (Contains ids id × (is_visible s h g id ≡ false))
+
+-- Reads.
+
+-- whether a call is a read at the region g: of one key, of one cell, or of all keys with a prefix
+abbrev pub is_read_at : ℕ → Call → Bool
+is_read_at g (Read region key) = region == g
+is_read_at g (Scan region prefix) = region == g
+is_read_at g (Poll region key) = region == g
+is_read_at g _ = false
+
+-- whether a read speaks of the key k: a scan speaks of every key with its prefix, the others of the key that they name
+abbrev pub speaks_of : List ℕ → Call → Bool
+speaks_of k (Read region key) = bytes_eq key k
+speaks_of k (Scan region prefix) = bytes_eq prefix (take (length prefix) k)
+speaks_of k (Poll region key) = bytes_eq key k
+speaks_of k _ = false
+
+-- the rows that a read's reply shows
+abbrev pub shown : Reply → List Row
+shown (Shown list) = list.items
+shown _ = []
+
+-- c is a read at the region g, and is ready after the legal history h
+pub record IsReading (s : Store) (h : List Entry) (g : ℕ) (c : Call) : Type 0 where
+  pub legal : IsLegal (store s) h
+  pub is_ready : ready (store s) h c ≡ true
+  pub is_read : is_read_at g c ≡ true
+
+-- What a read at the region g after h shows: of keys that it speaks of the row that the region shows, and where it has no row of
+-- such a key, or one of version 0, the region shows nothing for it.
+pub record IsRight (s : Store) (h : List Entry) (g : ℕ) (c : Call) (list : List Row) : Type 0 where
+  pub rows_are : All (λ r. (speaks_of r.key c ≡ true) × (r ≡ shown_row s h g r.key)) list
+  pub absent : (k : List ℕ) → speaks_of k c ≡ true → All (λ r. r.key ≡ k → r.version ≡ 0) list → s.shows h g k ≡ 0
+
+-- Each read shows what its region shows.
+abbrev pub ReadsRight : Store → Type 0
+ReadsRight s = (h : List Entry) (g : ℕ) (c : Call) → IsReading s h g c → IsRight s h g c (shown (due (store s) h c))
+
+-- of the store itself, the lineage that is kept beside an entry's write holds only ids that the history before had written
+abbrev pub IsOwn : Store → List Entry → Entry → Type 0
+IsOwn s h e = All (λ id. id.store ≡ s.number → is_written h id ≡ true) (stored e.call e.reply)
+
+-- and so do those of the further entries
+abbrev pub OwnAfter : Store → List Entry → List Entry → Type 0
+OwnAfter s h [] = Unit {0}
+OwnAfter s h (e ∷ rest) = IsOwn s h e × OwnAfter s (h ++ e ∷ []) rest
+
+-- of each key that the read speaks of, the region shows at least the version that the row's lineage has
+abbrev pub IsTogether : Store → List Entry → ℕ → Call → Row → Type 0
+IsTogether s h g c r = All (λ id. id.store ≡ s.number → speaks_of id.key c ≡ true → is_visible s h g id ≡ true) r.lineage
+
+-- A read that shows a row shows, of each key that it speaks of, at least what the row's lineage needs.
+abbrev pub ReadsTogether : Store → Type 0
+ReadsTogether s = (h : List Entry) (g : ℕ) (c : Call) → IsReading s h g c → OwnAfter s [] h → All (IsTogether s h g c) (shown (due (store s) h c))
+
+-- The laws together.
+pub record KeepsLaws (s : Store) : Type 0 where
+  pub never_falls : NeverFalls s
+  pub shows_written : ShowsWritten s
+  pub looks_right : LooksRight s
+  pub reads_right : ReadsRight s
+  pub reads_together : ReadsTogether s

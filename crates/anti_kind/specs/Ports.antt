@@ -1,0 +1,101 @@
+-- A port: some objects, and what a call on one of them does and answers.
+use Rattle.std.specs.Prelude.{◌≡◌, ℕ, ◌+◌, ◌-◌, ◌^◌, ◌<◌, ◌≤◌, ◌⊎◌, max, true, false, List, [], ◌∷◌, ◌++◌, Option, None, Some}
+use Rattle.anti_kind.specs.declared.limits.TheConstants.{MOST_UNITS}
+use Rattle.anti_kind.specs.declared.call.Actor.{Actor}
+use Rattle.anti_kind.specs.declared.call.Actor.TheVariants.{Process, Newborn}
+use Rattle.anti_kind.specs.declared.call.Call.{Call}
+use Rattle.anti_kind.specs.declared.call.Reply.{Reply}
+use Rattle.anti_kind.specs.declared.call.Entry.{Entry}
+use Rattle.anti_kind.specs.declared.port.Answer.{Answer}
+use Rattle.anti_kind.specs.declared.port.Answer.TheVariants.{Made, NotYet, Full, Spent, NoMemory}
+use Rattle.anti_kind.specs.Objects.{Start, ready, need, held, owed, fits, last_stamp, Follows, IsLegal}
+
+-- What a caller knows of an object: the history that was seen, the entries of the port's own calls, and a number that tells that a
+-- call came to the object.
+pub record View : Type 0 where
+  pub seen : List Entry
+  pub made : List Entry
+  pub visits : ℕ
+
+-- what is asked at an object: who asks, in which span, and the actor's last stamp
+pub record Asking : Type 0 where
+  pub object : ℕ
+  pub actor : Actor
+  pub span : ℕ
+  pub clock : ℕ
+  pub call : Call
+
+-- a process that the entry itself begins is named by the entry's object and place
+abbrev pub named : Actor → ℕ → ℕ → Actor
+named Newborn object place = Process (record { object = object; place = place })
+named actor object place = actor
+
+abbrev pub entry_of : Asking → ℕ → ℕ → ℕ → Reply → Entry
+entry_of q seat place stamp reply = record {
+  stamp = stamp;
+  object = q.object;
+  place = place;
+  seat = seat;
+  actor = named q.actor q.object place;
+  span = q.span;
+  call = q.call;
+  reply = reply;
+}
+
+-- the first list is the front of the second
+abbrev pub IsFront : List Entry → List Entry → Type 0
+IsFront front whole = (rest : List Entry) × (whole ≡ front ++ rest)
+
+-- a count rose; at its greatest it stands still
+abbrev pub Rises : ℕ → ℕ → Type 0
+Rises before now = (before < now) ⊎ (now ≡ 2 ^ 64 - 1)
+
+-- The entry was made behind the history h.
+pub record IsMade (start : Start) (clock : ℕ) (old new : View) (h : List Entry) (e : Entry) : Type 0 where
+  pub front : IsFront old.seen h
+  pub follows : Follows start h e
+  pub stamp : e.stamp ≡ max clock (last_stamp h) + 1
+  pub seen : new.seen ≡ h ++ e ∷ []
+  pub made : new.made ≡ old.made ++ e ∷ []
+  pub visits : Rises old.visits new.visits
+
+-- Nothing was made, and the object was asked.
+pub record IsRefused (old new : View) : Type 0 where
+  pub front : IsFront old.seen new.seen
+  pub made : new.made ≡ old.made
+  pub visits : Rises old.visits new.visits
+
+-- the call is ready, and the three numbers pass the units of an object
+pub record IsFull (start : Start) (h : List Entry) (c : Call) (held_units owed_units need_units : ℕ) : Type 0 where
+  pub is_ready : ready start h c ≡ true
+  pub held_is : held_units ≡ held h
+  pub owed_is : owed_units ≡ owed start h
+  pub need_is : need_units ≡ need start h c
+  pub past : MOST_UNITS < held_units + owed_units + need_units
+
+-- the call is ready and fits, and the greater of the two clocks is the last there is
+pub record IsSpent (start : Start) (h : List Entry) (q : Asking) (clock : ℕ) : Type 0 where
+  pub is_ready : ready start h q.call ≡ true
+  pub fits : fits start h q.call ≡ true
+  pub clock_is : clock ≡ max q.clock (last_stamp h)
+  pub last : clock ≡ 2 ^ 64 - 1
+
+-- There was no memory: nothing was made.
+pub record IsWanting (old new : View) : Type 0 where
+  pub front : IsFront old.seen new.seen
+  pub made : new.made ≡ old.made
+  pub visits : old.visits ≤ new.visits
+
+-- Each answer has its cause in the history that was seen with it.
+abbrev pub Answers : Start → Asking → View → View → Answer → Type 0
+Answers start q old new (Made place stamp reply) = (h : List Entry) × ((seat : ℕ) × IsMade start q.clock old new h (entry_of q seat place stamp reply))
+Answers start q old new NotYet = IsRefused old new × (ready start new.seen q.call ≡ false)
+Answers start q old new (Full a b n) = IsRefused old new × IsFull start new.seen q.call a b n
+Answers start q old new (Spent clock) = IsRefused old new × IsSpent start new.seen q clock
+Answers start q old new NoMemory = IsWanting old new
+
+-- The answer of a port to a call. An object that the port has not answers that the call is not ready. An object's history is legal
+-- before the call and after it.
+abbrev pub Answered : Option Start → Asking → View → View → Answer → Type 0
+Answered None q old new answer = (answer ≡ NotYet) × (new ≡ old)
+Answered (Some start) q old new answer = Answers start q old new answer × IsLegal start old.seen × IsLegal start new.seen

@@ -1,0 +1,49 @@
+// Laws of the tables, each proved once for all objects. The functions do nothing: what they say is in their contracts.
+ghost use Rattle.std.specs.Prelude.{◌≡◌, false};
+ghost use Rattle.anti_kind.specs.Stored.{shows_of};
+ghost use Rattle.anti_kind.specs.Store.{Store, is_table};
+ghost use Rattle.anti_kind.specs.Objects.{store};
+ghost use Rattle.anti_kind.specs.Laws.{LooksRight, KeepsLaws};
+ghost use Rattle.anti_kind.specs.Fulls.{ShowsStay, UnitsAddUp, UnitsSuffice, NeedNeverFalls, FullStaysFull, AskingStaysReady};
+
+/// Where the regions of a store show the greatest version that is whole there, what they show is what was written, and it never
+/// falls. This holds of all kinds.
+pub fn shows_stay()
+    ensures { (s : Store) → s.shows ≡ shows_of s.kind → ShowsStay (store s) }
+{}
+
+/// Looks are right at every store, whatever its regions show.
+pub fn looks_are_right()
+    ensures { (s : Store) → LooksRight s }
+{}
+
+/// The laws of a kind hold of each store that is no table and whose regions show the greatest version that is whole there.
+pub fn stores_keep_laws()
+    ensures { (s : Store) → s.shows ≡ shows_of s.kind → is_table s.kind ≡ false → KeepsLaws s }
+{}
+
+/// What is held and owed after an entry is what it was before and what the entry's call needed.
+pub fn units_add_up()
+    ensures { UnitsAddUp }
+{}
+
+/// What a legal history holds and owes never passes the units of an object.
+pub fn units_suffice()
+    ensures { UnitsSuffice }
+{}
+
+/// No call needs less after a longer legal history.
+pub fn need_never_falls()
+    ensures { NeedNeverFalls }
+{}
+
+/// What does not fit never fits after a longer legal history: a call that was ready and did not fit is never ready and fits later.
+pub fn full_stays_full()
+    ensures { FullStaysFull }
+{}
+
+/// A call by which a process needs units, and that is ready, stays ready after each longer legal history: a write, a read, a scan, a
+/// poll, the post of a call or send, a dry look, and a look that misses none.
+pub fn asking_stays_ready()
+    ensures { AskingStaysReady }
+{}
