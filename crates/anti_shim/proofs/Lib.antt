@@ -1,0 +1,10 @@
+pub mod Barring
+pub mod Drying
+pub mod Entering
+pub mod Going
+pub mod Looking
+pub mod Planning
+pub mod Sighting
+pub mod Stepping
+pub mod Turning
+pub mod Writing

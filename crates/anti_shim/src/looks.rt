@@ -1,0 +1,45 @@
+ghost use Rattle.std.specs.Prelude.{◌≡◌, IfOk};
+ghost use Rattle.anti_ids.specs.List.{plain};
+ghost use Rattle.anti_shim.specs.Plans.{plan};
+
+use anti_ids::{Copies, Lineage, List, NoMemory};
+use std::alloc::Global;
+
+/// A look that a barrier makes: the number of the store, and the ids that it asks for.
+#[derive(Drop)]
+pub struct PlannedLook {
+    pub store: u32,
+    pub ids: Lineage,
+}
+
+impl Copies for PlannedLook {
+    fn copy(&self, alloc: Global) -> Result<PlannedLook, NoMemory> {
+        let ids = self.ids.copy(alloc)?;
+        Ok(PlannedLook {
+            store: self.store,
+            ids,
+        })
+    }
+}
+
+/// The looks of a barrier, in the order in which they are made.
+pub type Looks = List<PlannedLook>;
+
+/// The looks that a barrier makes where the stores `here`, in ascending order, have a replica: one for each of them of which the
+/// lineage has ids, with just these ids.
+pub fn plan(alloc: Global, here: &[u32], lineage: &Lineage) -> Result<Looks, NoMemory>
+    ensures { IfOk result (λ looks. looks ≡ plain (plan here.now lineage.now)) }
+{
+    let mut looks = List::new(alloc);
+    for store in here {
+        let ids = lineage.ids_of(alloc, *store)?;
+        if ids.is_empty() {
+            continue;
+        }
+        let look = PlannedLook { store: *store, ids };
+        if looks.push(look).is_err() {
+            return Err(NoMemory);
+        }
+    }
+    Ok(looks)
+}
