@@ -8,14 +8,15 @@ use Rattle.std.proofs.lemmas.List.Kept.{AllPairs-cons}
 use Rattle.std.specs.Str.{bytes_eq}
 use Rattle.anti_kind.specs.declared.call.StoreKind.{StoreKind}
 use Rattle.anti_kind.specs.declared.call.StoreKind.TheVariants.{Kv, Table, Blob, Queue, Topic}
-use Rattle.anti_app.specs.Sound.{are_distinct, is_kv, is_sound_store, is_stored, fits_stores, sets_same, is_sound_handler, is_sound_service, is_sound_request, is_countable, is_part, is_sound_choice, is_sound}
+use Rattle.anti_app.specs.Sound.{are_distinct, is_kv, is_sound_store, is_stored, fits_stores, sets_same, is_sound_handler, is_sound_service, is_sound_request, is_countable, is_part, is_shipment, is_sound_choice, is_sound}
 use Rattle.anti_app.specs.declared.app.App.{App}
 use Rattle.anti_app.specs.declared.app.StoreDef.{StoreDef}
 use Rattle.anti_app.specs.declared.app.HandlerDef.{HandlerDef}
 use Rattle.anti_app.specs.declared.app.ServiceDef.{ServiceDef}
 use Rattle.anti_app.specs.declared.app.RequestDef.{RequestDef}
 use Rattle.anti_app.specs.declared.app.Choice.{Choice}
-use Rattle.anti_app.specs.declared.app.Choice.TheVariants.{Take, Ship, Go}
+use Rattle.anti_app.specs.declared.app.Choice.TheVariants.{Take, Ship, Again, Go}
+use Rattle.anti_app.specs.declared.limits.TheConstants.{MOST_CHOICES}
 
 -- ---- lists
 -- what a test says of each element that passes it
@@ -117,11 +118,16 @@ pub request_known : (services : List ServiceDef) (request : RequestDef) → is_s
 unfolding is_sound_request
 request_known services request h = named services request (slice_get services request.service) refl h
 
+-- the store and the region of a shipment are there, and its numbers are from 1 to 4,096
+abbrev pub SoundShipment : ℕ → ℕ → ℕ → ℕ → ℕ → Option ℕ → Type 0
+SoundShipment regions stores store region version part =
+    (store < stores) × (region < regions) × (1 ≤ version) × (version ≤ 4096) × IfSome part (λ p. (1 ≤ p) × (p ≤ 4096))
+
 -- what a choice names is there, and its numbers are from 1 to 4,096
 abbrev pub SoundChoice : ℕ → ℕ → ℕ → Choice → Type 0
 SoundChoice regions stores services (Take service nth) = (service < services) × (1 ≤ nth) × (nth ≤ 4096)
-SoundChoice regions stores services (Ship store region version part) =
-    (store < stores) × (region < regions) × (1 ≤ version) × (version ≤ 4096) × IfSome part (λ p. (1 ≤ p) × (p ≤ 4096))
+SoundChoice regions stores services (Ship store region version part) = SoundShipment regions stores store region version part
+SoundChoice regions stores services (Again store region version part) = SoundShipment regions stores store region version part
 SoundChoice regions stores services (Go object place) = (object < stores + services) × (1 ≤ place) × (place ≤ 4096)
 
 counted_known : (n : ℕ) → is_countable n ≡ true → (1 ≤ n) × (n ≤ 4096)
@@ -131,14 +137,19 @@ part_known : (part : Option ℕ) → is_part part ≡ true → IfSome part (λ p
 part_known None h = tt
 part_known (Some part) h = counted_known part h
 
+shipment_known : (regions stores store region version : ℕ) (part : Option ℕ) → is_shipment regions stores store region version part ≡ true
+    → SoundShipment regions stores store region version part
+shipment_known regions stores store region version part h =
+    let one = and_parts _ _ h in let two = and_parts _ _ one.1 in let three = and_parts _ _ two.1 in
+    let number = counted_known version three.0 in
+    (leb-true _ _ one.0, leb-true _ _ two.0, number.0, number.1, part_known part three.1)
+
 pub choice_known : (regions stores services : ℕ) (choice : Choice) → is_sound_choice regions stores services choice ≡ true → SoundChoice regions stores services choice
 unfolding is_sound_choice
 choice_known regions stores services (Take service nth) h =
     let one = and_parts _ _ h in let number = counted_known nth one.1 in (leb-true _ _ one.0, number.0, number.1)
-choice_known regions stores services (Ship store region version part) h =
-    let one = and_parts _ _ h in let two = and_parts _ _ one.1 in let three = and_parts _ _ two.1 in
-    let number = counted_known version three.0 in
-    (leb-true _ _ one.0, leb-true _ _ two.0, number.0, number.1, part_known part three.1)
+choice_known regions stores services (Ship store region version part) h = shipment_known regions stores store region version part h
+choice_known regions stores services (Again store region version part) h = shipment_known regions stores store region version part h
 choice_known regions stores services (Go object place) h =
     let one = and_parts _ _ h in let number = counted_known place one.1 in (leb-true _ _ one.0, number.0, number.1)
 
@@ -154,7 +165,7 @@ pub record SoundApp (app : App) : Type 0 where
   pub names : AllPairs (λ a b. bytes_eq a.name b.name ≡ false) app.services.items
   pub few_requests : length app.requests.items ≤ 400
   pub requests : All (SoundRequest app.services.items) app.requests.items
-  pub few_choices : length app.choices.items ≤ 400
+  pub few_choices : length app.choices.items ≤ MOST_CHOICES
   pub choices : All (SoundChoice (length app.regions.items) (length app.stores.items) (length app.services.items)) app.choices.items
 
 pub app_known : (app : App) → IsTrue (is_sound app) → SoundApp app

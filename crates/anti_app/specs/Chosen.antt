@@ -12,7 +12,9 @@ use Rattle.anti_app.specs.Parts.{region_number, service_place, service_number}
 use Rattle.anti_app.specs.declared.app.StoreDef.{StoreDef}
 use Rattle.anti_app.specs.declared.app.ServiceDef.{ServiceDef}
 use Rattle.anti_app.specs.declared.app.Choice.{Choice}
-use Rattle.anti_app.specs.declared.app.Choice.TheVariants.{Take, Ship, Go}
+use Rattle.anti_app.specs.declared.app.Choice.TheVariants.{Take, Ship, Again, Go}
+use Rattle.anti_app.specs.declared.choice.Shipment.{Shipment}
+use Rattle.anti_app.specs.declared.limits.TheConstants.{MOST_CHOICES}
 
 -- what some decimal digits say, behind digits that say so much
 abbrev pub value_from : ℕ → List ℕ → ℕ
@@ -54,16 +56,24 @@ take_of services (s ∷ n ∷ []) = taking services s n
 take_of services _ = None
 
 -- a store, a region and a version, and a part where one is given
-unfoldable pub shipment : List (List ℕ) → List StoreDef → List ℕ → List ℕ → List ℕ → Option ℕ → Option Choice
-shipment regions stores s r v part =
-    option_and_then (λ store. option_and_then (λ region. option_map (λ version. Ship store region version part)
+unfoldable pub bringing : List (List ℕ) → List StoreDef → List ℕ → List ℕ → List ℕ → Option ℕ → Option Shipment
+bringing regions stores s r v part =
+    option_and_then (λ store. option_and_then (λ region. option_map (λ version.
+    record { store = store; region = region; version = version; part = part })
     (number_of v)) (region_number regions r)) (store_number stores s)
 
--- the words behind `ship`: a store, a region, a version, and maybe a part
-abbrev pub ship_of : List (List ℕ) → List StoreDef → List (List ℕ) → Option Choice
-ship_of regions stores (s ∷ r ∷ v ∷ []) = shipment regions stores s r v None
-ship_of regions stores (s ∷ r ∷ v ∷ p ∷ []) = option_and_then (λ part. shipment regions stores s r v (Some part)) (number_of p)
-ship_of regions stores _ = None
+-- the words behind `ship` and behind `again`: a store, a region, a version, and maybe a part
+abbrev pub shipment_of : List (List ℕ) → List StoreDef → List (List ℕ) → Option Shipment
+shipment_of regions stores (s ∷ r ∷ v ∷ []) = bringing regions stores s r v None
+shipment_of regions stores (s ∷ r ∷ v ∷ p ∷ []) = option_and_then (λ part. bringing regions stores s r v (Some part)) (number_of p)
+shipment_of regions stores _ = None
+
+-- the choice that brings a shipment, and the one that brings it once more
+abbrev pub ship : Shipment → Choice
+ship shipment = Ship shipment.store shipment.region shipment.version shipment.part
+
+abbrev pub again : Shipment → Choice
+again shipment = Again shipment.store shipment.region shipment.version shipment.part
 
 -- an object, a dot at this place and the place of a birth
 abbrev pub mark_at : List StoreDef → List ServiceDef → List ℕ → Option ℕ → Option Choice
@@ -76,19 +86,20 @@ abbrev pub go_of : List StoreDef → List ServiceDef → List (List ℕ) → Opt
 go_of stores services (word ∷ []) = mark_at stores services word (position (λ b. b == 46) word)
 go_of stores services _ = None
 
--- the choice of some words; those that are built are `take`, `ship` and `go`
+-- the choice of some words; those that are built are `take`, `ship`, `again` and `go`
 abbrev pub choice_in : List (List ℕ) → List StoreDef → List ServiceDef → List (List ℕ) → Option Choice
 choice_in regions stores services [] = None
 choice_in regions stores services (what ∷ rest) =
     if bytes_eq what (codes "take") then take_of services rest else
-    (if bytes_eq what (codes "ship") then ship_of regions stores rest else
-    (if bytes_eq what (codes "go") then go_of stores services rest else None))
+    (if bytes_eq what (codes "ship") then option_map ship (shipment_of regions stores rest) else
+    (if bytes_eq what (codes "again") then option_map again (shipment_of regions stores rest) else
+    (if bytes_eq what (codes "go") then go_of stores services rest else None)))
 
 -- A choice: it has one of the forms, and names what is there.
 unfoldable pub choice_of : List (List ℕ) → List StoreDef → List ServiceDef → Data → Option Choice
 choice_of regions stores services d = option_and_then (λ text. choice_in regions stores services (words text)) (as_str d)
 
--- The choices. At most 400 are built yet.
+-- The choices: at most 4,096.
 abbrev pub choices_at : List (List ℕ) → List StoreDef → List ServiceDef → Members → Option (Listed Choice)
 choices_at regions stores services doc =
-    option_and_then (gathered (choice_of regions stores services) []) (things_or_none (codes "choices") 400 doc)
+    option_and_then (gathered (choice_of regions stores services) []) (things_or_none (codes "choices") MOST_CHOICES doc)

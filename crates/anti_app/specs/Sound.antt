@@ -6,14 +6,15 @@ use Rattle.std.specs.Str.{bytes_eq}
 use Rattle.anti_kind.specs.declared.call.StoreKind.{StoreKind}
 use Rattle.anti_kind.specs.declared.call.StoreKind.TheVariants.{Kv, Table, Blob, Queue, Topic}
 use Rattle.anti_lang.specs.declared.statement.Statement.{Statement}
-use Rattle.anti_lang.specs.declared.statement.Statement.TheVariants.{Write, Read}
+use Rattle.anti_lang.specs.declared.statement.Statement.TheVariants.{Write, Read, Barrier, DryRun}
 use Rattle.anti_app.specs.declared.app.App.{App}
 use Rattle.anti_app.specs.declared.app.StoreDef.{StoreDef}
 use Rattle.anti_app.specs.declared.app.HandlerDef.{HandlerDef}
 use Rattle.anti_app.specs.declared.app.ServiceDef.{ServiceDef}
 use Rattle.anti_app.specs.declared.app.RequestDef.{RequestDef}
 use Rattle.anti_app.specs.declared.app.Choice.{Choice}
-use Rattle.anti_app.specs.declared.app.Choice.TheVariants.{Take, Ship, Go}
+use Rattle.anti_app.specs.declared.app.Choice.TheVariants.{Take, Ship, Again, Go}
+use Rattle.anti_app.specs.declared.limits.TheConstants.{MOST_CHOICES}
 
 -- No two of these are the same.
 abbrev pub are_distinct : {T : Type 0} → (T → T → Bool) → List T → Bool
@@ -52,10 +53,12 @@ abbrev pub sets_same : Statement → Statement → Bool
 sets_same (Read _ _ x) (Read _ _ y) = bytes_eq x y
 sets_same _ _ = false
 
--- Whether the store of a statement is there, and can be read in the region where the handler runs.
+-- Whether the store of a statement, where it names one, is there and can be read in the region where the handler runs.
 unfoldable pub fits_stores : List StoreDef → ℕ → Statement → Bool
 fits_stores stores region (Write store _ _) = is_stored stores store
 fits_stores stores region (Read store _ _) = is_near stores store region
+fits_stores stores region Barrier = true
+fits_stores stores region DryRun = true
 
 -- at most 64 lines, each of which has its store, and no two of which set the same variable
 unfoldable pub is_sound_handler : List StoreDef → ℕ → HandlerDef → Bool
@@ -83,11 +86,16 @@ abbrev pub is_part : Option ℕ → Bool
 is_part None = true
 is_part (Some part) = is_countable part
 
+-- a store and a region that are there, a version and a part
+abbrev pub is_shipment : ℕ → ℕ → ℕ → ℕ → ℕ → Option ℕ → Bool
+is_shipment regions stores store region version part =
+    nat_lt store stores && (nat_lt region regions && (is_countable version && is_part part))
+
 -- each number of a choice is in its range, and what it names is there
 unfoldable pub is_sound_choice : ℕ → ℕ → ℕ → Choice → Bool
 is_sound_choice regions stores services (Take service nth) = nat_lt service services && is_countable nth
-is_sound_choice regions stores services (Ship store region version part) =
-    nat_lt store stores && (nat_lt region regions && (is_countable version && is_part part))
+is_sound_choice regions stores services (Ship store region version part) = is_shipment regions stores store region version part
+is_sound_choice regions stores services (Again store region version part) = is_shipment regions stores store region version part
 is_sound_choice regions stores services (Go object place) = nat_lt object (stores + services) && is_countable place
 
 -- ---- the whole
@@ -105,10 +113,9 @@ are_sound_services regions stores services =
 abbrev pub are_sound_requests : List ServiceDef → List RequestDef → Bool
 are_sound_requests services requests = nat_le (length requests) 400 && list_all (is_sound_request services) requests
 
--- only 400 choices are built yet
 abbrev pub are_sound_choices : ℕ → ℕ → ℕ → List Choice → Bool
 are_sound_choices regions stores services choices =
-    nat_le (length choices) 400 && list_all (is_sound_choice regions stores services) choices
+    nat_le (length choices) MOST_CHOICES && list_all (is_sound_choice regions stores services) choices
 
 -- What an application keeps.
 abbrev pub is_sound : App → Bool

@@ -79,6 +79,14 @@ pub enum Choice {
         version: u64,
         part: Option<u32>,
     },
+    /// A carrier brings once more what was brought to a region before: a part, counted from 1, of a version. The part is the
+    /// first where none is given.
+    Again {
+        store: u32,
+        region: u32,
+        version: u64,
+        part: Option<u32>,
+    },
     /// The process goes on whose birth stands at this place, counted from 1, of the history of an object. Objects are
     /// numbered from 0: first the stores, then the inboxes of the services.
     Go {

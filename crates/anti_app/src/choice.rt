@@ -1,7 +1,7 @@
 ghost use Rattle.std.specs.Prelude.{◌≡◌, [], ◌∷◌, ◌==◌, map, IfOk, IfSome, ◌<◌, length, position};
 ghost use Rattle.toml.specs.View.{view, table_view};
 ghost use Rattle.anti_app.specs.Trees.{gathered};
-ghost use Rattle.anti_app.specs.Chosen.{object_place, object_number, taking, take_of, shipment, ship_of, mark_at, go_of, choice_in, choice_of, choices_at};
+ghost use Rattle.anti_app.specs.Chosen.{object_place, object_number, taking, take_of, bringing, shipment_of, ship, again, mark_at, go_of, choice_in, choice_of, choices_at};
 
 use crate::app::{Choice, Choices, ServiceDef, StoreDef};
 use crate::limits::MOST_CHOICES;
@@ -59,19 +59,54 @@ fn taking(services: &[ServiceDef], service: &[u8], nth: &[u8]) -> Option<Choice>
     })
 }
 
-// The choice `ship STORE REGION VERSION` with a part, where one is given.
-#[tactic(auto, unfolding(crate::specs::Chosen::shipment))]
-fn shipment(
+// What a carrier brings to a region: a part of a version, or the first part where none is given.
+#[derive(Drop)]
+struct Shipment {
+    store: u32,
+    region: u32,
+    version: u64,
+    part: Option<u32>,
+}
+
+impl Shipment {
+    // The choice that brings it.
+    fn ship(self) -> Choice
+        ensures { result ≡ ship self }
+    {
+        Choice::Ship {
+            store: self.store,
+            region: self.region,
+            version: self.version,
+            part: self.part,
+        }
+    }
+
+    // The choice that brings it once more.
+    fn again(self) -> Choice
+        ensures { result ≡ again self }
+    {
+        Choice::Again {
+            store: self.store,
+            region: self.region,
+            version: self.version,
+            part: self.part,
+        }
+    }
+}
+
+// The shipment `STORE REGION VERSION` with a part, where one is given.
+#[tactic(auto, unfolding(crate::specs::Chosen::bringing))]
+fn bringing(
     regions: &[Name],
     stores: &[StoreDef],
     store: &[u8],
     region: &[u8],
     version: &[u8],
     part: Option<u32>,
-) -> Option<Choice>
-    ensures { result ≡ shipment regions.now stores.now store.now region.now version.now part }
+) -> Option<Shipment>
+    ensures { result ≡ bringing regions.now stores.now store.now region.now version.now part }
 {
-    Some(Choice::Ship {
+    Some(Shipment {
         store: store_number(stores, store)?,
         region: region_number(regions, region)?,
         version: number_of(version)? as u64,
@@ -79,30 +114,32 @@ fn shipment(
     })
 }
 
-// The choice of the words behind `ship`.
-fn ship_of(regions: &[Name], stores: &[StoreDef], words: &[&[u8]]) -> Option<Choice>
-    ensures { result ≡ ship_of regions.now stores.now (map (λ word. word.now) words.now) }
+// The shipment of the words behind `ship` and `again`.
+fn shipment_of(regions: &[Name], stores: &[StoreDef], words: &[&[u8]]) -> Option<Shipment>
+    ensures { result ≡ shipment_of regions.now stores.now (map (λ word. word.now) words.now) }
 {
     match words {
-        [store, region, version] => shipment(regions, stores, store, region, version, None),
-        [store, region, version, part] => ship_part(regions, stores, store, region, version, part),
+        [store, region, version] => bringing(regions, stores, store, region, version, None),
+        [store, region, version, part] => {
+            bringing_part(regions, stores, store, region, version, part)
+        }
         _ => None,
     }
 }
 
-// The choice `ship STORE REGION VERSION PART`.
-fn ship_part(
+// The shipment `STORE REGION VERSION PART`.
+fn bringing_part(
     regions: &[Name],
     stores: &[StoreDef],
     store: &[u8],
     region: &[u8],
     version: &[u8],
     part: &[u8],
-) -> Option<Choice>
-    ensures { result ≡ ship_of regions.now stores.now (store.now ∷ region.now ∷ version.now ∷ part.now ∷ []) }
+) -> Option<Shipment>
+    ensures { result ≡ shipment_of regions.now stores.now (store.now ∷ region.now ∷ version.now ∷ part.now ∷ []) }
 {
     let part = number_of(part)?;
-    shipment(regions, stores, store, region, version, Some(part))
+    bringing(regions, stores, store, region, version, Some(part))
 }
 
 // Where the first dot stands.
@@ -148,7 +185,9 @@ fn choice_in(
             if *what == b"take".as_slice() {
                 take_of(services, rest)
             } else if *what == b"ship".as_slice() {
-                ship_of(regions, stores, rest)
+                Some(shipment_of(regions, stores, rest)?.ship())
+            } else if *what == b"again".as_slice() {
+                Some(shipment_of(regions, stores, rest)?.again())
             } else if *what == b"go".as_slice() {
                 go_of(stores, services, rest)
             } else {

@@ -64,6 +64,7 @@ impl Distinct for Statement {
                 key: _,
                 variable,
             } => sets(other, variable),
+            Statement::Barrier | Statement::DryRun => false,
         }
     }
 }
@@ -83,6 +84,7 @@ fn sets(statement: &Statement, name: &Name) -> bool
             key: _,
             variable,
         } => name.bytes() == variable.bytes(),
+        Statement::Barrier | Statement::DryRun => false,
     }
 }
 

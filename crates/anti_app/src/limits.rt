@@ -19,8 +19,8 @@ pub const MOST_LINES: usize = 64;
 /// The most requests of an application.
 pub const MOST_REQUESTS: usize = 400;
 
-/// The most choices of an application that are built yet.
-pub const MOST_CHOICES: usize = 400;
+/// The most choices of an application.
+pub const MOST_CHOICES: usize = 4096;
 
 /// The greatest number of a choice that counts from 1.
 pub const MOST_COUNTED: u32 = 4096;

@@ -70,7 +70,7 @@ fn is_near(stores: &[StoreDef], name: &Name, region: u32) -> bool
     stores.iter().any(|store| serves(name, region, store))
 }
 
-// Whether the store of a statement is there, and can be read in the region of the handler.
+// Whether the store of a statement, where it names one, is there and can be read in the region of the handler.
 #[tactic(auto, unfolding(crate::specs::Sound::fits_stores))]
 fn fits_stores(stores: &[StoreDef], region: u32, statement: &Statement) -> bool
     ensures { result ≡ fits_stores stores.now region statement.now }
@@ -86,6 +86,7 @@ fn fits_stores(stores: &[StoreDef], region: u32, statement: &Statement) -> bool
             key: _,
             variable: _,
         } => is_near(stores, store, region),
+        Statement::Barrier | Statement::DryRun => true,
     }
 }
 
@@ -170,6 +171,12 @@ fn is_sound_choice(regions: usize, stores: usize, services: usize, choice: &Choi
             region,
             version,
             part,
+        }
+        | Choice::Again {
+            store,
+            region,
+            version,
+            part,
         } => {
             (*store as usize) < stores
                 && (*region as usize) < regions
@@ -244,7 +251,7 @@ fn all_choices(regions: usize, stores: usize, services: usize, choices: &[Choice
     choices.iter().all(|choice| is_sound_choice(regions, stores, services, choice))
 }
 
-// Whether there are at most 400 choices, and each is sound.
+// Whether there are at most 4,096 choices, and each is sound.
 fn are_sound_choices(regions: usize, stores: usize, services: usize, choices: &[Choice]) -> bool
     requires { stores + services < 2 ^ 64 }
     ensures { result ≡ are_sound_choices regions stores services choices.now }

@@ -1,6 +1,6 @@
 use crate::{App, AppFault, Choice, Part, Place, read_app};
 use anti_lang::{Statement, ValueWord};
-use std::alloc::Global;
+use std::alloc::{AllocError, Global};
 use std::test::Fail;
 
 // Whether the application is the one of the test's document, but for its choices.
@@ -35,7 +35,7 @@ fn has_body(app: &App) -> bool {
     let [_, handler] = service.handlers.as_slice() else {
         return false;
     };
-    let [write, read] = handler.body.as_slice() else {
+    let [write, Statement::Barrier, Statement::DryRun, read] = handler.body.as_slice() else {
         return false;
     };
     let writes = match write {
@@ -65,16 +65,29 @@ fn fault(alloc: Global, bytes: &[u8]) -> Option<AppFault> {
     }
 }
 
+// Whether the bytes are a TOML document and no application.
+fn is_refused(alloc: Global, bytes: &[u8]) -> bool {
+    let bad = AppFault::Bad {
+        rule: 25,
+        place: Place {
+            part: Part::Top,
+            item: 0,
+            line: 0,
+        },
+    };
+    fault(alloc, bytes) == Some(bad)
+}
+
 #[test]
 fn documents_are_read(rt: HostRuntime) -> Result<(), Fail> {
     let text = b"regions = ['us', 'eu']
 store = [{name = 's', kind = 'kv', replicas = ['eu']}]
 request = [{service = 'w', handler = 'two', value = 'a.1'}]
-choices = ['take w 1', ' go  w.12 ', 'go s.1', 'ship s us 4096', 'ship s eu 1 2']
+choices = ['take w 1', ' go  w.12 ', 'go s.1', 'ship s us 4096', 'ship s eu 1 2', 'again s eu 1', 'again s us 4096 2']
 [[service]]
 name = 'w'
 region = 'eu'
-handler = [{name = 'one', body = []}, {name = 'two', body = ['write s k $in', 'read s k as x']}]";
+handler = [{name = 'one', body = []}, {name = 'two', body = ['write s k $in', 'barrier', 'dryrun', 'read s k as x']}]";
     let app = read_app(rt.alloc(), text).ok().ok_or("an application")?;
     assert!(rt; has_parts(&app));
     assert!(rt; has_body(&app));
@@ -100,17 +113,64 @@ handler = [{name = 'one', body = []}, {name = 'two', body = ['write s k $in', 'r
             version: 1,
             part: Some(2),
         },
+        Choice::Again {
+            store: 0,
+            region: 1,
+            version: 1,
+            part: None,
+        },
+        Choice::Again {
+            store: 0,
+            region: 0,
+            version: 4096,
+            part: Some(2),
+        },
     ];
     assert!(rt; app.choices.as_slice() == choices.as_slice());
     assert!(rt; fault(rt.alloc(), b"regions") == Some(AppFault::NotToml));
-    let bad = AppFault::Bad {
-        rule: 25,
-        place: Place {
-            part: Part::Top,
-            item: 0,
-            line: 0,
-        },
-    };
-    assert!(rt; fault(rt.alloc(), b"regions = []") == Some(bad));
+    assert!(rt; is_refused(rt.alloc(), b"regions = []"));
+    Ok(())
+}
+
+// A document whose only handler has this line, with some choices.
+fn document(alloc: Global, line: &str, choices: &str) -> Result<String, AllocError> {
+    format!(in alloc;
+        "regions = ['eu']
+store = [{{name = 's', kind = 'kv', replicas = ['eu']}}]
+service = [{{name = 'w', region = 'eu', handler = [{{name = 'one', body = ['{line}']}}]}}]
+choices = [{choices}]"
+    )
+}
+
+#[test]
+fn near_misses_are_refused(rt: HostRuntime) -> Result<(), Fail> {
+    let rows = [
+        ("  barrier ", "'again s eu 1 1'", false),
+        ("barrier x", "", true),
+        ("dry run", "", true),
+        ("dryrun", "'again s eu'", true),
+        ("dryrun", "'again s eu 1 1 1'", true),
+        ("dryrun", "'again w eu 1'", true),
+        ("dryrun", "'again s us 1'", true),
+        ("dryrun", "'again s eu 0'", true),
+    ];
+    for (line, choices, wanted) in rows {
+        let text = document(rt.alloc(), line, choices)?;
+        assert!(rt;
+            is_refused(rt.alloc(), text.as_bytes()) == wanted,
+            "at {line} and {choices}"
+        );
+    }
+    Ok(())
+}
+
+#[test]
+fn choices_are_counted(rt: HostRuntime) -> Result<(), Fail> {
+    let most = "'go s.1',".repeat(rt.alloc(), 4096)?;
+    let text = document(rt.alloc(), "dryrun", most.as_str())?;
+    assert!(rt; fault(rt.alloc(), text.as_bytes()) == None);
+    let more = format!(in rt.alloc(); "{most}'go s.1'")?;
+    let text = document(rt.alloc(), "dryrun", more.as_str())?;
+    assert!(rt; is_refused(rt.alloc(), text.as_bytes()));
     Ok(())
 }

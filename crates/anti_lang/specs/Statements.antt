@@ -5,7 +5,7 @@ use Rattle.std.specs.Str.{bytes_eq}
 use Rattle.anti_lang.specs.Words.{words}
 use Rattle.anti_lang.specs.Texts.{plain_name, unreserved_value}
 use Rattle.anti_lang.specs.declared.statement.Statement.{Statement}
-use Rattle.anti_lang.specs.declared.statement.Statement.TheVariants.{Write, Read}
+use Rattle.anti_lang.specs.declared.statement.Statement.TheVariants.{Write, Read, Barrier, DryRun}
 use Rattle.anti_lang.specs.declared.statement.ValueWord.{ValueWord}
 use Rattle.anti_lang.specs.declared.statement.ValueWord.TheVariants.{Input, Literal}
 
@@ -31,9 +31,15 @@ read_of (s ∷ k ∷ joint ∷ x ∷ []) =
     else None
 read_of _ = None
 
+-- a word that stands alone: `barrier` or `dryrun`
+abbrev pub lone_word : List ℕ → Option Statement
+lone_word word =
+    if bytes_eq word (codes "barrier") then Some Barrier else (if bytes_eq word (codes "dryrun") then Some DryRun else None)
+
 -- the statement of some words
 abbrev pub statement_in : List (List ℕ) → Option Statement
 statement_in [] = None
+statement_in (word ∷ []) = lone_word word
 statement_in (what ∷ rest) =
     if bytes_eq what (codes "write") then write_of rest else (if bytes_eq what (codes "read") then read_of rest else None)
 

@@ -1,5 +1,5 @@
 ghost use Rattle.std.specs.Prelude.{◌≡◌, [], ◌∷◌, IfOk, map};
-ghost use Rattle.anti_lang.specs.Statements.{variable_of, value_word, write_of, read_of, statement_in, statement_of};
+ghost use Rattle.anti_lang.specs.Statements.{variable_of, value_word, write_of, read_of, lone_word, statement_in, statement_of};
 
 use crate::split::words;
 use crate::statement::{Statement, ValueWord};
@@ -85,12 +85,26 @@ fn read_from(store: &[u8], key: &[u8], joint: &[u8], variable: &[u8]) -> Option<
     })
 }
 
+// The statement that a word states where it stands alone.
+fn lone_word(word: &[u8]) -> Option<Statement>
+    ensures { result ≡ lone_word word.now }
+{
+    if word == b"barrier".as_slice() {
+        Some(Statement::Barrier)
+    } else if word == b"dryrun".as_slice() {
+        Some(Statement::DryRun)
+    } else {
+        None
+    }
+}
+
 // The statement that words state.
 fn statement_in(alloc: Global, words: &[&[u8]]) -> Result<Option<Statement>, NoMemory>
     ensures { IfOk result (λ statement. statement ≡ statement_in (map (λ word. word.now) words.now)) }
 {
     match words {
         [] => Ok(None),
+        [word] => Ok(lone_word(word)),
         [what, rest @ ..] => {
             if *what == b"write".as_slice() {
                 write_of(alloc, rest)

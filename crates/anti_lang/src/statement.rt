@@ -25,6 +25,11 @@ pub enum Statement {
         key: Name,
         variable: Name,
     },
+    /// `barrier`: goes on once each write of the lineage is visible in the service's region, of the stores that have a replica
+    /// there.
+    Barrier,
+    /// `dryrun`: makes the looks of a barrier, and goes on whatever they find.
+    DryRun,
 }
 
 /// The statements of a handler, in their order.
@@ -56,6 +61,8 @@ impl Copies for Statement {
                 key: *key,
                 variable: *variable,
             },
+            Statement::Barrier => Statement::Barrier,
+            Statement::DryRun => Statement::DryRun,
         })
     }
 }

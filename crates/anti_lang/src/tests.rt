@@ -2,7 +2,8 @@ use crate::{Statement, ValueWord, read_statement};
 use anti_ids::{Copies, NoMemory};
 use std::alloc::Global;
 
-// 1 for a write of the input, 2 for a write of the literal `a`, 3 for a read into `x`, and 9 for any other statement.
+// 1 for a write of the input, 2 for a write of the literal `a`, 3 for a read into `x`, 4 for a barrier, 5 for a dry run, and 9
+// for any other statement.
 fn form_of(statement: &Statement) -> u8 {
     match statement {
         Statement::Write {
@@ -20,6 +21,8 @@ fn form_of(statement: &Statement) -> u8 {
             key: _,
             variable,
         } if variable.bytes() == b"x".as_slice() => 3,
+        Statement::Barrier => 4,
+        Statement::DryRun => 5,
         _ => 9,
     }
 }
@@ -37,10 +40,12 @@ fn form(alloc: Global, line: &[u8]) -> Result<u8, NoMemory> {
 
 #[test]
 fn lines_are_read(rt: HostRuntime) {
-    let lines: [(&[u8], u8); 12] = [
+    let lines: [(&[u8], u8); 18] = [
         (b"write s k $in", 1),
         (b"  write  s k a ", 2),
         (b"read s k as x", 3),
+        (b"barrier", 4),
+        (b"  dryrun ", 5),
         (b"", 0),
         (b"  ", 0),
         (b"write s k", 0),
@@ -50,6 +55,10 @@ fn lines_are_read(rt: HostRuntime) {
         (b"read s k as in", 0),
         (b"read s k is x", 0),
         (b"read s k# as x", 0),
+        (b"barrier x", 0),
+        (b"dry run", 0),
+        (b"Barrier", 0),
+        (b"barrier\t", 0),
     ];
     for (line, wanted) in lines {
         assert!(rt; form(rt.alloc(), line) == Ok(wanted), "at {line:?}");
