@@ -21,11 +21,12 @@ use Rattle.anti_trace.proofs.Puts.{filter-no}
 use Rattle.anti_trace.proofs.Sames.{same_trace}
 use Rattle.anti_play.specs.declared.logged.Logged.{Logged}
 use Rattle.anti_play.specs.declared.world.World.{World}
-use Rattle.anti_play.specs.Schedule.{start_of}
+use Rattle.anti_object.specs.Starts.{start_of}
+use Rattle.anti_object.proofs.Starts.{start_there}
+use Rattle.anti_app.proofs.SoundLemmas.{SoundApp, app_known}
 use Rattle.anti_proc.specs.Numbers.{object_count}
 use Rattle.anti_play.specs.Standing.{WorldStands}
-use Rattle.anti_play.proofs.Growth.{start_there, legal_short}
-use Rattle.anti_play.proofs.Soundness.{sound_counts}
+use Rattle.anti_play.proofs.Growth.{legal_short}
 
 -- no entry is on an object that is not there
 none_on : (o n : ℕ) (t : List Entry) → n ≤ o → All (λ e. e.object < n) t → entries_on o t ≡ []
@@ -75,7 +76,7 @@ module _ (app : App) (w : World) (trace : List Entry) (s : WorldStands app w tra
 
   pub few_entries : IsTrue (is_sound app) → entry_count (histories_of w) < 2 ^ 32
   few_entries sound =
-      let counts : (length app.stores.items ≤ 1) × (length app.services.items ≤ 16) × (length app.requests.items ≤ 400) × (length app.choices.items ≤ 400) = sound_counts app sound in
+      let known : SoundApp app = app_known app sound in
       let count : length w.objects.items ≡ object_count app = s.objects.count in
       let many : length (histories_of w) ≡ length w.objects.items = length-map w.objects.items (λ (l : Logged). l.history) in
       let each : All (λ h. length h.items ≤ MOST_UNITS + 1) (histories_of w) =

@@ -1,23 +1,25 @@
 -- How the trace of a run grows.
-use Rattle.std.proofs.Common.{◌≡◌, ℕ, ◌+◌, ◌-◌, ◌*◌, ◌<◌, ◌≤◌, ◌++◌, ◌⊎◌, inl, inr, max, List, [], ◌∷◌, Bool, true, false, cond, ◌&&◌, length, get_or, nat_lt, nat_eq, refl, sym, ap, ◌∙◌, subst, arith, length-append}
-use borrow.Author.Tests.{eqb-true, eqb-false, ltb-true, ltb-false}
-use Rattle.std.specs.Prelude.{All, Option, None, Some, option_map, slice_get}
+use Rattle.std.proofs.Common.{◌≡◌, ℕ, ◌+◌, ◌*◌, ◌<◌, ◌≤◌, ◌++◌, ◌⊎◌, inl, inr, max, List, [], ◌∷◌, Bool, true, false, cond, ◌&&◌, length, get_or, nat_eq, refl, sym, ap, ◌∙◌, subst, arith, length-append}
+use borrow.Author.Tests.{eqb-true, eqb-false}
+use Rattle.std.specs.Prelude.{All, None, Some}
 use Rattle.std.proofs.lemmas.List.Elements.{All-filter, All-nil}
-use Rattle.std.proofs.lemmas.Option.{slice_get_past, slice_get_cases}
-use Rattle.std.proofs.lemmas.Bool.Decides.{nat_tests}
 use Rattle.anti_kind.specs.declared.limits.TheConstants.{MOST_UNITS}
 use Rattle.anti_kind.specs.declared.call.Actor.{Actor}
 use Rattle.anti_kind.specs.declared.call.Actor.TheVariants.{Carrier, Process, Newborn}
 use Rattle.anti_kind.specs.declared.call.Birth.{Birth}
 use Rattle.anti_kind.specs.declared.call.Entry.{Entry}
 use Rattle.anti_kind.specs.Objects.{Start, IsLegal, Follows, ready, fits, last_stamp}
+use Rattle.anti_kind.specs.Ports.{named}
 use Rattle.anti_kind.proofs.Histories.{legal_more, below_last, last_below, length_held, fits_number, by_entries}
 use Rattle.anti_app.specs.declared.app.App.{App}
+use Rattle.anti_object.specs.Starts.{start_of}
+use Rattle.anti_object.specs.Standing.{IsCallOfRun}
+use Rattle.anti_object.proofs.Starts.{start_there, start_known}
 use Rattle.anti_trace.specs.Traces.{entries_on, entries_by, put, is_on, is_by}
 use Rattle.anti_trace.proofs.Bounds.{length_bound}
 use Rattle.anti_trace.proofs.Puts.{put_next_is_trace, All-put, length-put, entries_on-put_same, entries_on-put_other, entries_by-put_same, entries_by-put_other}
 use Rattle.anti_play.specs.declared.asked.Asked.{Asked}
-use Rattle.anti_play.specs.Schedule.{start_of, store_start, inbox_start, named, clock_of, entry_of, made}
+use Rattle.anti_play.specs.Schedule.{clock_of, entry_of, made}
 use Rattle.anti_proc.specs.Numbers.{object_count}
 use Rattle.anti_play.specs.Runs.{IsRun, IsBorn}
 
@@ -46,53 +48,6 @@ decide a b = by_test (nat_eq a b) refl
     by_test : (t : Bool) → t ≡ nat_eq a b → (a ≡ b) ⊎ (a ≡ b → ⊥)
     by_test true e = inl (eqb-true a b (sym e))
     by_test false e = inr (λ same. eqb-false a b (sym e) same)
-
--- what stands at a number of the stores, and at one past them
-stores_at : App → ℕ → Option Start
-stores_at app o = option_map (store_start o) (slice_get app.stores.items o)
-
-inboxes_at : App → ℕ → Option Start
-inboxes_at app o = option_map (inbox_start app (o - length app.stores.items)) (slice_get app.services.items (o - length app.stores.items))
-
-pub start_of-store : (app : App) (o : ℕ) → o < length app.stores.items → start_of app o ≡ option_map (store_start o) (slice_get app.stores.items o)
-start_of-store app o lt =
-    let yes_store : nat_lt o (length app.stores.items) ≡ true = grind (arith, nat_tests) in
-    ap (λ (t : Bool). cond t (option_map (store_start o) (slice_get app.stores.items o)) (option_map (inbox_start app (o - length app.stores.items)) (slice_get app.services.items (o - length app.stores.items)))) yes_store
-
-pub start_of-inbox : (app : App) (o : ℕ) → length app.stores.items ≤ o → start_of app o ≡ option_map (inbox_start app (o - length app.stores.items)) (slice_get app.services.items (o - length app.stores.items))
-start_of-inbox app o le =
-    let no_store : nat_lt o (length app.stores.items) ≡ false = grind (arith, nat_tests) in
-    ap (λ (t : Bool). cond t (option_map (store_start o) (slice_get app.stores.items o)) (option_map (inbox_start app (o - length app.stores.items)) (slice_get app.services.items (o - length app.stores.items)))) no_store
-
-pub below_or : (a b : ℕ) → (a < b) ⊎ (b ≤ a)
-below_or a b = by_test (nat_lt a b) refl
-  where
-    by_test : (t : Bool) → t ≡ nat_lt a b → (a < b) ⊎ (b ≤ a)
-    by_test true e = inl (ltb-true a b (sym e))
-    by_test false e = inr (ltb-false a b (sym e))
-
-pub start_there : (app : App) (o : ℕ) → o < object_count app → (start : Start) × (start_of app o ≡ Some start)
-start_there app o lt =
-    elim (below_or o (length app.stores.items)) [
-      | inl low ↦ elim ((slice_get_cases app.stores.items o).1) [
-        | inl found ↦ (store_start o found.0, start_of-store app o low ∙ ap (option_map (store_start o)) found.2)
-        | inr past ↦ absurd (let h = past.0 in omega arith)
-      ]
-      | inr high ↦ elim ((slice_get_cases app.services.items (o - length app.stores.items)).1) [
-        | inl found ↦ (inbox_start app (o - length app.stores.items) found.0, start_of-inbox app o high ∙ ap (option_map (inbox_start app (o - length app.stores.items))) found.2)
-        | inr past ↦ absurd (let h = past.0 in omega arith)
-      ]
-    ]
-
-pub start_known : (app : App) (o : ℕ) (start : Start) → start_of app o ≡ Some start → o < object_count app
-start_known app o start there =
-    elim (below_or o (object_count app)) [
-      | inl low ↦ low
-      | inr high ↦
-          let past : slice_get app.services.items (o - length app.stores.items) ≡ None = slice_get_past app.services.items (o - length app.stores.items) (omega arith) in
-          let none : start_of app o ≡ None = start_of-inbox app o (omega arith) ∙ ap (option_map (inbox_start app (o - length app.stores.items))) past in
-          absurd (cc)
-    ]
 
 -- ---- stamps
 
@@ -180,11 +135,12 @@ module _ (app : App) (trace : List Entry) (run : IsRun app trace) (q : Asked) (s
   unborn_then b lt =
       entries_by-put_other (Process b) it trace (λ same. born_place q.actor b born same lt) ∙ run.unborn b (let more = longer b.object in omega arith)
 
-  pub run_more : IsRun app (put it trace)
-  run_more = record {
+  pub run_more : IsCallOfRun q.call → IsRun app (put it trace)
+  run_more of_run = record {
     order = put_next_is_trace it trace run.order follows.stamp;
     known = All-put (λ e. e.object < object_count app) it trace (start_known app q.object start there) run.known;
     legal = legal_then;
+    calls = All-put (λ e. IsCallOfRun e.call) it trace of_run run.calls;
     stamps = subst (λ (n : ℕ). All (λ e. e.stamp ≤ n) (put it trace)) (sym (length-put it trace))
         (All-put (λ e. e.stamp ≤ length trace + 1) it trace run_stamp (λ k d lt. let le : (get_or trace k d).stamp ≤ length trace = run.stamps k d lt in omega arith));
     unborn = unborn_then;

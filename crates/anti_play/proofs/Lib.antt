@@ -1,6 +1,6 @@
 pub mod Growth
+pub mod Fulls
 pub mod Lives
-pub mod Soundness
 pub mod Steps
 pub mod Starts
 pub mod Closings

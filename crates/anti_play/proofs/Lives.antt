@@ -1,7 +1,7 @@
 -- The processes of a world, as the trace grows.
-use Rattle.std.proofs.Common.{◌≡◌, ◌≢◌, ℕ, ◌+◌, ◌<◌, ◌≤◌, ◌++◌, ◌⊎◌, inl, inr, List, [], ◌∷◌, Bool, true, false, not, cond, length, get_or, nat_lt, nat_eq, refl, sym, ap, ◌∙◌, subst, arith, length-append}
+use Rattle.std.proofs.Common.{◌≡◌, ◌≢◌, ℕ, ◌+◌, ◌<◌, ◌≤◌, ◌++◌, ◌⊎◌, inl, inr, List, [], ◌∷◌, Bool, true, false, not, cond, length, get_or, nat_lt, nat_eq, refl, sym, ap, ◌∙◌, subst, arith, length-append, append_assoc, append-nil}
 use borrow.Author.Tests.{ltb-true, ltb-false, lt-ltb, le-ltb, eq-eqb, ne_eqb}
-use Rattle.std.specs.Prelude.{All, Option, None, Some, position, slice_set}
+use Rattle.std.specs.Prelude.{All, Option, None, Some, IfSome, position, slice_set}
 use Rattle.std.specs.List.{position_or_len}
 use Rattle.std.proofs.lemmas.List.{length-set, get_or-set_same, get_or-set_other, get_or_append_left}
 use Rattle.std.proofs.lemmas.List.Folds.{prefix_len-append, prefix_len-set}
@@ -12,18 +12,21 @@ use Rattle.std.proofs.lemmas.Bool.{true≢false}
 use Rattle.anti_kind.specs.declared.call.Actor.{Actor}
 use Rattle.anti_kind.specs.declared.call.Actor.TheVariants.{Process as Acting}
 use Rattle.anti_kind.specs.declared.call.Birth.{Birth}
+use Rattle.anti_kind.specs.declared.call.Call.{Call}
 use Rattle.anti_kind.specs.declared.call.Entry.{Entry}
 use Rattle.anti_kind.specs.Objects.{last_stamp}
 use Rattle.anti_kind.proofs.Histories.{last_is}
 use Rattle.anti_app.specs.declared.app.App.{App}
-use Rattle.anti_trace.specs.Traces.{entries_by, same_actor, put}
+use Rattle.anti_trace.specs.Traces.{entries_on, entries_by, same_actor, put}
 use Rattle.anti_trace.proofs.Puts.{same_actor_true, same_actor_itself}
 use Rattle.anti_proc.specs.declared.process.Process.{Process}
-use Rattle.anti_proc.specs.Trees.{Tree, branch}
+use Rattle.anti_proc.specs.declared.want.Want.{Want}
+use Rattle.anti_proc.specs.declared.want.Want.TheVariants.{Make, Over}
+use Rattle.anti_proc.specs.Trees.{Tree, branch, want_of}
 use Rattle.anti_proc.specs.Meaning.{tree_of, process_after}
-use Rattle.anti_proc.specs.Standing.{process_of, birth_of, clock_of}
+use Rattle.anti_proc.specs.Standing.{process_of, birth_of, clock_of, full_of}
 use Rattle.anti_proc.proofs.Runs.{process_after_more}
-use Rattle.anti_play.specs.Standing.{is_named, Lives, LivesOn, AllLive}
+use Rattle.anti_play.specs.Standing.{is_named, WasFull, IsEnded, Lives, LivesOn, AllLive}
 
 -- ---- places in a list that grows by an item or changes at one place
 
@@ -96,141 +99,200 @@ module _ {X : Type 0} (p : X → Bool) where
 
 -- ---- processes
 
--- an entry of a process that is there, after the last of its object and of its actor
-module _ (app : App) (ps : List Process) (trace : List Entry) (live : AllLive app ps trace) (e : Entry)
+-- the history of each object goes on from what it was
+abbrev pub GoesOn : List Entry → List Entry → Type 0
+GoesOn trace after = (o : ℕ) → (rest : List Entry) × (entries_on o after ≡ entries_on o trace ++ rest)
+
+module _ (app : App) (trace after : List Entry) (goes : GoesOn trace after) where
+  full_later : (object : ℕ) (call : Call) → WasFull app trace object call → WasFull app after object call
+  full_later object call was = record {
+    start = was.start;
+    there = was.there;
+    before = was.before;
+    later = was.later ++ (goes object).0;
+    history = (goes object).1 ∙ ap (λ (h : List Entry). h ++ (goes object).0) was.history ∙ append_assoc was.before was.later (goes object).0;
+    was_ready = was.was_ready;
+    was_full = was.was_full;
+  }
+
+  ended_later : (want : Want) (at : ℕ) → IsEnded app trace want at → IsEnded app after want at
+  ended_later (Make object span call) at is = (is.0, full_later object call is.1)
+  ended_later (Over end) at is = elim is [ ]
+
+  if_ended_later : (o : Option ℕ) (want : Want) → IfSome o (IsEnded app trace want) → IfSome o (IsEnded app after want)
+  if_ended_later None want is = tt
+  if_ended_later (Some at) want is = ended_later want at is
+
+  -- a process that made none of the new entries
+  pub lives_later : (p : Process) (es then : List Entry) → then ≡ es → LivesOn app trace p es → LivesOn app after p then
+  lives_later p es then same on = subst (λ (xs : List Entry). LivesOn app after p xs) (sym same) (record {
+    birth = on.birth;
+    later = on.later;
+    entries_are = on.entries_are;
+    tree = on.tree;
+    clock = on.clock;
+    full = if_ended_later (full_of p) (want_of (process_after app es)) on.full;
+  })
+
+  all_later : (ps : List Process) (o : Option ℕ) (es then : List Entry) → then ≡ es → Lives app trace ps o es → Lives app after ps o then
+  all_later ps None es then same l = same ∙ l
+  all_later ps (Some i) es then same l = λ d. lives_later (get_or ps i d) es then same (l d)
+
+  -- one process in place of the one that was found
+  module _ (ps : List Process) (live : AllLive app ps trace) (b : Birth)
+      (others : (c : Birth) → same_actor (Acting c) (Acting b) ≡ false → entries_by (Acting c) after ≡ entries_by (Acting c) trace) where
+    same_or : (c : Birth) → (c ≡ b) ⊎ (same_actor (Acting c) (Acting b) ≡ false)
+    same_or c = by_test (same_actor (Acting c) (Acting b)) refl
+      where
+        by_test : (t : Bool) → t ≡ same_actor (Acting c) (Acting b) → (c ≡ b) ⊎ (same_actor (Acting c) (Acting b) ≡ false)
+        by_test true t = inl (let is : Acting c ≡ Acting b = same_actor_true (Acting c) (Acting b) (sym t) in cc)
+        by_test false t = inr (sym t)
+
+    module _ (p : Process) (i : ℕ) (found : position (is_named b) ps ≡ Some i) (named : (d : Process) → birth_of p ≡ birth_of (get_or ps i d))
+        (on : LivesOn app after p (entries_by (Acting b) after)) where
+      within : i < length ps
+      within = (position-Some (is_named b) ps i p found).0
+
+      stays : (c : Birth) → position (is_named c) (slice_set ps i p) ≡ position (is_named c) ps
+      stays c = position_set (is_named c) ps i p p (ap (λ (x : Birth). same_actor (Acting c) (Acting x)) (named p))
+
+      lives_there : Lives app after (slice_set ps i p) (position (is_named b) (slice_set ps i p)) (entries_by (Acting b) after)
+      lives_there =
+          subst (λ (o : Option ℕ). Lives app after (slice_set ps i p) o (entries_by (Acting b) after)) (sym (stays b ∙ found))
+          (λ d. subst (λ (x : Process). LivesOn app after x (entries_by (Acting b) after)) (sym (get_or-set_same ps i p d within)) on)
+
+      lives_on : (c : Birth) → c ≡ b → Lives app after (slice_set ps i p) (position (is_named c) (slice_set ps i p)) (entries_by (Acting c) after)
+      lives_on c same = subst (λ (x : Birth). Lives app after (slice_set ps i p) (position (is_named x) (slice_set ps i p)) (entries_by (Acting x) after)) (sym same) lives_there
+
+      elsewhere : (c : Birth) → same_actor (Acting c) (Acting b) ≡ false → (j : ℕ) → position (is_named c) ps ≡ Some j → j ≢ i
+      elsewhere c off j at same =
+          let here : is_named c (get_or ps i p) ≡ true = subst (λ (k : ℕ). is_named c (get_or ps k p) ≡ true) same (position-Some (is_named c) ps j p at).1 in
+          let there : is_named b (get_or ps i p) ≡ true = (position-Some (is_named b) ps i p found).1 in
+          let one : Acting c ≡ Acting (birth_of (get_or ps i p)) = same_actor_true (Acting c) (Acting (birth_of (get_or ps i p))) here in
+          let two : Acting b ≡ Acting (birth_of (get_or ps i p)) = same_actor_true (Acting b) (Acting (birth_of (get_or ps i p))) there in
+          let is : same_actor (Acting c) (Acting b) ≡ true = ap (λ (a : Actor). same_actor (Acting c) a) (two ∙ sym one) ∙ same_actor_itself (Acting c) in
+          true≢false (sym is ∙ off)
+
+      lives_else : (c : Birth) → same_actor (Acting c) (Acting b) ≡ false → (o : Option ℕ) → position (is_named c) ps ≡ o → Lives app trace ps o (entries_by (Acting c) trace)
+          → Lives app after (slice_set ps i p) (position (is_named c) (slice_set ps i p)) (entries_by (Acting c) after)
+      lives_else c off None at l =
+          subst (λ (o : Option ℕ). Lives app after (slice_set ps i p) o (entries_by (Acting c) after)) (sym (stays c ∙ at)) (others c off ∙ l)
+      lives_else c off (Some j) at l =
+          let other : j ≢ i = elsewhere c off j at in
+          subst (λ (o : Option ℕ). Lives app after (slice_set ps i p) o (entries_by (Acting c) after)) (sym (stays c ∙ at))
+          (λ d. subst (λ (x : Process). LivesOn app after x (entries_by (Acting c) after)) (sym (get_or-set_other ps i j p d other))
+          (lives_later (get_or ps j d) (entries_by (Acting c) trace) (entries_by (Acting c) after) (others c off) (l d)))
+
+      pub live_set : AllLive app (slice_set ps i p) after
+      live_set c =
+          elim (same_or c) [
+            | inl same ↦ lives_on c same
+            | inr off ↦ lives_else c off (position (is_named c) ps) refl (live c)
+          ]
+
+    -- a process more behind those that are there
+    module _ (p : Process) (named : birth_of p ≡ b) (unborn : position (is_named b) ps ≡ None) (on : LivesOn app after p (entries_by (Acting b) after)) where
+      lives_here : Lives app after (ps ++ p ∷ []) (position (is_named b) (ps ++ p ∷ [])) (entries_by (Acting b) after)
+      lives_here =
+          let is : is_named b p ≡ true = ap (λ (x : Birth). same_actor (Acting b) (Acting x)) named ∙ same_actor_itself (Acting b) in
+          let at : position (is_named b) (ps ++ p ∷ []) ≡ Some (length ps) = position_new (is_named b) ps p unborn is in
+          subst (λ (o : Option ℕ). Lives app after (ps ++ p ∷ []) o (entries_by (Acting b) after)) (sym at)
+          (λ d. subst (λ (x : Process). LivesOn app after x (entries_by (Acting b) after)) (sym (get_or-append_seam ps p [] d)) on)
+
+      lives_new : (c : Birth) → c ≡ b → Lives app after (ps ++ p ∷ []) (position (is_named c) (ps ++ p ∷ [])) (entries_by (Acting c) after)
+      lives_new c same = subst (λ (x : Birth). Lives app after (ps ++ p ∷ []) (position (is_named x) (ps ++ p ∷ [])) (entries_by (Acting x) after)) (sym same) lives_here
+
+      lives_old : (c : Birth) → same_actor (Acting c) (Acting b) ≡ false → (o : Option ℕ) → position (is_named c) ps ≡ o → Lives app trace ps o (entries_by (Acting c) trace)
+          → Lives app after (ps ++ p ∷ []) (position (is_named c) (ps ++ p ∷ [])) (entries_by (Acting c) after)
+      lives_old c off None at l =
+          let not_p : is_named c p ≡ false = ap (λ (x : Birth). same_actor (Acting c) (Acting x)) named ∙ off in
+          subst (λ (o : Option ℕ). Lives app after (ps ++ p ∷ []) o (entries_by (Acting c) after)) (sym (position_other (is_named c) ps p at not_p)) (others c off ∙ l)
+      lives_old c off (Some i) at l =
+          subst (λ (o : Option ℕ). Lives app after (ps ++ p ∷ []) o (entries_by (Acting c) after)) (sym (position_pushed (is_named c) ps p i at))
+          (λ d.
+          let inside : i < length ps = (position-Some (is_named c) ps i d at).0 in
+          subst (λ (x : Process). LivesOn app after x (entries_by (Acting c) after)) (sym (get_or_append_left ps (p ∷ []) d i inside))
+          (lives_later (get_or ps i d) (entries_by (Acting c) trace) (entries_by (Acting c) after) (others c off) (l d)))
+
+      pub live_pushed : AllLive app (ps ++ p ∷ []) after
+      live_pushed c =
+          elim (same_or c) [
+            | inl same ↦ lives_new c same
+            | inr off ↦ lives_old c off (position (is_named c) ps) refl (live c)
+          ]
+
+pub no_more : (trace : List Entry) → GoesOn trace trace
+no_more trace o = ([], sym (append-nil (entries_on o trace)))
+
+-- where a process was not found there is none, so its entries are none
+pub not_found : (app : App) (trace : List Entry) (ps : List Process) (d : Process) (o : Option ℕ) (es : List Entry) → es ≡ [] → Lives app trace ps o es → o ≡ None
+not_found app trace ps d None es none l = refl
+not_found app trace ps d (Some i) es none l = let on : LivesOn app trace (get_or ps i d) es = l d in let some : es ≡ on.birth ∷ on.later = on.entries_are in absurd (cc)
+
+-- none is ended
+pub not_ended : (app : App) (trace : List Entry) (o : Option ℕ) (want : Want) → o ≡ None → IfSome o (IsEnded app trace want)
+not_ended app trace o want none = subst (λ (x : Option ℕ). IfSome x (IsEnded app trace want)) (sym none) tt
+
+-- ---- with one entry more, after the last of its object and of its actor
+
+module _ (app : App) (ps : List Process) (trace : List Entry) (live : AllLive app ps trace) (e : Entry) (goes : GoesOn trace (put e trace))
     (own : entries_by e.actor (put e trace) ≡ entries_by e.actor trace ++ e ∷ [])
     (others : (a : Actor) → (e.actor ≡ a → ⊥) → entries_by a (put e trace) ≡ entries_by a trace) where
   -- a carrier's entry is none of a process
   pub live_kept : ((b : Birth) → e.actor ≡ Acting b → ⊥) → AllLive app ps (put e trace)
-  live_kept none b = subst (λ (x : List Entry). Lives app ps (position (is_named b) ps) x) (sym (others (Acting b) (none b))) (live b)
+  live_kept none b = all_later app trace (put e trace) goes ps (position (is_named b) ps) (entries_by (Acting b) trace) (entries_by (Acting b) (put e trace)) (others (Acting b) (none b)) (live b)
 
-  same_or : (b c : Birth) → (b ≡ c) ⊎ (same_actor (Acting b) (Acting c) ≡ false)
-  same_or b c = by_test (same_actor (Acting b) (Acting c)) refl
-    where
-      by_test : (t : Bool) → t ≡ same_actor (Acting b) (Acting c) → (b ≡ c) ⊎ (same_actor (Acting b) (Acting c) ≡ false)
-      by_test true t = inl (let is : Acting b ≡ Acting c = same_actor_true (Acting b) (Acting c) (sym t) in cc)
-      by_test false t = inr (sym t)
+  module _ (b : Birth) (actor : e.actor ≡ Acting b) where
+    other_births : (c : Birth) → same_actor (Acting c) (Acting b) ≡ false → entries_by (Acting c) (put e trace) ≡ entries_by (Acting c) trace
+    other_births c off = others (Acting c) (λ is.
+        let same : Acting b ≡ Acting c = sym actor ∙ is in
+        let on : same_actor (Acting c) (Acting b) ≡ true = ap (λ (a : Actor). same_actor (Acting c) a) same ∙ same_actor_itself (Acting c) in
+        true≢false (sym on ∙ off))
 
-  differs : (b c : Birth) → same_actor (Acting b) (Acting c) ≡ false → e.actor ≡ Acting b → e.actor ≡ Acting c → ⊥
-  differs b c off is also =
-      let same : Acting b ≡ Acting c = sym is ∙ also in
-      let on : same_actor (Acting b) (Acting c) ≡ true = ap (λ (a : Actor). same_actor (Acting b) a) (sym same) ∙ same_actor_itself (Acting b) in
-      true≢false (sym on ∙ off)
+    own_entries : entries_by (Acting b) (put e trace) ≡ entries_by (Acting b) trace ++ e ∷ []
+    own_entries = subst (λ (a : Actor). entries_by a (put e trace) ≡ entries_by a trace ++ e ∷ []) actor own
 
-  -- where a process was not found there is none, so its entries are none
-  not_found : (d : Process) (o : Option ℕ) (es : List Entry) → es ≡ [] → Lives app ps o es → o ≡ None
-  not_found d None es none l = refl
-  not_found d (Some i) es none l = let on : LivesOn app (get_or ps i d) es = l d in let some : es ≡ on.birth ∷ on.later = on.entries_are in absurd (cc)
+    -- a process that is born by the entry
+    module _ (p : Process) (named : birth_of p ≡ b) (unborn : entries_by (Acting b) trace ≡ [])
+        (tree : process_of app p ≡ tree_of app e) (clock : clock_of p ≡ e.stamp) (going : full_of p ≡ None) where
+      on_new : LivesOn app (put e trace) p (entries_by (Acting b) (put e trace))
+      on_new = subst (λ (es : List Entry). LivesOn app (put e trace) p es) (sym (own_entries ∙ ap (λ (x : List Entry). x ++ e ∷ []) unborn)) (record {
+        birth = e;
+        later = [];
+        entries_are = refl;
+        tree = tree;
+        clock = clock ∙ (let one : e.stamp ≡ last_stamp (e ∷ []) = omega arith in one);
+        full = not_ended app (put e trace) (full_of p) (want_of (process_after app (e ∷ []))) going;
+      })
 
-  -- the entries of the entry's own actor
-  own_entries : (b : Birth) → e.actor ≡ Acting b → entries_by (Acting b) (put e trace) ≡ entries_by (Acting b) trace ++ e ∷ []
-  own_entries b is = subst (λ (a : Actor). entries_by a (put e trace) ≡ entries_by a trace ++ e ∷ []) is own
+      pub live_born : AllLive app (ps ++ p ∷ []) (put e trace)
+      live_born =
+          live_pushed app trace (put e trace) goes ps live b other_births p named
+          (not_found app trace ps p (position (is_named b) ps) (entries_by (Acting b) trace) unborn (live b)) on_new
 
-  -- a process that is born by the entry
-  module _ (p : Process) (b : Birth) (named : birth_of p ≡ b) (actor : e.actor ≡ Acting b) (unborn : entries_by (Acting b) trace ≡ [])
-      (tree : process_of app p ≡ tree_of app e) (clock : clock_of p ≡ e.stamp) where
-    entries_new : entries_by (Acting b) (put e trace) ≡ e ∷ []
-    entries_new = own_entries b actor ∙ ap (λ (x : List Entry). x ++ e ∷ []) unborn
+    -- a process that the entry is the next of
+    module _ (p : Process) (i : ℕ) (found : position (is_named b) ps ≡ Some i)
+        (named : (d : Process) → birth_of p ≡ birth_of (get_or ps i d))
+        (tree : (d : Process) → process_of app p ≡ branch (process_of app (get_or ps i d)) e.reply) (clock : clock_of p ≡ e.stamp) (going : full_of p ≡ None)
+        (last : All (λ d. d.stamp < e.stamp) (entries_by (Acting b) trace)) where
+      old : LivesOn app trace (get_or ps i p) (entries_by (Acting b) trace)
+      old = (subst (λ (o : Option ℕ). Lives app trace ps o (entries_by (Acting b) trace)) found (live b)) p
 
-    on_new : LivesOn app p (entries_by (Acting b) (put e trace))
-    on_new = record {
-      birth = e;
-      later = [];
-      entries_are = entries_new;
-      tree = tree ∙ sym (ap (λ (x : List Entry). process_after app x) entries_new);
-      clock = clock ∙ (let one : e.stamp ≡ last_stamp (e ∷ []) = omega arith in one) ∙ sym (ap (λ (x : List Entry). last_stamp x) entries_new);
-    }
+      entries_then : entries_by (Acting b) (put e trace) ≡ old.birth ∷ (old.later ++ e ∷ [])
+      entries_then = own_entries ∙ ap (λ (x : List Entry). x ++ e ∷ []) old.entries_are
 
-    lives_here : Lives app (ps ++ p ∷ []) (position (is_named b) (ps ++ p ∷ [])) (entries_by (Acting b) (put e trace))
-    lives_here =
-        let none : position (is_named b) ps ≡ None = not_found p (position (is_named b) ps) (entries_by (Acting b) trace) unborn (live b) in
-        let is : is_named b p ≡ true = ap (λ (x : Birth). same_actor (Acting b) (Acting x)) named ∙ same_actor_itself (Acting b) in
-        let at : position (is_named b) (ps ++ p ∷ []) ≡ Some (length ps) = position_new (is_named b) ps p none is in
-        subst (λ (o : Option ℕ). Lives app (ps ++ p ∷ []) o (entries_by (Acting b) (put e trace))) (sym at)
-        (λ d. subst (λ (x : Process). LivesOn app x (entries_by (Acting b) (put e trace))) (sym (get_or-append_seam ps p [] d)) on_new)
+      on_then : LivesOn app (put e trace) p (entries_by (Acting b) (put e trace))
+      on_then = record {
+        birth = old.birth;
+        later = old.later ++ e ∷ [];
+        entries_are = entries_then;
+        tree = tree p
+            ∙ ap (λ (x : Tree). branch x e.reply) (old.tree ∙ ap (λ (x : List Entry). process_after app x) old.entries_are)
+            ∙ sym (process_after_more app old.birth old.later e)
+            ∙ sym (ap (λ (x : List Entry). process_after app x) entries_then);
+        clock = clock ∙ sym (last_is (entries_by (Acting b) trace) e last) ∙ sym (ap (λ (x : List Entry). last_stamp x) own_entries);
+        full = not_ended app (put e trace) (full_of p) (want_of (process_after app (entries_by (Acting b) (put e trace)))) going;
+      }
 
-    lives_new : (c : Birth) → c ≡ b → Lives app (ps ++ p ∷ []) (position (is_named c) (ps ++ p ∷ [])) (entries_by (Acting c) (put e trace))
-    lives_new c same = subst (λ (x : Birth). Lives app (ps ++ p ∷ []) (position (is_named x) (ps ++ p ∷ [])) (entries_by (Acting x) (put e trace))) (sym same) lives_here
-
-    lives_old : (c : Birth) → same_actor (Acting c) (Acting b) ≡ false → (o : Option ℕ) → position (is_named c) ps ≡ o → Lives app ps o (entries_by (Acting c) trace)
-        → Lives app (ps ++ p ∷ []) (position (is_named c) (ps ++ p ∷ [])) (entries_by (Acting c) (put e trace))
-    lives_old c off None at l =
-        let not_p : is_named c p ≡ false = ap (λ (x : Birth). same_actor (Acting c) (Acting x)) named ∙ off in
-        subst (λ (o : Option ℕ). Lives app (ps ++ p ∷ []) o (entries_by (Acting c) (put e trace))) (sym (position_other (is_named c) ps p at not_p))
-        (others (Acting c) (λ is. differs c b off is actor) ∙ l)
-    lives_old c off (Some i) at l =
-        subst (λ (o : Option ℕ). Lives app (ps ++ p ∷ []) o (entries_by (Acting c) (put e trace))) (sym (position_pushed (is_named c) ps p i at))
-        (λ d.
-        let within : i < length ps = (position-Some (is_named c) ps i d at).0 in
-        subst (λ (x : Process). LivesOn app x (entries_by (Acting c) (put e trace))) (sym (get_or_append_left ps (p ∷ []) d i within))
-        (subst (λ (x : List Entry). LivesOn app (get_or ps i d) x) (sym (others (Acting c) (λ is. differs c b off is actor))) (l d)))
-
-    pub live_born : AllLive app (ps ++ p ∷ []) (put e trace)
-    live_born c =
-        elim (same_or c b) [
-          | inl same ↦ lives_new c same
-          | inr off ↦ lives_old c off (position (is_named c) ps) refl (live c)
-        ]
-
-  -- a process that the entry is the next of
-  module _ (p : Process) (b : Birth) (i : ℕ) (found : position (is_named b) ps ≡ Some i) (actor : e.actor ≡ Acting b)
-      (named : (d : Process) → birth_of p ≡ birth_of (get_or ps i d))
-      (tree : (d : Process) → process_of app p ≡ branch (process_of app (get_or ps i d)) e.reply) (clock : clock_of p ≡ e.stamp)
-      (last : All (λ d. d.stamp < e.stamp) (entries_by (Acting b) trace)) where
-    within : i < length ps
-    within = (position-Some (is_named b) ps i p found).0
-
-    stays : (c : Birth) → position (is_named c) (slice_set ps i p) ≡ position (is_named c) ps
-    stays c = position_set (is_named c) ps i p p (ap (λ (x : Birth). same_actor (Acting c) (Acting x)) (named p))
-
-    old : LivesOn app (get_or ps i p) (entries_by (Acting b) trace)
-    old = (subst (λ (o : Option ℕ). Lives app ps o (entries_by (Acting b) trace)) found (live b)) p
-
-    entries_then : entries_by (Acting b) (put e trace) ≡ old.birth ∷ (old.later ++ e ∷ [])
-    entries_then = own_entries b actor ∙ ap (λ (x : List Entry). x ++ e ∷ []) old.entries_are
-
-    on_then : LivesOn app p (entries_by (Acting b) (put e trace))
-    on_then = record {
-      birth = old.birth;
-      later = old.later ++ e ∷ [];
-      entries_are = entries_then;
-      tree = tree p
-          ∙ ap (λ (x : Tree). branch x e.reply) (old.tree ∙ ap (λ (x : List Entry). process_after app x) old.entries_are)
-          ∙ sym (process_after_more app old.birth old.later e)
-          ∙ sym (ap (λ (x : List Entry). process_after app x) entries_then);
-      clock = clock ∙ sym (last_is (entries_by (Acting b) trace) e last) ∙ sym (ap (λ (x : List Entry). last_stamp x) (own_entries b actor));
-    }
-
-    lives_there : Lives app (slice_set ps i p) (position (is_named b) (slice_set ps i p)) (entries_by (Acting b) (put e trace))
-    lives_there =
-        subst (λ (o : Option ℕ). Lives app (slice_set ps i p) o (entries_by (Acting b) (put e trace))) (sym (stays b ∙ found))
-        (λ d. subst (λ (x : Process). LivesOn app x (entries_by (Acting b) (put e trace))) (sym (get_or-set_same ps i p d within)) on_then)
-
-    lives_on : (c : Birth) → c ≡ b → Lives app (slice_set ps i p) (position (is_named c) (slice_set ps i p)) (entries_by (Acting c) (put e trace))
-    lives_on c same = subst (λ (x : Birth). Lives app (slice_set ps i p) (position (is_named x) (slice_set ps i p)) (entries_by (Acting x) (put e trace))) (sym same) lives_there
-
-    elsewhere : (c : Birth) → same_actor (Acting c) (Acting b) ≡ false → (j : ℕ) → position (is_named c) ps ≡ Some j → j ≢ i
-    elsewhere c off j at same =
-        let here : is_named c (get_or ps i p) ≡ true = subst (λ (k : ℕ). is_named c (get_or ps k p) ≡ true) same (position-Some (is_named c) ps j p at).1 in
-        let there : is_named b (get_or ps i p) ≡ true = (position-Some (is_named b) ps i p found).1 in
-        let one : Acting c ≡ Acting (birth_of (get_or ps i p)) = same_actor_true (Acting c) (Acting (birth_of (get_or ps i p))) here in
-        let two : Acting b ≡ Acting (birth_of (get_or ps i p)) = same_actor_true (Acting b) (Acting (birth_of (get_or ps i p))) there in
-        differs c b off (actor ∙ two ∙ sym one) actor
-
-    lives_else : (c : Birth) → same_actor (Acting c) (Acting b) ≡ false → (o : Option ℕ) → position (is_named c) ps ≡ o → Lives app ps o (entries_by (Acting c) trace)
-        → Lives app (slice_set ps i p) (position (is_named c) (slice_set ps i p)) (entries_by (Acting c) (put e trace))
-    lives_else c off None at l =
-        subst (λ (o : Option ℕ). Lives app (slice_set ps i p) o (entries_by (Acting c) (put e trace))) (sym (stays c ∙ at))
-        (others (Acting c) (λ is. differs c b off is actor) ∙ l)
-    lives_else c off (Some j) at l =
-        let other : j ≢ i = elsewhere c off j at in
-        subst (λ (o : Option ℕ). Lives app (slice_set ps i p) o (entries_by (Acting c) (put e trace))) (sym (stays c ∙ at))
-        (λ d. subst (λ (x : Process). LivesOn app x (entries_by (Acting c) (put e trace))) (sym (get_or-set_other ps i j p d other))
-        (subst (λ (x : List Entry). LivesOn app (get_or ps j d) x) (sym (others (Acting c) (λ is. differs c b off is actor))) (l d)))
-
-    pub live_went : AllLive app (slice_set ps i p) (put e trace)
-    live_went c =
-        elim (same_or c b) [
-          | inl same ↦ lives_on c same
-          | inr off ↦ lives_else c off (position (is_named c) ps) refl (live c)
-        ]
+      pub live_went : AllLive app (slice_set ps i p) (put e trace)
+      live_went = live_set app trace (put e trace) goes ps live b other_births p i found named on_then

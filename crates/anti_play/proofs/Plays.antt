@@ -3,16 +3,18 @@ use Rattle.std.proofs.Common.{◌≡◌, ℕ, suc, ◌+◌, ◌<◌, ◌++◌, �
 use Rattle.std.specs.Prelude.{IsTrue, Option, None, Some, Ok}
 use Rattle.std.proofs.lemmas.List.{take_more, length-take-le}
 use Rattle.std.proofs.Math.Seq.{take-length}
+use Rattle.std.specs.List.{AllPass}
+use Rattle.std.proofs.lemmas.Bool.{and_parts}
+use Rattle.std.proofs.lemmas.List.Sums.{AllPass-from_list_all}
 use Rattle.anti_ids.specs.List.{Listed, plain}
 use Rattle.anti_kind.specs.declared.call.Entry.{Entry}
 use Rattle.anti_app.specs.declared.app.App.{App}
 use Rattle.anti_app.specs.declared.app.Choice.{Choice}
-use Rattle.anti_app.specs.Sound.{is_sound, is_sound_choice}
+use Rattle.anti_app.specs.Sound.{is_sound, is_sound_choice, are_sound_regions, are_sound_stores, are_sound_services, are_sound_requests, are_sound_choices}
 use Rattle.anti_play.specs.declared.world.World.{World}
 use Rattle.anti_play.specs.Schedule.{Run, run_from, turned, chosen, played}
 use Rattle.anti_play.specs.Standing.{Chose, WorldStands}
 use Rattle.anti_play.specs.Closing.{HasPlayed, run_until}
-use Rattle.anti_play.proofs.Soundness.{sound_choices}
 
 run_from-push : (app : App) (run : Run) (number : ℕ) (cs : List Choice) (c : Choice)
     → run_from app run number (cs ++ c ∷ [])
@@ -25,6 +27,18 @@ run_from-push app run number (d ∷ cs) c =
     let same : suc number + length cs ≡ number + length (d ∷ cs) = omega arith in
     run_from-push app next (suc number) cs c
     ∙ ap (λ (n : ℕ). turned (run_from app next (suc number) cs) n (chosen app (run_from app next (suc number) cs).trace c)) same
+
+-- each choice of a sound application passes the test
+sound_choices : (app : App) → IsTrue (is_sound app) → AllPass (is_sound_choice (length app.regions.items) (length app.stores.items) (length app.services.items)) app.choices.items
+sound_choices app sound =
+    let regions = length app.regions.items in
+    let stores = length app.stores.items in
+    let services = length app.services.items in
+    let one = and_parts (are_sound_regions app.regions.items) _ sound in
+    let two = and_parts (are_sound_stores regions app.stores.items) _ one.1 in
+    let three = and_parts (are_sound_services regions app.stores.items app.services.items) _ two.1 in
+    let four = and_parts (are_sound_requests app.services.items app.requests.items) (are_sound_choices regions stores services app.choices.items) three.1 in
+    AllPass-from_list_all (is_sound_choice regions stores services) app.choices.items ((and_parts _ _ four.1).1)
 
 module _ (app : App) (i : ℕ) (c d : Choice) (lt : i < length app.choices.items) (at : c ≡ get_or app.choices.items i d) where
   abbrev before : Run

@@ -1,6 +1,7 @@
 -- One step of a world: the entry that a call makes, and what stands behind it.
-use Rattle.std.proofs.Common.{◌≡◌, ℕ, ◌+◌, ◌-◌, ◌*◌, ◌<◌, ◌≤◌, ◌++◌, inl, inr, List, [], ◌∷◌, Bool, true, false, length, get_or, nat_lt, refl, sym, ap, ◌∙◌, subst, arith}
-use Rattle.std.specs.Prelude.{All, Option, None, Some, option_and_then, slice_set, slice_get, Result, Ok, Err, OnOk, OnErr, IsErr, IsTrue, position}
+use Rattle.std.proofs.Common.{◌≡◌, ℕ, ◌+◌, ◌-◌, ◌*◌, ◌<◌, ◌≤◌, ◌++◌, inl, inr, List, [], ◌∷◌, Bool, true, false, length, get_or, refl, sym, ap, ◌∙◌, subst, arith, append-nil}
+use Rattle.std.specs.Prelude.{All, Option, None, Some, IfSome, option_and_then, slice_set, slice_get, Result, Ok, Err, OnOk, OnErr, IsErr, IsTrue, position}
+use Rattle.std.proofs.lemmas.Bool.{cases_lt}
 use Rattle.std.proofs.lemmas.List.{length-set, get_or-set_same, get_or-set_other}
 use Rattle.std.proofs.Math.Nat.{le_trans, mul-le-mul_right}
 use Rattle.std.proofs.lemmas.Option.{slice_get-get_or, slice_get_within, get_or_from_slice_get}
@@ -12,37 +13,42 @@ use Rattle.anti_kind.specs.declared.call.Birth.{Birth}
 use Rattle.anti_kind.specs.declared.call.Call.{Call}
 use Rattle.anti_kind.specs.declared.call.Call.TheVariants as calls
 use Rattle.anti_kind.specs.declared.call.Entry.{Entry}
-use Rattle.anti_kind.specs.Objects.{Start, IsStart, IsLegal, Follows, ready, fits, last_stamp}
-use Rattle.anti_kind.proofs.Histories.{legal_more, below_last, last_is, ascending}
+use Rattle.anti_kind.specs.Objects.{Start, IsLegal, Follows, ready, fits, last_stamp}
+use Rattle.anti_kind.specs.Ports.{named}
+use Rattle.anti_kind.proofs.Histories.{below_last, last_is, ascending}
 use Rattle.anti_app.specs.declared.app.App.{App}
-use Rattle.anti_trace.specs.Traces.{entries_on, entries_by, put}
+use Rattle.anti_app.specs.declared.app.Choice.{Choice}
+use Rattle.anti_app.specs.declared.app.Choice.TheVariants as choices
+use Rattle.anti_app.specs.Sound.{is_sound, is_sound_choice}
+use Rattle.anti_app.proofs.SoundLemmas.{SoundApp, app_known, choice_known, SoundChoice}
+use Rattle.anti_object.specs.Starts.{start_of}
+use Rattle.anti_object.specs.Standing.{object_start, ObjectAt, ObjectStands, IsCallOfRun}
+use Rattle.anti_object.proofs.Starts.{start_known, start_past}
+use Rattle.anti_object.proofs.Histories.{at_more, at_kept}
+use Rattle.anti_trace.specs.Traces.{entries_on, entries_by, put, same_actor}
 use Rattle.anti_proc.specs.declared.process.Process.{Process}
 use Rattle.anti_proc.specs.declared.want.End.{End}
+use Rattle.anti_proc.specs.declared.want.End.TheVariants.{StoreFull}
 use Rattle.anti_proc.specs.declared.want.Want.{Want}
 use Rattle.anti_proc.specs.declared.want.Want.TheVariants.{Make, Over}
 use Rattle.anti_proc.specs.Calls.{WantsOfStores, IsStoreCall}
-use Rattle.anti_proc.specs.Trees.{want_of, branch}
+use Rattle.anti_proc.specs.Trees.{Tree, Asks, Ends, IsAskedAt, want_of, branch}
 use Rattle.anti_proc.proofs.StoreCalls.{next_of_stores}
 use Rattle.anti_proc.specs.Births.{birth_at}
-use Rattle.anti_proc.specs.Meaning.{tree_of}
-use Rattle.anti_proc.specs.Numbers.{inbox_number}
+use Rattle.anti_proc.specs.Meaning.{tree_of, process_after}
+use Rattle.anti_proc.specs.Numbers.{inbox_number, object_count}
 use Rattle.anti_proc.specs.Standing as standing
-use Rattle.anti_proc.specs.Standing.{process_of, birth_of}
+use Rattle.anti_proc.specs.Standing.{process_of, birth_of, full_of}
 use Rattle.anti_play.specs.declared.asked.Asked.{Asked}
 use Rattle.anti_play.specs.declared.logged.Logged.{Logged}
+use Rattle.anti_play.specs.declared.outcome.Outcome.{Outcome}
 use Rattle.anti_play.specs.declared.world.World.{World}
-use Rattle.anti_play.specs.Schedule.{start_of, asked_by, next_call, named, clock_of, entry_of, made, made_at}
-use Rattle.anti_proc.specs.Numbers.{object_count}
+use Rattle.anti_play.specs.Schedule.{asked_by, carrying, next_call, clock_of, entry_of, made, made_at}
 use Rattle.anti_play.specs.Runs.{IsRun, IsBorn}
-use Rattle.anti_play.specs.Standing.{object_start, ObjectStands, IsCallOfRun, LoggedStands, MayFollow, HasRoom, IsObject, AllStand, AllLive, Lives, LivesOn, is_named, WorldStands, Chose, Grows, MayGrow}
-use Rattle.anti_play.proofs.Growth.{made_parts, entry_follows, run_more, run_history, run_others, run_actor, run_other_actors, actor_before, decide, below_or, last_stamp_within, legal_short, history_stamps, clock_within, run_short, start_known}
-use Rattle.anti_app.specs.declared.app.Choice.{Choice}
-use Rattle.anti_app.specs.declared.app.Choice.TheVariants as choices
-use Rattle.std.proofs.lemmas.Bool.{and_parts}
-use borrow.Author.Tests.{ltb-true}
-use Rattle.anti_app.specs.Sound.{is_sound, is_sound_choice, is_countable}
-use Rattle.anti_play.proofs.Soundness.{sound_counts}
-use Rattle.anti_play.proofs.Lives.{live_born, live_went, live_kept}
+use Rattle.anti_play.specs.Standing.{LoggedStands, MayFollow, HasRoom, IsObject, WasFull, IsEnded, IsFull, IsOutcome, IsStopped, Stops, AllStand, AllLive, Lives, LivesOn, is_named, WorldStands, Chose, Grows, MayGrow}
+use Rattle.anti_play.proofs.Growth.{made_parts, entry_follows, run_more, run_history, run_others, run_actor, run_other_actors, actor_before, decide, last_stamp_within, legal_short, history_stamps, clock_within, run_short}
+use Rattle.anti_play.proofs.Fulls.{none_fits, full_makes_none}
+use Rattle.anti_play.proofs.Lives.{GoesOn, no_more, position_set, live_set, live_born, live_went, live_kept}
 
 -- ---- the last stamp of a history
 
@@ -53,7 +59,7 @@ last_of_legal start h e l at =
     let low : (get_or h (length h - 1) e).stamp ≤ last_stamp h = below_last h (length h - 1) e lt in
     let same : (get_or h (length h - 1) e).stamp ≡ e.stamp = ap (λ (x : Entry). x.stamp) is in
     let high : last_stamp h ≤ e.stamp = last_stamp_within h e.stamp (λ k d within.
-    elim (below_or k (length h - 1)) as (λ _. (get_or h k d).stamp ≤ e.stamp) [
+    elim (cases_lt k (length h - 1)) as (λ _. (get_or h k d).stamp ≤ e.stamp) [
       | inl before ↦
           let up : (get_or h k d).stamp < (get_or h (length h - 1) d).stamp = ascending start h l k (length h - 1) d before lt in
           let there : (get_or h (length h - 1) d).stamp ≡ e.stamp = ap (λ (x : Entry). x.stamp) (get_or_from_slice_get h (length h - 1) e d at) in
@@ -80,8 +86,8 @@ pub record Made (app : App) (trace : List Entry) (q : Asked) (e : Entry) : Type 
   pub is_fit : fits start (entries_on q.object trace) q.call ≡ true
   pub is : e ≡ entry_of start (entries_on q.object trace) trace q
 
-pub made_of : (app : App) (trace : List Entry) (q : Asked) (e : Entry) → Some e ≡ made_at app trace q → Made app trace q e
-made_of app trace q e m = by_start (start_of app q.object) refl (sym m)
+pub made_of : (app : App) (trace : List Entry) (q : Asked) (e : Entry) → made_at app trace q ≡ Some e → Made app trace q e
+made_of app trace q e m = by_start (start_of app q.object) refl m
   where
     by_start : (o : Option Start) → start_of app q.object ≡ o → option_and_then (λ start. made start (entries_on q.object trace) trace q) o ≡ Some e → Made app trace q e
     by_start None at m = absurd (cc)
@@ -103,10 +109,10 @@ pub record Stepped (app : App) (trace : List Entry) (q : Asked) (e : Entry) : Ty
   pub place : e.place ≡ length (entries_on q.object trace) + 1
   pub known : q.object < object_count app
 
-pub stepped : (app : App) (trace : List Entry) (q : Asked) (e : Entry) → IsRun app trace → IsBorn q.actor trace → Made app trace q e → Stepped app trace q e
-stepped app trace q e run born m =
+pub stepped : (app : App) (trace : List Entry) (q : Asked) (e : Entry) → IsRun app trace → IsBorn q.actor trace → IsCallOfRun q.call → Made app trace q e → Stepped app trace q e
+stepped app trace q e run born of_run m =
     subst (λ (x : Entry). Stepped app trace q x) (sym m.is) (record {
-      run = run_more app trace run q m.start m.there m.is_ready m.is_fit born;
+      run = run_more app trace run q m.start m.there m.is_ready m.is_fit born of_run;
       grows = record {
         here = run_history app trace run q m.start m.there m.is_ready m.is_fit born;
         others = run_others app trace run q m.start m.there m.is_ready m.is_fit born;
@@ -127,20 +133,11 @@ stepped app trace q e run born m =
 
 pub logged_more : (l n : Logged) (h : List Entry) (e : Entry) → LoggedStands l h → Follows (object_start l.object) h e
     → object_start n.object ≡ object_start l.object → ObjectStands n.object (h ++ e ∷ []) → n.history.items ≡ l.history.items ++ e ∷ [] → LoggedStands n (h ++ e ∷ [])
-logged_more l n h e s f same stands items = record {
-  object = record {
-    sane = subst IsStart (sym same) s.object.sane;
-    legal = subst (λ (x : Start). IsLegal x (h ++ e ∷ [])) (sym same) (legal_more (object_start l.object) h e s.object.legal f);
-    state = stands;
-  };
-  history = items ∙ ap (λ (x : List Entry). x ++ e ∷ []) s.history;
-}
+logged_more l n h e s f same stands items =
+    record { object = at_more l.object n.object h e s.object f same stands; history = items ∙ ap (λ (x : List Entry). x ++ e ∷ []) s.history }
 
 pub logged_kept : (l n : Logged) (h : List Entry) → LoggedStands l h → object_start n.object ≡ object_start l.object → ObjectStands n.object h → n.history.items ≡ l.history.items → LoggedStands n h
-logged_kept l n h s same stands items = record {
-  object = record { sane = subst IsStart (sym same) s.object.sane; legal = subst (λ (x : Start). IsLegal x h) (sym same) s.object.legal; state = stands };
-  history = items ∙ s.history;
-}
+logged_kept l n h s same stands items = record { object = at_kept l.object n.object h s.object same stands; history = items ∙ s.history }
 
 -- the same item, whatever is taken past the end
 is_at : (objects : List Logged) (i : ℕ) (l d : Logged) → l ≡ get_or objects i l → i < length objects → l ≡ get_or objects i d
@@ -221,26 +218,53 @@ has_room_in app given objects trace i l actor clock run all same is inside at fe
     has_room app objects trace i l actor clock run all (subst (λ (x : List Logged). l ≡ get_or x i l) same is) (subst (λ (x : List Logged). i < length x) same inside) at few
 
 pub few_objects : (app : App) → IsTrue (is_sound app) → object_count app ≤ 17
-few_objects app sound = let counts = sound_counts app sound in omega (arith, counts)
+few_objects app sound = let known : SoundApp app = app_known app sound in omega arith
 
 -- ---- what is asked for
 
 abbrev pub taking : ℕ → ℕ → Asked
 taking object nth = record { object = object; actor = Newborn; span = 1; call = calls.Take nth }
 
-abbrev pub shipping : ℕ → ℕ → ℕ → ℕ → Asked
-shipping store region version part = record { object = store; actor = Carrier 0; span = 0; call = calls.Ship region version part }
-
 abbrev pub going : Birth → ℕ → ℕ → Call → Asked
 going birth object span call = record { object = object; actor = Acting birth; span = span; call = call }
 
-module _ (app : App) (w : World) (trace : List Entry) (stands : WorldStands app w trace) (q : Asked) (born : IsBorn q.actor trace)
-    (found : Option Entry) (e : Entry) (is : found ≡ Some e) (m : found ≡ made_at app trace q) where
-  pub step : Stepped app trace q e
-  step = stepped app trace q e stands.run born (made_of app trace q e (sym is ∙ m))
+-- what is at the number of an object that is asked
+module _ (app : App) (given objects : List Logged) (trace : List Entry) (q : Asked) (l : Logged) (all : AllStand app objects trace)
+    (same : given ≡ objects) (is : l ≡ get_or given q.object l) (inside : q.object < length given) where
+  pub asked_object : IsObject app q.object l (entries_on q.object trace)
+  asked_object =
+      subst (λ (x : Logged). IsObject app q.object x (entries_on q.object trace)) (sym (subst (λ (x : List Logged). l ≡ get_or x q.object l) same is))
+      (all.each q.object l (subst (λ (x : List Logged). q.object < length x) same inside))
 
-  pub call_of : IsCallOfRun q.call → IsCallOfRun e.call
-  call_of c = subst IsCallOfRun (sym step.call) c
+  pub outcome_full : (is_ready fit : Bool) → is_ready ≡ true → fit ≡ false
+      → ((h : List Entry) → ObjectAt l.object h → is_ready ≡ ready (object_start l.object) h q.call)
+      → ((h : List Entry) → ObjectAt l.object h → ready (object_start l.object) h q.call ≡ true → fit ≡ fits (object_start l.object) h q.call)
+      → (made_at app trace q ≡ None) × IsFull app trace q
+  outcome_full is_ready fit on off tells_ready tells_fit =
+      let it = asked_object in
+      let is_ready : ready (object_start l.object) (entries_on q.object trace) q.call ≡ true = sym (tells_ready (entries_on q.object trace) it.logged.object) ∙ on in
+      let is_full : fits (object_start l.object) (entries_on q.object trace) q.call ≡ false = sym (tells_fit (entries_on q.object trace) it.logged.object is_ready) ∙ off in
+      (none_fits app trace q (object_start l.object) it.start is_full, record { start = object_start l.object; there = it.start; is_ready = is_ready; is_full = is_full })
+
+-- an object that is not there makes nothing of a call
+pub outcome_none : (app : App) (given objects : List Logged) (trace : List Entry) (q : Asked) → AllStand app objects trace → given ≡ objects → length given ≤ q.object
+    → (made_at app trace q ≡ None) × (IsFull app trace q → ⊥)
+outcome_none app given objects trace q all same past =
+    let count : length given ≡ object_count app = ap length same ∙ all.count in
+    let none : start_of app q.object ≡ None = start_past app q.object (omega arith) in
+    (ap (option_and_then (λ (x : Start). made x (entries_on q.object trace) trace q)) none, (λ full. let both : None ≡ Some full.start = sym none ∙ full.there in cc))
+
+-- what came of it
+pub outcome_is : (app : App) (trace : List Entry) (q : Asked) (found then : Outcome) → found ≡ then → IsOutcome app trace q found → IsOutcome app trace q then
+outcome_is app trace q found then is out = subst (IsOutcome app trace q) is out
+
+module _ (app : App) (w : World) (trace : List Entry) (stands : WorldStands app w trace) (q : Asked) (born : IsBorn q.actor trace) (of_run : IsCallOfRun q.call)
+    (e : Entry) (m : made_at app trace q ≡ Some e) where
+  pub step : Stepped app trace q e
+  step = stepped app trace q e stands.run born of_run (made_of app trace q e m)
+
+  pub call_of : IsCallOfRun e.call
+  call_of = subst IsCallOfRun (sym step.call) of_run
 
   pub may_grow : MayGrow w.objects.items e
   may_grow = record {
@@ -251,6 +275,14 @@ module _ (app : App) (w : World) (trace : List Entry) (stands : WorldStands app 
     grows = step.grows;
     known = let a : e.object ≡ q.object = step.object in let b : q.object < object_count app = step.known in let count : length w.objects.items ≡ object_count app = stands.objects.count in omega arith;
   }
+
+  -- each object's history goes on
+  pub goes_on : GoesOn trace (put e trace)
+  goes_on o =
+      elim (decide e.object o) as (λ _. (rest : List Entry) × (entries_on o (put e trace) ≡ entries_on o trace ++ rest)) [
+        | inl here ↦ (e ∷ [], subst (λ (n : ℕ). entries_on n (put e trace) ≡ entries_on n trace ++ e ∷ []) here step.grows.here)
+        | inr other ↦ ([], step.grows.others o other ∙ sym (append-nil (entries_on o trace)))
+      ]
 
 -- nothing was made, for want of memory
 pub chose_kept : (app : App) (w n : World) (trace : List Entry) (o : Option Entry) (r : Result Bool NoMemory) → IsErr r → WorldStands app w trace
@@ -267,141 +299,229 @@ chose_made app n trace o e is s = subst (λ (x : Option Entry). Chose app trace 
 pub chose_none : (app : App) (w : World) (trace : List Entry) (o : Option Entry) → o ≡ None → WorldStands app w trace → Chose app trace o (Ok false) w
 chose_none app w trace o is s = subst (λ (x : Option Entry). Chose app trace x (Ok false) w) (sym is) (refl, s)
 
-pub take_done : (app : App) (w n : World) (trace : List Entry) (object service nth : ℕ) (found : Option Entry) (e : Entry) (p : Process)
-    → WorldStands app w trace → object ≡ inbox_number app service → found ≡ Some e → found ≡ made_at app trace (taking object nth)
+pub take_done : (app : App) (w n : World) (trace : List Entry) (object service nth : ℕ) (e : Entry) (p : Process)
+    → WorldStands app w trace → object ≡ inbox_number app service → made_at app trace (taking object nth) ≡ Some e
     → ((before after : List Entry) → AllStand app w.objects.items before → Grows app before after e → AllStand app n.objects.items after)
     → n.processes.items ≡ w.processes.items ++ p ∷ [] → n.carrier ≡ w.carrier
-    → process_of app p ≡ tree_of app e → standing.clock_of p ≡ e.stamp → birth_of p ≡ birth_at e
+    → process_of app p ≡ tree_of app e → standing.clock_of p ≡ e.stamp → birth_of p ≡ birth_at e → full_of p ≡ None
     → Chose app trace (made_at app trace (taking (inbox_number app service) nth)) (Ok true) n
-take_done app w n trace object service nth found e p s same is m objects processes carrier tree clock birth =
-    let st : Stepped app trace (taking object nth) e = step app w trace s (taking object nth) tt found e is m in
+take_done app w n trace object service nth e p s same m objects processes carrier tree clock birth full =
+    let st : Stepped app trace (taking object nth) e = step app w trace s (taking object nth) tt tt e m in
     let at : e.actor ≡ Acting (birth_at e) = st.actor in
     let unborn : entries_by (Acting (birth_at e)) trace ≡ [] = s.run.unborn (birth_at e)
     (let place : e.place ≡ length (entries_on object trace) + 1 = st.place in
     let object_is : length (entries_on e.object trace) ≡ length (entries_on object trace) = ap (λ (x : ℕ). length (entries_on x trace)) st.object in omega arith) in
     let none : e.actor ≡ Carrier 0 → ⊥ = λ c. (let both : Acting (birth_at e) ≡ Carrier 0 = sym at ∙ c in absurd (cc)) in
     chose_made app n trace (made_at app trace (taking (inbox_number app service) nth)) e
-    (sym (ap (λ (x : ℕ). made_at app trace (taking x nth)) same) ∙ sym m ∙ is)
+    (sym (ap (λ (x : ℕ). made_at app trace (taking x nth)) same) ∙ m)
     (record {
       run = st.run;
       objects = objects trace (put e trace) s.objects st.grows;
       processes = subst (λ (ps : List Process). AllLive app ps (put e trace)) (sym processes)
-          (live_born app w.processes.items trace s.processes e st.own st.others p (birth_at e) birth at unborn tree clock);
+          (live_born app w.processes.items trace s.processes e (goes_on app w trace s (taking object nth) tt tt e m) st.own st.others (birth_at e) at p birth unborn tree clock full);
       carrier = carrier ∙ s.carrier ∙ sym (ap (λ (x : List Entry). last_stamp x) (st.others (Carrier 0) none));
     })
 
-pub ship_done : (app : App) (w n : World) (trace : List Entry) (store region version part : ℕ) (found : Option Entry) (e : Entry)
-    → WorldStands app w trace → found ≡ Some e → found ≡ made_at app trace (shipping store region version part)
+pub carry_done : (app : App) (w n : World) (trace : List Entry) (store : ℕ) (call : Call) (e : Entry)
+    → WorldStands app w trace → IsCallOfRun call → made_at app trace (carrying store call) ≡ Some e
     → ((before after : List Entry) → AllStand app w.objects.items before → Grows app before after e → AllStand app n.objects.items after)
     → n.processes.items ≡ w.processes.items → n.carrier ≡ e.stamp
-    → Chose app trace (made_at app trace (shipping store region version part)) (Ok true) n
-ship_done app w n trace store region version part found e s is m objects processes carrier =
-    let st : Stepped app trace (shipping store region version part) e = step app w trace s (shipping store region version part) tt found e is m in
+    → Chose app trace (made_at app trace (carrying store call)) (Ok true) n
+carry_done app w n trace store call e s of_run m objects processes carrier =
+    let st : Stepped app trace (carrying store call) e = step app w trace s (carrying store call) tt of_run e m in
     let at : e.actor ≡ Carrier 0 = st.actor in
     let own : entries_by (Carrier 0) (put e trace) ≡ entries_by (Carrier 0) trace ++ e ∷ [] = subst (λ (a : Actor). entries_by a (put e trace) ≡ entries_by a trace ++ e ∷ []) at st.own in
     let before : All (λ d. d.stamp < e.stamp) (entries_by (Carrier 0) trace) = subst (λ (a : Actor). All (λ d. d.stamp < e.stamp) (entries_by a trace)) at st.before in
-    chose_made app n trace (made_at app trace (shipping store region version part)) e (sym m ∙ is)
+    chose_made app n trace (made_at app trace (carrying store call)) e m
     (record {
       run = st.run;
       objects = objects trace (put e trace) s.objects st.grows;
       processes = subst (λ (ps : List Process). AllLive app ps (put e trace)) (sym processes)
-          (live_kept app w.processes.items trace s.processes e st.own st.others (λ b c. (let both : Acting b ≡ Carrier 0 = sym c ∙ at in absurd (cc))));
+          (live_kept app w.processes.items trace s.processes e (goes_on app w trace s (carrying store call) tt of_run e m) st.own st.others
+          (λ b c. (let both : Acting b ≡ Carrier 0 = sym c ∙ at in absurd (cc))));
       carrier = carrier ∙ sym (last_is (entries_by (Carrier 0) trace) e before) ∙ sym (ap (λ (x : List Entry). last_stamp x) own);
     })
 
 -- ---- a process
 
--- a process that was found has entries
-pub is_born : (app : App) (w : World) (trace : List Entry) (b : Birth) (i : ℕ) → WorldStands app w trace → position (is_named b) w.processes.items ≡ Some i → (d : Process)
-    → LivesOn app (get_or w.processes.items i d) (entries_by (Acting b) trace)
-is_born app w trace b i s found d = (subst (λ (o : Option ℕ). Lives app w.processes.items o (entries_by (Acting b) trace)) found (s.processes b)) d
+store_call : (c : Call) → IsStoreCall c → IsCallOfRun c
+store_call (calls.Write key value lineage) is = tt
+store_call (calls.Read region key) is = tt
+store_call (calls.Look region ids dry) is = tt
+store_call _ is = elim is [ ]
 
-pub acts : (app : App) (w : World) (trace : List Entry) (b : Birth) (i : ℕ) → WorldStands app w trace → position (is_named b) w.processes.items ≡ Some i → Process
-    → entries_by (Acting b) trace ≡ [] → ⊥
-acts app w trace b i s found d none = let on = is_born app w trace b i s found d in let some : entries_by (Acting b) trace ≡ on.birth ∷ on.later = on.entries_are in absurd (cc)
+asked_at : (object span : ℕ) (call : Call) (tree : Tree) → want_of tree ≡ Make object span call → IsAskedAt object tree
+asked_at object span call (Asks ask go) is = cc
+asked_at object span call (Ends end) is = absurd (cc)
 
 -- what is known of the process that goes on: it is the one that was found, and this is its next call
 pub record Goes (app : App) (w : World) (b : Birth) (i : ℕ) (p : Process) (want : Want) (clock : ℕ) : Type 0 where
   pub found : position (is_named b) w.processes.items ≡ Some i
   pub is : slice_get w.processes.items i ≡ Some p
-  pub next : want ≡ want_of (process_of app p)
+  pub going : full_of p ≡ None → want ≡ want_of (process_of app p)
+  pub full : (at : ℕ) → full_of p ≡ Some at → want ≡ Over (StoreFull at)
   pub is_clock : clock ≡ standing.clock_of p
+
+pub goes_of : (app : App) (w : World) (b : Birth) (i : ℕ) (given : List Process) (at p : Process) (want : Want) (clock : ℕ) → given ≡ w.processes.items → position (is_named b) given ≡ Some i
+    → slice_get w.processes.items i ≡ Some at → p ≡ at → (full_of p ≡ None → want ≡ want_of (process_of app p)) → ((at : ℕ) → full_of p ≡ Some at → want ≡ Over (StoreFull at))
+    → clock ≡ standing.clock_of p → Goes app w b i p want clock
+goes_of app w b i given at p want clock items found there same going full is =
+    record { found = subst (λ (ps : List Process). position (is_named b) ps ≡ Some i) items found; is = there ∙ ap Some (sym same); going = going; full = full; is_clock = is }
 
 module _ (app : App) (w : World) (trace : List Entry) (b : Birth) (i : ℕ) (p : Process) (want : Want) (clock : ℕ) (s : WorldStands app w trace) (g : Goes app w b i p want clock) where
   at_p : (d : Process) → get_or w.processes.items i d ≡ p
   at_p d = get_or_from_slice_get w.processes.items i p d g.is
 
-  on_p : LivesOn app p (entries_by (Acting b) trace)
-  on_p = subst (λ (x : Process). LivesOn app x (entries_by (Acting b) trace)) (at_p p) (is_born app w trace b i s g.found p)
+  on_p : LivesOn app trace p (entries_by (Acting b) trace)
+  on_p = subst (λ (x : Process). LivesOn app trace x (entries_by (Acting b) trace)) (at_p p)
+      ((subst (λ (o : Option ℕ). Lives app trace w.processes.items o (entries_by (Acting b) trace)) g.found (s.processes b)) p)
 
   pub goes_clock : clock ≡ clock_of (Acting b) trace
   goes_clock = g.is_clock ∙ on_p.clock
 
-  pub goes_next : next_call app trace b ≡ asked_by b want
-  goes_next = ap (λ (x : Want). asked_by b x) (sym (g.next ∙ ap want_of on_p.tree))
-
-  pub goes_stores : WantsOfStores app want
-  goes_stores = next_of_stores app (entries_by (Acting b) trace) want (g.next ∙ ap want_of on_p.tree)
-
   pub goes_born : IsBorn (Acting b) trace
-  goes_born = acts app w trace b i s g.found p
+  goes_born none = let some : entries_by (Acting b) trace ≡ on_p.birth ∷ on_p.later = on_p.entries_are in absurd (cc)
 
-  -- the process made its next call
-  pub go_done : (n : World) (object span : ℕ) (call : Call) (found : Option Entry) (e : Entry) (then : Process)
-      → want ≡ Make object span call → found ≡ Some e → found ≡ made_at app trace (going b object span call)
-      → ((before after : List Entry) → AllStand app w.objects.items before → Grows app before after e → AllStand app n.objects.items after)
-      → n.processes.items ≡ slice_set w.processes.items i then → n.carrier ≡ w.carrier
-      → process_of app then ≡ branch (process_of app p) e.reply → standing.clock_of then ≡ e.stamp → birth_of then ≡ birth_of p
-      → Chose app trace (option_and_then (made_at app trace) (next_call app trace b)) (Ok true) n
-  go_done n object span call found e then wants is m objects processes carrier tree at birth =
-      let st : Stepped app trace (going b object span call) e = step app w trace s (going b object span call) goes_born found e is m in
-      let actor : e.actor ≡ Acting b = st.actor in
-      let before : All (λ d. d.stamp < e.stamp) (entries_by (Acting b) trace) = subst (λ (a : Actor). All (λ d. d.stamp < e.stamp) (entries_by a trace)) actor st.before in
-      let none : e.actor ≡ Carrier 0 → ⊥ = λ c. (let both : Acting b ≡ Carrier 0 = sym actor ∙ c in absurd (cc)) in
-      chose_made app n trace (option_and_then (made_at app trace) (next_call app trace b)) e
-      (ap (λ (x : Option Asked). option_and_then (made_at app trace) x) (goes_next ∙ ap (λ (x : Want). asked_by b x) wants) ∙ sym m ∙ is)
-      (record {
-        run = st.run;
-        objects = objects trace (put e trace) s.objects st.grows;
-        processes = subst (λ (ps : List Process). AllLive app ps (put e trace)) (sym processes)
-            (live_went app w.processes.items trace s.processes e st.own st.others then b i g.found actor
-            (λ d. birth ∙ ap (λ (x : Process). birth_of x) (sym (at_p d)))
-            (λ d. tree ∙ ap (λ (x : Process). branch (process_of app x) e.reply) (sym (at_p d))) at before);
-        carrier = carrier ∙ s.carrier ∙ sym (ap (λ (x : List Entry). last_stamp x) (st.others (Carrier 0) none));
-      })
+  abbrev left : Want
+  left = want_of (process_after app (entries_by (Acting b) trace))
 
-  -- it has ended, or its call makes nothing
-  pub go_ended : (end : End) → want ≡ Over end → Chose app trace (option_and_then (made_at app trace) (next_call app trace b)) (Ok false) w
-  go_ended end over = chose_none app w trace (option_and_then (made_at app trace) (next_call app trace b))
-      (ap (λ (x : Option Asked). option_and_then (made_at app trace) x) (goes_next ∙ ap (λ (x : Want). asked_by b x) over)) s
+  -- it asks for a call
+  module _ (object span : ℕ) (call : Call) (wants : want ≡ Make object span call) where
+    still_going : (o : Option ℕ) → full_of p ≡ o → full_of p ≡ None
+    still_going None is = is
+    still_going (Some at) is = absurd (let over : want ≡ Over (StoreFull at) = g.full at is in cc)
 
-  pub go_waits : (object span : ℕ) (call : Call) → want ≡ Make object span call → None ≡ made_at app trace (going b object span call)
-      → Chose app trace (option_and_then (made_at app trace) (next_call app trace b)) (Ok false) w
-  go_waits object span call wants none = chose_none app w trace (option_and_then (made_at app trace) (next_call app trace b))
-      (ap (λ (x : Option Asked). option_and_then (made_at app trace) x) (goes_next ∙ ap (λ (x : Want). asked_by b x) wants) ∙ sym none) s
+    pub not_full : full_of p ≡ None
+    not_full = still_going (full_of p) refl
 
-pub goes_of : (app : App) (w : World) (b : Birth) (i : ℕ) (given : List Process) (at p : Process) (want : Want) (clock : ℕ) → given ≡ w.processes.items → position (is_named b) given ≡ Some i
-    → slice_get w.processes.items i ≡ Some at → p ≡ at → want ≡ want_of (process_of app p) → clock ≡ standing.clock_of p → Goes app w b i p want clock
-goes_of app w b i given at p want clock items found there same next is =
-    record { found = subst (λ (ps : List Process). position (is_named b) ps ≡ Some i) items found; is = there ∙ ap Some (sym same); next = next; is_clock = is }
+    pub is_asked : IsAskedAt object (process_of app p)
+    is_asked = asked_at object span call (process_of app p) (sym (g.going not_full) ∙ wants)
 
-store_call : (c : Call) → IsStoreCall c → IsCallOfRun c
-store_call (calls.Write key value lineage) is = tt
-store_call (calls.Read region key) is = tt
-store_call _ is = elim is [ ]
+    left_is : left ≡ Make object span call
+    left_is = sym (ap want_of on_p.tree) ∙ sym (g.going not_full) ∙ wants
 
--- a process calls stores alone
-pub call_is_of_run : (app : App) (object span : ℕ) (call : Call) (want : Want) → want ≡ Make object span call → WantsOfStores app want → IsCallOfRun call
-call_is_of_run app object span call want is stores = store_call call (subst (λ (x : Want). WantsOfStores app x) is stores).call
+    pub goes_call : IsCallOfRun call
+    goes_call = store_call call (subst (WantsOfStores app) left_is (next_of_stores app (entries_by (Acting b) trace) left refl)).call
+
+    asks_next : option_and_then (made_at app trace) (next_call app trace b) ≡ made_at app trace (going b object span call)
+    asks_next = ap (λ (x : Want). option_and_then (made_at app trace) (asked_by b x)) left_is
+
+    -- it made the call
+    pub go_done : (n : World) (e : Entry) (then : Process) → made_at app trace (going b object span call) ≡ Some e
+        → ((before after : List Entry) → AllStand app w.objects.items before → Grows app before after e → AllStand app n.objects.items after)
+        → n.processes.items ≡ slice_set w.processes.items i then → n.carrier ≡ w.carrier
+        → process_of app then ≡ branch (process_of app p) e.reply → standing.clock_of then ≡ e.stamp → birth_of then ≡ birth_of p → full_of then ≡ full_of p
+        → Chose app trace (option_and_then (made_at app trace) (next_call app trace b)) (Ok true) n
+    go_done n e then m objects processes carrier tree at birth full =
+        let st : Stepped app trace (going b object span call) e = step app w trace s (going b object span call) goes_born goes_call e m in
+        let actor : e.actor ≡ Acting b = st.actor in
+        let before : All (λ d. d.stamp < e.stamp) (entries_by (Acting b) trace) = subst (λ (a : Actor). All (λ d. d.stamp < e.stamp) (entries_by a trace)) actor st.before in
+        let none : e.actor ≡ Carrier 0 → ⊥ = λ c. (let both : Acting b ≡ Carrier 0 = sym actor ∙ c in absurd (cc)) in
+        chose_made app n trace (option_and_then (made_at app trace) (next_call app trace b)) e (asks_next ∙ m)
+        (record {
+          run = st.run;
+          objects = objects trace (put e trace) s.objects st.grows;
+          processes = subst (λ (ps : List Process). AllLive app ps (put e trace)) (sym processes)
+              (live_went app w.processes.items trace s.processes e (goes_on app w trace s (going b object span call) goes_born goes_call e m) st.own st.others b actor then i g.found
+              (λ d. birth ∙ ap (λ (x : Process). birth_of x) (sym (at_p d)))
+              (λ d. tree ∙ ap (λ (x : Process). branch (process_of app x) e.reply) (sym (at_p d))) at (full ∙ not_full) before);
+          carrier = carrier ∙ s.carrier ∙ sym (ap (λ (x : List Entry). last_stamp x) (st.others (Carrier 0) none));
+        })
+
+    -- its call makes nothing
+    pub go_waits : made_at app trace (going b object span call) ≡ None → Chose app trace (option_and_then (made_at app trace) (next_call app trace b)) (Ok false) w
+    go_waits none = chose_none app w trace (option_and_then (made_at app trace) (next_call app trace b)) (asks_next ∙ none) s
+
+    -- and it is ended, since the call is ready and does not fit
+    was_full : IsFull app trace (going b object span call) → WasFull app trace object call
+    was_full full = record {
+      start = full.start;
+      there = full.there;
+      before = entries_on object trace;
+      later = [];
+      history = sym (append-nil (entries_on object trace));
+      was_ready = full.is_ready;
+      was_full = full.is_full;
+    }
+
+    pub go_ended : (n : World) (then : Process) → (made_at app trace (going b object span call) ≡ None) × IsFull app trace (going b object span call)
+        → n.objects.items ≡ w.objects.items → n.processes.items ≡ slice_set w.processes.items i then → n.carrier ≡ w.carrier
+        → process_of app then ≡ process_of app p → standing.clock_of then ≡ standing.clock_of p → birth_of then ≡ birth_of p → full_of then ≡ Some object
+        → Chose app trace (option_and_then (made_at app trace) (next_call app trace b)) (Ok false) n
+    go_ended n then full objects processes carrier tree at birth ended =
+        chose_none app n trace (option_and_then (made_at app trace) (next_call app trace b)) (asks_next ∙ full.0)
+        (record {
+          run = s.run;
+          objects = subst (λ (os : List Logged). AllStand app os trace) (sym objects) s.objects;
+          processes = subst (λ (ps : List Process). AllLive app ps trace) (sym processes)
+              (live_set app trace trace (no_more trace) w.processes.items s.processes b (λ c off. refl) then i g.found
+              (λ d. birth ∙ ap (λ (x : Process). birth_of x) (sym (at_p d)))
+              (record {
+                birth = on_p.birth;
+                later = on_p.later;
+                entries_are = on_p.entries_are;
+                tree = tree ∙ on_p.tree;
+                clock = at ∙ on_p.clock;
+                full = subst (λ (o : Option ℕ). IfSome o (IsEnded app trace left)) (sym ended)
+                    (subst (λ (x : Want). IsEnded app trace x object) (sym left_is) (refl, was_full full.1));
+              }));
+          carrier = carrier ∙ s.carrier;
+        })
+
+    -- what is asked for is this call
+    is_going : (q : Asked) → next_call app trace b ≡ Some q → q ≡ going b object span call
+    is_going q next = let both : Some q ≡ Some (going b object span call) = sym next ∙ ap (asked_by b) left_is in cc
+
+    pub stops_made : (ps : List Process) (e : Entry) → made_at app trace (going b object span call) ≡ Some e → Stops app trace b ps
+    stops_made ps e m q next full =
+        let at : IsFull app trace (going b object span call) = subst (IsFull app trace) (is_going q next) full in
+        let none : made_at app trace (going b object span call) ≡ None = none_fits app trace (going b object span call) at.start at.there at.is_full in
+        absurd (let both : None ≡ Some e = sym none ∙ m in cc)
+
+    pub stops_waits : (ps : List Process) → (IsFull app trace (going b object span call) → ⊥) → Stops app trace b ps
+    stops_waits ps not q next full = absurd (not (subst (IsFull app trace) (is_going q next) full))
+
+    pub stops_ended : (ps : List Process) (then : Process) → ps ≡ slice_set w.processes.items i then → birth_of then ≡ birth_of p → full_of then ≡ Some object → Stops app trace b ps
+    stops_ended ps then processes birth ended q next full =
+        let at : position (is_named b) (slice_set w.processes.items i then) ≡ Some i =
+        position_set (is_named b) w.processes.items i then then (ap (λ (x : Birth). same_actor (Acting b) (Acting x)) (birth ∙ ap (λ (x : Process). birth_of x) (sym (at_p then)))) ∙ g.found in
+        let within : i < length w.processes.items = slice_get_within w.processes.items i p g.is in
+        subst (λ (x : List Process). IsStopped x (position (is_named b) x)) (sym processes)
+        (subst (IsStopped (slice_set w.processes.items i then)) (sym at) (λ d. (object, ap full_of (get_or-set_same w.processes.items i then d within) ∙ ended)))
+
+  -- it has ended: there is no further call, or one that did not fit
+  none_left : IsTrue (is_sound app) → (x : Want) (at : ℕ) → IsEnded app trace x at → option_and_then (made_at app trace) (asked_by b x) ≡ None
+  none_left sound (Make object span call) at ended = full_makes_none app trace s.run sound (going b object span call) ended.1
+  none_left sound (Over end) at ended = elim ended [ ]
+
+  over_by : IsTrue (is_sound app) → (end : End) → want ≡ Over end → (o : Option ℕ) → full_of p ≡ o → IfSome o (IsEnded app trace left)
+      → option_and_then (made_at app trace) (next_call app trace b) ≡ None
+  over_by sound end over None is ended = ap (λ (x : Want). option_and_then (made_at app trace) (asked_by b x)) (sym (ap want_of on_p.tree) ∙ sym (g.going is) ∙ over)
+  over_by sound end over (Some at) is ended = none_left sound left at ended
+
+  pub go_over : IsTrue (is_sound app) → (end : End) → want ≡ Over end → Chose app trace (option_and_then (made_at app trace) (next_call app trace b)) (Ok false) w
+  go_over sound end over = chose_none app w trace (option_and_then (made_at app trace) (next_call app trace b)) (over_by sound end over (full_of p) refl on_p.full) s
+
+  stops_by : (end : End) → want ≡ Over end → (o : Option ℕ) → full_of p ≡ o → Stops app trace b w.processes.items
+  stops_by end over None is q next full =
+      absurd (let none : next_call app trace b ≡ None = ap (asked_by b) (sym (ap want_of on_p.tree) ∙ sym (g.going is) ∙ over) in let both : None ≡ Some q = sym none ∙ next in cc)
+  stops_by end over (Some at) is q next full =
+      subst (IsStopped w.processes.items) (sym g.found) (λ d. (at, ap full_of (at_p d) ∙ is))
+
+  pub stops_over : (end : End) → want ≡ Over end → Stops app trace b w.processes.items
+  stops_over end over = stops_by end over (full_of p) refl
+
+-- a process that is not there asks for nothing
+pub stops_none : (app : App) (w : World) (trace : List Entry) (b : Birth) (given ps : List Process) → WorldStands app w trace → given ≡ w.processes.items
+    → position (is_named b) given ≡ None → Stops app trace b ps
+stops_none app w trace b given ps s same none q next full =
+    let absent : position (is_named b) w.processes.items ≡ None = subst (λ (xs : List Process). position (is_named b) xs ≡ None) same none in
+    let unborn : entries_by (Acting b) trace ≡ [] = subst (λ (o : Option ℕ). Lives app trace w.processes.items o (entries_by (Acting b) trace)) absent (s.processes b) in
+    absurd (let nothing : next_call app trace b ≡ None = ap (λ (es : List Entry). asked_by b (want_of (process_after app es))) unborn in let both : None ≡ Some q = sym nothing ∙ next in cc)
 
 -- a take names a service that is there
 pub take_named : (app : App) (choice : Choice) (service nth : ℕ) → choice ≡ choices.Take service nth
     → IsTrue (is_sound_choice (length app.regions.items) (length app.stores.items) (length app.services.items) choice) → service < length app.services.items
-unfolding is_sound_choice
 take_named app choice service nth is sound =
-    ltb-true service (length app.services.items) (and_parts (nat_lt service (length app.services.items)) (is_countable nth)
-    (subst (λ (x : Choice). is_sound_choice (length app.regions.items) (length app.stores.items) (length app.services.items) x ≡ true) is sound)).0
-
-pub none_of : (o : Option Entry) → ((e : Entry) → o ≡ Some e → ⊥) → None ≡ o
-none_of None other = refl
-none_of (Some e) other = absurd (other e refl)
+    (subst (SoundChoice (length app.regions.items) (length app.stores.items) (length app.services.items)) is
+    (choice_known (length app.regions.items) (length app.stores.items) (length app.services.items) choice sound)).0

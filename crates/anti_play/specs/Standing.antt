@@ -1,56 +1,34 @@
 -- How the objects and the processes of a world stand for a trace.
-use Rattle.std.specs.Prelude.{◌≡◌, ℕ, ◌+◌, ◌^◌, ◌<◌, max, Bool, true, false, List, [], ◌∷◌, length, slice_index_or, Option, None, Some, position, Result, MatchResult, ◌++◌}
+use Rattle.std.specs.Prelude.{◌≡◌, ℕ, ◌+◌, ◌^◌, ◌<◌, max, Bool, true, false, List, [], ◌∷◌, length, slice_index_or, Option, None, Some, IfSome, position, Result, MatchResult, ◌++◌}
 use Rattle.anti_kind.specs.declared.call.Actor.{Actor}
 use Rattle.anti_kind.specs.declared.call.Actor.TheVariants.{Carrier, Process as Acting}
 use Rattle.anti_kind.specs.declared.call.Birth.{Birth}
 use Rattle.anti_kind.specs.declared.call.Call.{Call}
-use Rattle.anti_kind.specs.declared.call.Call.TheVariants.{Write, Read, Ship, Take}
 use Rattle.anti_kind.specs.declared.call.Entry.{Entry}
-use Rattle.anti_kind.specs.Objects.{Start, ready, fits, Follows, StandsFor, last_stamp}
-use Rattle.anti_kv.specs.KvStates.{its_start, KvStands}
-use Rattle.anti_inbox.specs.Inboxes as inboxes
+use Rattle.anti_kind.specs.Objects.{Start, ready, fits, Follows, last_stamp}
 use Rattle.anti_app.specs.declared.app.App.{App}
+use Rattle.anti_app.specs.declared.app.Choice.{Choice}
+use Rattle.anti_app.specs.declared.app.Choice.TheVariants.{Go}
 use Rattle.anti_trace.specs.Traces.{entries_on, entries_by, same_actor, put}
 use Rattle.anti_proc.specs.declared.process.Process.{Process}
 use Rattle.anti_proc.specs.Meaning.{process_after}
+use Rattle.anti_proc.specs.declared.want.Want.{Want}
+use Rattle.anti_proc.specs.declared.want.Want.TheVariants.{Make, Over}
+use Rattle.anti_proc.specs.Trees.{want_of}
 use Rattle.anti_proc.specs.Standing as standing
 use Rattle.anti_ids.specs.declared.memory.NoMemory.{NoMemory}
-use Rattle.anti_play.specs.declared.object.Object.{Object}
-use Rattle.anti_play.specs.declared.object.Object.TheVariants.{Store, Inbox}
+use Rattle.anti_object.specs.Starts.{start_of}
+use Rattle.anti_object.specs.Standing.{object_start, ObjectAt}
+use Rattle.anti_play.specs.declared.asked.Asked.{Asked}
 use Rattle.anti_play.specs.declared.logged.Logged.{Logged}
+use Rattle.anti_play.specs.declared.outcome.Outcome.{Outcome}
+use Rattle.anti_play.specs.declared.outcome.Outcome.TheVariants as outcomes
 use Rattle.anti_play.specs.declared.world.World.{World}
-use Rattle.anti_play.specs.Schedule.{start_of, clock_of}
+use Rattle.anti_play.specs.Schedule.{clock_of, made_at, next_call}
 use Rattle.anti_proc.specs.Numbers.{object_count}
 use Rattle.anti_play.specs.Runs.{IsRun}
 
--- the calls that schedules and handlers make so far
-abbrev pub IsCallOfRun : Call → Type 0
-IsCallOfRun (Write key value lineage) = Unit {0}
-IsCallOfRun (Read region key) = Unit {0}
-IsCallOfRun (Ship region version part) = Unit {0}
-IsCallOfRun (Take nth) = Unit {0}
-IsCallOfRun _ = ⊥
-
 -- ---- objects
-
-abbrev pub object_start : Object → Start
-object_start (Store m) = its_start m
-object_start (Inbox m) = inboxes.start_of m
-
-abbrev pub ObjectStands : Object → List Entry → Type 0
-ObjectStands (Store m) h = KvStands m h
-ObjectStands (Inbox m) h = inboxes.InboxStands m h
-
--- an object stands for a history that is legal
-abbrev pub ObjectAt : Object → List Entry → Type 0
-ObjectAt o h = StandsFor (object_start o) (ObjectStands o) h
-
--- after some history for which the object stands the call is ready and fits
-pub record MayMake (o : Object) (c : Call) : Type 0 where
-  pub history : List Entry
-  pub stands_for : ObjectAt o history
-  pub is_ready : ready (object_start o) history c ≡ true
-  pub fits : fits (object_start o) history c ≡ true
 
 -- an object, and its history beside it
 pub record LoggedStands (l : Logged) (h : List Entry) : Type 0 where
@@ -75,21 +53,37 @@ pub record HasRoom (l : Logged) (clock : ℕ) : Type 0 where
 abbrev pub is_named : Birth → Process → Bool
 is_named b p = same_actor (Acting b) (Acting (standing.birth_of p))
 
--- a process stands for its entries, of which the first started it
-pub record LivesOn (app : App) (p : Process) (entries : List Entry) : Type 0 where
+-- At some moment of the run the call was ready and did not fit. So it does not fit now, and it never will: what is full stays full.
+pub record WasFull (app : App) (trace : List Entry) (object : ℕ) (call : Call) : Type 0 where
+  pub start : Start
+  pub there : start_of app object ≡ Some start
+  pub before : List Entry
+  pub later : List Entry
+  pub history : entries_on object trace ≡ before ++ later
+  pub was_ready : ready start before call ≡ true
+  pub was_full : fits start before call ≡ false
+
+-- what a process wants is such a call at the object of this number
+abbrev pub IsEnded : App → List Entry → Want → ℕ → Type 0
+IsEnded app trace (Make object span call) at = (object ≡ at) × WasFull app trace object call
+IsEnded app trace (Over end) at = ⊥
+
+-- a process stands for its entries, of which the first started it; it may have been ended since its next call did not fit
+pub record LivesOn (app : App) (trace : List Entry) (p : Process) (entries : List Entry) : Type 0 where
   pub birth : Entry
   pub later : List Entry
   pub entries_are : entries ≡ birth ∷ later
   pub tree : standing.process_of app p ≡ process_after app entries
   pub clock : standing.clock_of p ≡ last_stamp entries
+  pub full : IfSome (standing.full_of p) (IsEnded app trace (want_of (process_after app entries)))
 
 -- where a process was found it lives on, else it has no entry
-abbrev pub Lives : App → List Process → Option ℕ → List Entry → Type 0
-Lives app ps None entries = entries ≡ []
-Lives app ps (Some i) entries = (d : Process) → LivesOn app (slice_index_or ps i d) entries
+abbrev pub Lives : App → List Entry → List Process → Option ℕ → List Entry → Type 0
+Lives app trace ps None entries = entries ≡ []
+Lives app trace ps (Some i) entries = (d : Process) → LivesOn app trace (slice_index_or ps i d) entries
 
 abbrev pub AllLive : App → List Process → List Entry → Type 0
-AllLive app ps trace = (b : Birth) → Lives app ps (position (is_named b) ps) (entries_by (Acting b) trace)
+AllLive app ps trace = (b : Birth) → Lives app trace ps (position (is_named b) ps) (entries_by (Acting b) trace)
 
 -- ---- worlds
 
@@ -118,6 +112,33 @@ pub record HasClock (app : App) (w : World) (actor : Actor) (clock : ℕ) : Type
 pub record IsWorldOf (app : App) (w : World) : Type 0 where
   pub trace : List Entry
   pub stands : WorldStands app w trace
+
+-- the call is ready and does not fit
+pub record IsFull (app : App) (trace : List Entry) (q : Asked) : Type 0 where
+  pub start : Start
+  pub there : start_of app q.object ≡ Some start
+  pub is_ready : ready start (entries_on q.object trace) q.call ≡ true
+  pub is_full : fits start (entries_on q.object trace) q.call ≡ false
+
+-- what comes of a call that is asked for: the entry that the schedule states, or none, since it is not ready or does not fit
+abbrev pub IsOutcome : App → List Entry → Asked → Outcome → Type 0
+IsOutcome app trace q (outcomes.Makes e) = made_at app trace q ≡ Some e
+IsOutcome app trace q outcomes.NotYet = (made_at app trace q ≡ None) × (IsFull app trace q → ⊥)
+IsOutcome app trace q outcomes.Full = (made_at app trace q ≡ None) × IsFull app trace q
+
+-- the process is ended, since its next call did not fit
+abbrev pub IsStopped : List Process → Option ℕ → Type 0
+IsStopped ps None = ⊥
+IsStopped ps (Some i) = (d : Process) → (at : ℕ) × (standing.full_of (slice_index_or ps i d) ≡ Some at)
+
+-- A process whose next call is ready and does not fit is ended.
+abbrev pub Stops : App → List Entry → Birth → List Process → Type 0
+Stops app trace b ps = (q : Asked) → next_call app trace b ≡ Some q → IsFull app trace q → IsStopped ps (position (is_named b) ps)
+
+-- the process that a choice names, where it names one
+abbrev pub StopsBy : App → List Entry → Choice → List Process → Type 0
+StopsBy app trace (Go object place) ps = Stops app trace (record { object = object; place = place }) ps
+StopsBy app trace _ ps = Unit {0}
 
 -- What a choice made of the world: the entry that the schedule states, or none. Want of memory leaves what there was.
 abbrev pub Chose : App → List Entry → Option Entry → Result Bool NoMemory → World → Type 0

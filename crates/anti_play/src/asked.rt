@@ -1,7 +1,4 @@
-ghost use Rattle.std.specs.Prelude.{◌≡◌};
-ghost use Rattle.anti_play.specs.Schedule.{named};
-
-use anti_kind::{Actor, Birth, Call};
+use anti_kind::{Actor, Call};
 
 /// A call that an actor asks for at an object, in a span.
 #[derive(Drop)]
@@ -14,14 +11,4 @@ pub struct Asked {
     pub span: u32,
     /// What is asked for.
     pub call: Call,
-}
-
-/// The actor of an entry. A process that the entry itself begins is named by the entry's object and place.
-pub fn named(actor: Actor, birth: Birth) -> Actor
-    ensures { result ≡ named actor birth.object birth.place }
-{
-    match actor {
-        Actor::Newborn => Actor::Process(birth),
-        other => other,
-    }
 }

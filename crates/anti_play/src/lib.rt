@@ -4,7 +4,7 @@
 mod asked;
 mod building;
 mod logged;
-mod object;
+mod outcome;
 mod player;
 mod tracing;
 mod world;

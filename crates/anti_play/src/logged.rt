@@ -2,12 +2,13 @@ ghost use Rattle.std.specs.Prelude.{◌≡◌, ◌++◌, ◌∷◌, [], ◌+◌,
 ghost use Rattle.anti_kind.specs.Objects.{Follows, last_stamp};
 ghost use Rattle.anti_play.specs.Runs.{Entries};
 ghost use Rattle.anti_play.specs.Schedule.{entry_with};
-ghost use Rattle.anti_play.specs.Standing.{object_start, HasRoom, IsCallOfRun, LoggedStands, MayFollow};
+ghost use Rattle.anti_object.specs.Standing.{object_start, IsCallOfRun};
+ghost use Rattle.anti_play.specs.Standing.{HasRoom, LoggedStands, MayFollow};
 
-use crate::asked::{Asked, named};
-use crate::object::Object;
+use crate::asked::Asked;
 use anti_ids::{List, NoMemory};
 use anti_kind::{Birth, Entry, History, Reply};
+use anti_object::Object;
 use std::alloc::Global;
 
 /// An object with the history of its entries.
@@ -56,7 +57,7 @@ impl Logged {
             object: asked.object,
             place,
             seat: 0,
-            actor: named(asked.actor, birth),
+            actor: asked.actor.named(birth),
             span: asked.span,
             call: asked.call,
             reply,

@@ -1,12 +1,14 @@
 ghost use Rattle.std.specs.Prelude.{◌≡◌, ◌+◌, ◌<◌, ◌^◌, true, length, vec_len, slice_index_or, position, [], ◌∷◌, Option, Some, IfOk, OnOk, OnErr, IsTrue};
 ghost use Rattle.anti_app.specs.declared.app.App.{App};
 ghost use Rattle.anti_app.specs.Sound.{is_sound, is_sound_choice};
-ghost use Rattle.anti_play.specs.Schedule.{asked, chosen, clock_of, made_at};
+ghost use Rattle.anti_object.specs.Standing.{IsCallOfRun};
+ghost use Rattle.anti_play.specs.Schedule.{asked, carrying, chosen, clock_of, made_at};
 ghost use Rattle.anti_play.specs.Runs.{Entries};
-ghost use Rattle.anti_play.specs.Standing.{AllStand, Chose, Grows, HasClock, IsCallOfRun, IsWorldOf, MayGrow, WorldStands, is_named};
+ghost use Rattle.anti_play.specs.Standing.{AllStand, Chose, Grows, HasClock, IsOutcome, IsWorldOf, MayGrow, Stops, StopsBy, WorldStands, is_named};
 
 use crate::asked::Asked;
 use crate::logged::Logged;
+use crate::outcome::Outcome;
 use anti_app::{App, Choice};
 use anti_ids::{Copies, List, NoMemory};
 use anti_kind::{Actor, Birth, Call, Entry};
@@ -45,22 +47,25 @@ fn add(objects: &mut Vec<Logged>, entry: Entry) -> Result<(), NoMemory>
 }
 
 impl World {
-    // The entry that a call makes, where it is ready and fits.
-    fn entry_for(&self, app: &App, asked: Asked, clock: u64) -> Result<Option<Entry>, NoMemory>
+    // What comes of a call that is asked for.
+    fn outcome(&self, app: &App, asked: Asked, clock: u64) -> Result<Outcome, NoMemory>
         requires call { IsCallOfRun asked.call }
         requires sound { IsTrue (is_sound app.now) }
         requires clock { HasClock app.now self.now asked.actor clock }
-        ensures { (trace : Entries) → WorldStands app.now self.now trace → clock ≡ clock_of asked.actor trace → IfOk result (λ e. e ≡ made_at app.now trace asked) }
+        ensures { (trace : Entries) → WorldStands app.now self.now trace → clock ≡ clock_of asked.actor trace → IfOk result (IsOutcome app.now trace asked) }
     {
         let _app = app;
         let Some(logged) = self.objects.get(asked.object as usize) else {
-            return Ok(None);
+            return Ok(Outcome::NotYet);
         };
-        if !logged.object.can(&asked.call) {
-            return Ok(None);
+        if !logged.object.ready(&asked.call) {
+            return Ok(Outcome::NotYet);
+        }
+        if !logged.object.fits(&asked.call) {
+            return Ok(Outcome::Full);
         }
         let reply = logged.object.due(self.alloc, &asked.call)?;
-        Ok(Some(logged.next_entry(asked, clock, reply)))
+        Ok(Outcome::Makes(logged.next_entry(asked, clock, reply)))
     }
 
     // Takes a delivery of a service's inbox. A process is born.
@@ -76,7 +81,7 @@ impl World {
             span: 1,
             call: Call::Take { nth },
         };
-        let Some(entry) = self.entry_for(app, asked, 0)? else {
+        let Outcome::Makes(entry) = self.outcome(app, asked, 0)? else {
             return Ok(false);
         };
         let process = Process::born(self.alloc, app, &entry)?;
@@ -86,30 +91,20 @@ impl World {
         Ok(true)
     }
 
-    // Moves a shipment.
-    fn ship(
-        &mut self,
-        app: &App,
-        store: u32,
-        region: u32,
-        version: u64,
-        part: Option<u32>,
-    ) -> Result<bool, NoMemory>
+    // Makes a call of the carrier at a store.
+    fn carry(&mut self, app: &App, store: u32, call: Call) -> Result<bool, NoMemory>
+        requires call { IsCallOfRun call }
         requires sound { IsTrue (is_sound app.now) }
         requires world { IsWorldOf app.now self.old }
-        ensures { (trace : Entries) → WorldStands app.now self.old trace → Chose app.now trace (chosen app.now trace (Choice.Ship store region version part)) result self.new }
+        ensures { (trace : Entries) → WorldStands app.now self.old trace → Chose app.now trace (made_at app.now trace (carrying store call)) result self.new }
     {
         let asked = Asked {
             object: store,
             actor: Actor::Carrier(0),
             span: 0,
-            call: Call::Ship {
-                region,
-                version,
-                part: part.unwrap_or(1),
-            },
+            call,
         };
-        let Some(entry) = self.entry_for(app, asked, self.carrier)? else {
+        let Outcome::Makes(entry) = self.outcome(app, asked, self.carrier)? else {
             return Ok(false);
         };
         let stamp = entry.stamp;
@@ -118,11 +113,12 @@ impl World {
         Ok(true)
     }
 
-    // Makes the next call of a process.
+    // Makes the next call of a process. Where it is ready and does not fit the process ends.
     fn go(&mut self, app: &App, birth: Birth) -> Result<bool, NoMemory>
         requires sound { IsTrue (is_sound app.now) }
         requires world { IsWorldOf app.now self.old }
-        ensures { (trace : Entries) → WorldStands app.now self.old trace → Chose app.now trace (chosen app.now trace (Choice.Go birth.object birth.place)) result self.new }
+        ensures chose { (trace : Entries) → WorldStands app.now self.old trace → Chose app.now trace (chosen app.now trace (Choice.Go birth.object birth.place)) result self.new }
+        ensures ended { (trace : Entries) → WorldStands app.now self.old trace → OnOk result (Stops app.now trace birth self.new.processes.items) }
     {
         let Some(at) = position(self.processes.as_slice(), birth) else {
             return Ok(false);
@@ -137,22 +133,30 @@ impl World {
             span,
             call,
         };
-        let Some(entry) = self.entry_for(app, asked, process.clock())? else {
-            return Ok(false);
-        };
-        process.feed(app, entry.stamp, &entry.reply)?;
-        add(&mut self.objects, entry)?;
-        self.processes.set(at, process);
-        Ok(true)
+        match self.outcome(app, asked, process.clock())? {
+            Outcome::Makes(entry) => {
+                process.feed(app, entry.stamp, &entry.reply)?;
+                add(&mut self.objects, entry)?;
+                self.processes.set(at, process);
+                Ok(true)
+            }
+            Outcome::NotYet => Ok(false),
+            Outcome::Full => {
+                process.full(object);
+                self.processes.set(at, process);
+                Ok(false)
+            }
+        }
     }
 
-    /// Makes the entry that a choice asks for, and tells whether there was one. A choice that makes none is a wait. Where there is no
-    /// memory the world is as it was.
+    /// Makes the entry that a choice asks for, and tells whether there was one. A choice that makes none is a wait. A process ends
+    /// where it goes on with a call that is ready and does not fit. Where there is no memory the world stands for what it stood for.
     pub fn choose(&mut self, app: &App, choice: &Choice) -> Result<bool, NoMemory>
         requires sound { IsTrue (is_sound app.now) }
         requires named { IsTrue (is_sound_choice (length app.now.regions.items) (length app.now.stores.items) (length app.now.services.items) choice.now) }
         requires world { IsWorldOf app.now self.old }
-        ensures { (trace : Entries) → WorldStands app.now self.old trace → Chose app.now trace (chosen app.now trace choice.now) result self.new }
+        ensures chose { (trace : Entries) → WorldStands app.now self.old trace → Chose app.now trace (chosen app.now trace choice.now) result self.new }
+        ensures ended { (trace : Entries) → WorldStands app.now self.old trace → OnOk result (StopsBy app.now trace choice.now self.new.processes.items) }
     {
         match *choice {
             Choice::Take { service, nth } => self.take(app, service, nth),
@@ -161,7 +165,35 @@ impl World {
                 region,
                 version,
                 part,
-            } => self.ship(app, store, region, version, part),
+            } => {
+                let part = part.unwrap_or(1);
+                self.carry(
+                    app,
+                    store,
+                    Call::Ship {
+                        region,
+                        version,
+                        part,
+                    },
+                )
+            }
+            Choice::Again {
+                store,
+                region,
+                version,
+                part,
+            } => {
+                let part = part.unwrap_or(1);
+                self.carry(
+                    app,
+                    store,
+                    Call::Again {
+                        region,
+                        version,
+                        part,
+                    },
+                )
+            }
             Choice::Go { object, place } => self.go(app, Birth { object, place }),
         }
     }

@@ -1,4 +1,6 @@
-pub mod Lineages
+pub mod Looking
+pub mod Plans
 pub mod Runs
+pub mod Settling
 pub mod StoreCalls
 pub mod Worked

@@ -1,7 +1,8 @@
--- Each call of a process is a write or a read of a store, in its first span.
-use Rattle.std.proofs.Common.{◌≡◌, ℕ, suc, ◌-◌, ◌≤◌, Bool, true, false, cond, List, [], ◌∷◌, length, refl, sym, subst, arith, map}
+-- Each call of a process is a write, a read or a look of a store, in its first span.
+use Rattle.std.proofs.Common.{◌≡◌, ℕ, suc, ◌-◌, ◌<◌, ◌≤◌, Bool, true, false, cond, List, [], ◌∷◌, length, refl, sym, ◌∙◌, subst, arith, map}
 use Rattle.std.specs.Prelude.{nat_lt}
 use Rattle.std.specs.Str.{bytes_eq}
+use Rattle.anti_ids.specs.Each.{Each}
 use Rattle.anti_ids.specs.Ids.{with_id}
 use Rattle.anti_ids.specs.declared.id.WriteId.{WriteId}
 use Rattle.anti_kind.specs.declared.call.Entry.{Entry}
@@ -11,12 +12,14 @@ use Rattle.anti_lang.specs.declared.statement.Statement.{Statement}
 use Rattle.anti_lang.specs.declared.statement.Statement.TheVariants as statements
 use Rattle.anti_app.specs.declared.app.App.{App}
 use Rattle.anti_app.specs.declared.app.StoreDef.{StoreDef}
+use Rattle.anti_shim.specs.declared.looks.PlannedLook.{PlannedLook}
 use Rattle.anti_proc.specs.declared.want.End.TheVariants.{Fine, LineageFull}
 use Rattle.anti_proc.specs.declared.want.Want.{Want}
 use Rattle.anti_proc.specs.Calls.{AllOfStores, WantsOfStores}
-use Rattle.anti_proc.specs.Meaning.{Setting, Local, Go, first_local, after_write, carry, step_tree, block_tree, started, tree_of, reply_of, process_after}
-use Rattle.anti_proc.specs.Numbers.{store_among, store_number, handler_number, body_of, region_of}
+use Rattle.anti_proc.specs.Meaning.{Setting, Local, Go, first_local, after_write, carry, planned, looks, step_tree, block_tree, started, tree_of, reply_of, process_after}
+use Rattle.anti_proc.specs.Numbers.{store_among, store_number, handler_number, body_of, region_of, is_store_here, stores_here}
 use Rattle.anti_proc.specs.Trees.{Tree, Asks, Ends, branch, after, want_of}
+use Rattle.anti_proc.proofs.Plans.{IsLookAt, among_here, here_within, looks_are_at}
 
 place_within : (here : Bool) (m n : ℕ) → m ≤ n → cond here 0 (suc m) ≤ suc n
 place_within true m n le = omega arith
@@ -45,11 +48,27 @@ write_replied app store l go first goes (replies.Written key version) =
     (full_or (nat_lt 256 (length ids)) app (go (record l { carried = ids })) (goes (record l { carried = ids }) first)) (goes l first)
 write_replied app store l go first goes _ = goes l first
 
+-- the looks of a barrier
+looks_of_stores : (s : Setting) (dry : Bool) (planned : List PlannedLook) (l : Local) (go : Go) → Each (IsLookAt (stores_here s.app s.region)) planned
+    → l.span ≡ 1 → GoesOn s.app go → AllOfStores s.app (looks s.region dry planned l go)
+looks_of_stores s dry [] l go each first goes = goes l first
+looks_of_stores s dry (look ∷ later) l go each first goes =
+    let here : is_store_here s.app s.region look.store ≡ true =
+    sym (among_here s.region 0 look.store look.store s.app.stores.items (omega arith)) ∙ each.0.among in
+    let within : look.store < length s.app.stores.items = here_within s.region look.store s.app.stores.items here in
+    (record { object = omega arith; span = first; call = tt; look = (here, each.0.its_own) }, (λ reply. looks_of_stores s dry later l go each.1 first goes))
+
+barrier_of_stores : (s : Setting) (dry : Bool) (l : Local) (go : Go) → l.span ≡ 1 → GoesOn s.app go → AllOfStores s.app (looks s.region dry (planned s l) l go)
+barrier_of_stores s dry l go first goes =
+    looks_of_stores s dry (planned s l) l go (looks_are_at (stores_here s.app s.region) l.carried) first goes
+
 step_of_stores : (statement : Statement) (s : Setting) (l : Local) (go : Go) → l.span ≡ 1 → GoesOn s.app go → AllOfStores s.app (step_tree statement s l go)
 step_of_stores (statements.Write store key word) s l go first goes =
-    (record { object = store_within s.app.stores.items store; span = first; call = tt }, write_replied s.app (store_number s.app store) l go first goes)
+    (record { object = store_within s.app.stores.items store; span = first; call = tt; look = tt }, write_replied s.app (store_number s.app store) l go first goes)
 step_of_stores (statements.Read store key variable) s l go first goes =
-    (record { object = store_within s.app.stores.items store; span = first; call = tt }, (λ reply. goes l first))
+    (record { object = store_within s.app.stores.items store; span = first; call = tt; look = tt }, (λ reply. goes l first))
+step_of_stores statements.Barrier s l go first goes = barrier_of_stores s false l go first goes
+step_of_stores statements.DryRun s l go first goes = barrier_of_stores s true l go first goes
 
 block_of_stores : (body : List Statement) (s : Setting) (l : Local) (go : Go) → l.span ≡ 1 → GoesOn s.app go → AllOfStores s.app (block_tree body s l go)
 block_of_stores [] s l go first goes = goes l first

@@ -1,3 +1,4 @@
+pub mod Barriers
 pub mod Births
 pub mod Calls
 pub mod Meaning

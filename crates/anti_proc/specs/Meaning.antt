@@ -1,5 +1,5 @@
 -- What a handler does.
-use Rattle.std.specs.Prelude.{ℕ, ◌-◌, List, [], ◌∷◌, length, map, if◌then◌else◌, nat_lt}
+use Rattle.std.specs.Prelude.{ℕ, ◌-◌, Bool, true, false, List, [], ◌∷◌, length, map, if◌then◌else◌, nat_lt}
 use Rattle.anti_ids.specs.Ids.{with_id}
 use Rattle.anti_ids.specs.declared.lineage.TheConstants.{MOST_IDS}
 use Rattle.anti_ids.specs.declared.id.WriteId.{WriteId}
@@ -13,8 +13,10 @@ use Rattle.anti_lang.specs.declared.statement.Statement.TheVariants as statement
 use Rattle.anti_lang.specs.declared.statement.ValueWord.{ValueWord}
 use Rattle.anti_lang.specs.declared.statement.ValueWord.TheVariants.{Input, Literal}
 use Rattle.anti_app.specs.declared.app.App.{App}
+use Rattle.anti_shim.specs.declared.looks.PlannedLook.{PlannedLook}
+use Rattle.anti_shim.specs.Plans.{plan}
 use Rattle.anti_proc.specs.declared.want.End.TheVariants.{Fine, LineageFull}
-use Rattle.anti_proc.specs.Numbers.{store_number, handler_number, body_of, region_of}
+use Rattle.anti_proc.specs.Numbers.{store_number, handler_number, body_of, region_of, stores_here}
 use Rattle.anti_proc.specs.Trees.{Tree, Asks, Ends, after}
 
 -- what does not change in a process: its application, the region of its service, and the value of its message
@@ -62,10 +64,21 @@ write_call store key value l go = asks store (calls.Write key value l.carried) l
 abbrev pub read_call : ℕ → ℕ → List ℕ → Local → Go → Tree
 read_call store region key l go = asks store (calls.Read region key) l (after_read l go)
 
+-- the looks of a barrier: one at each store with a replica in the region of which the process carries ids
+abbrev pub planned : Setting → Local → List PlannedLook
+planned s l = plan (stores_here s.app s.region) l.carried
+
+-- These looks, one after another. What a look finds is not carried.
+abbrev pub looks : ℕ → Bool → List PlannedLook → Local → Go → Tree
+looks region dry [] l go = go l
+looks region dry (look ∷ later) l go = asks look.store (calls.Look region look.ids dry) l (λ reply. looks region dry later l go)
+
 -- what a statement does, and then what follows it
 abbrev pub step_tree : Statement → Setting → Local → Go → Tree
 step_tree (statements.Write store key word) s l go = write_call (store_number s.app store) key (text_of s word) l go
 step_tree (statements.Read store key variable) s l go = read_call (store_number s.app store) s.region key l go
+step_tree statements.Barrier s l go = looks s.region false (planned s l) l go
+step_tree statements.DryRun s l go = looks s.region true (planned s l) l go
 
 -- what the lines of a body do, and then what follows them
 abbrev pub block_tree : List Statement → Setting → Local → Go → Tree

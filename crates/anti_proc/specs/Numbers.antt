@@ -1,6 +1,7 @@
 -- The numbers of objects and handlers. The stores come first, in the order of the application, and then the inboxes of its
 -- services.
-use Rattle.std.specs.Prelude.{ℕ, ◌+◌, suc, List, [], ◌∷◌, Option, Some, None, length, slice_get, if◌then◌else◌}
+use Rattle.std.specs.Prelude.{ℕ, ◌+◌, suc, ◌==◌, Bool, true, false, List, [], ◌∷◌, Option, Some, None, length, slice_get, if◌then◌else◌}
+use Rattle.std.specs.List.{list_any}
 use Rattle.std.specs.Str.{bytes_eq}
 use Rattle.anti_lang.specs.declared.statement.Statement.{Statement}
 use Rattle.anti_app.specs.declared.app.App.{App}
@@ -57,3 +58,28 @@ region_in (Some s) = s.region
 
 abbrev pub region_of : App → ℕ → ℕ
 region_of app service = region_in (slice_get app.services.items service)
+
+-- whether a store has a replica in a region
+abbrev pub is_here : ℕ → StoreDef → Bool
+is_here region store = list_any (λ replica. replica == region) store.replicas.items
+
+-- whether the store of a number has a replica in a region
+abbrev pub here_in : ℕ → Option StoreDef → Bool
+here_in region None = false
+here_in region (Some s) = is_here region s
+
+abbrev pub is_store_here : App → ℕ → ℕ → Bool
+is_store_here app region store = here_in region (slice_get app.stores.items store)
+
+abbrev pub if_here : Bool → ℕ → List ℕ → List ℕ
+if_here true store further = store ∷ further
+if_here false store further = further
+
+-- the numbers of those of these stores that have a replica in a region, where the first of them has the number n
+abbrev pub here_from : ℕ → ℕ → List StoreDef → List ℕ
+here_from region n [] = []
+here_from region n (s ∷ ss) = if_here (is_here region s) n (here_from region (suc n) ss)
+
+-- the numbers of the application's stores that have a replica in a region, ascending
+abbrev pub stores_here : App → ℕ → List ℕ
+stores_here app region = here_from region 0 app.stores.items

@@ -1,5 +1,5 @@
 -- Everything that a process may do, as a tree: a call, and what follows on each reply to it; or its end.
-use Rattle.std.specs.Prelude.{ℕ, Option, Some, None, List, [], ◌∷◌}
+use Rattle.std.specs.Prelude.{ℕ, ◌≡◌, Option, Some, None, List, [], ◌∷◌}
 use Rattle.anti_ids.specs.declared.id.WriteId.{WriteId}
 use Rattle.anti_kind.specs.declared.call.Call.{Call}
 use Rattle.anti_kind.specs.declared.call.Reply.{Reply}
@@ -41,3 +41,8 @@ next_of tree replies = want_of (after tree replies)
 abbrev pub end_of : Tree → Option End
 end_of (Asks ask go) = None
 end_of (Ends end) = Some end
+
+-- the next call is one at this object
+abbrev pub IsAskedAt : ℕ → Tree → Type 0
+IsAskedAt object (Asks ask go) = ask.object ≡ object
+IsAskedAt object (Ends end) = ⊥

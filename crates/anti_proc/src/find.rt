@@ -1,9 +1,10 @@
-ghost use Rattle.std.specs.Prelude.{◌≡◌, ◌^◌, ◌<◌, ◌≤◌, length};
-ghost use Rattle.anti_proc.specs.Numbers.{body_of, handler_among, handler_number, region_of, store_among, store_number};
+ghost use Rattle.std.specs.Prelude.{◌≡◌, ◌^◌, ◌<◌, ◌≤◌, length, IfOk};
+ghost use Rattle.anti_proc.specs.Numbers.{body_of, handler_among, handler_number, is_here, region_of, store_among, store_number, stores_here};
 
 use anti_app::{App, HandlerDef, StoreDef};
-use anti_ids::Name;
+use anti_ids::{Name, NoMemory};
 use anti_lang::Statement;
+use std::alloc::Global;
 
 // The place of the store with a name among these, or how many they are.
 fn store_among(stores: &[StoreDef], name: &Name) -> usize
@@ -71,4 +72,29 @@ pub fn store_number(app: &App, name: &Name) -> u32
     ensures { result ≡ store_number app.now name.now }
 {
     store_among(app.stores.as_slice(), name) as u32
+}
+
+// Whether a store has a replica in a region.
+fn is_here(region: u32, store: &StoreDef) -> bool
+    ensures { result ≡ is_here region store.now }
+{
+    store
+        .replicas
+        .as_slice()
+        .iter()
+        .any(|replica| *replica == region)
+}
+
+// The numbers of the stores with a replica in a region, ascending.
+pub fn stores_here(alloc: Global, app: &App, region: u32) -> Result<Vec<u32>, NoMemory>
+    requires { length app.now.stores.items < 2 ^ 32 }
+    ensures { IfOk result (λ here. here.items ≡ stores_here app.now region) }
+{
+    let mut here = Vec::new(alloc);
+    for (number, store) in app.stores.as_slice().iter().enumerate() {
+        if is_here(region, store) && here.push(number as u32).is_err() {
+            return Err(NoMemory);
+        }
+    }
+    Ok(here)
 }

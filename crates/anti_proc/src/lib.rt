@@ -2,8 +2,12 @@
 #![tactic(auto)]
 
 mod find;
+mod laws;
+mod next;
 mod process;
+mod run;
 mod want;
 
+pub use laws::laws_of_processes;
 pub use process::Process;
 pub use want::{End, Want};

@@ -7,6 +7,8 @@ pub enum End {
     Fine,
     /// An id was to enter a lineage that has as many as a lineage may have.
     LineageFull,
+    /// Its next call did not fit on the object of this number.
+    StoreFull(u32),
 }
 
 /// What a process does next.

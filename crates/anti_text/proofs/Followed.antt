@@ -1,35 +1,60 @@
--- A process followed through the front of a trace is followed through one more entry.
-use Rattle.std.proofs.Common.{◌≡◌, ℕ, ◌+◌, ◌<◌, true, false, cond, List, [], ◌∷◌, ◌++◌, length, map, take, get_or, Some, refl, ap, sym, append-nil}
-use Rattle.std.proofs.lemmas.List.{take_more}
-use Rattle.std.proofs.lemmas.List.Elements.{filter-append}
-use Rattle.anti_kind.specs.declared.call.Actor.{Actor}
+-- A process followed through the front of a trace is followed through one more entry, and what it wants at the end.
+use Rattle.std.proofs.Common.{◌≡◌, ℕ, ◌+◌, ◌<◌, Bool, true, false, cond, List, [], ◌∷◌, ◌++◌, length, map, take, get_or, Some, None, Option, refl, ap, sym, subst, ◌∙◌, append-nil}
+use Rattle.std.proofs.lemmas.List.Elements.{filter_more}
+use Rattle.anti_kind.specs.declared.call.Actor.TheVariants as actors
+use Rattle.anti_kind.specs.declared.call.Birth.{Birth}
 use Rattle.anti_kind.specs.declared.call.Entry.{Entry}
 use Rattle.anti_app.specs.declared.app.App.{App}
-use Rattle.anti_proc.specs.Meaning.{reply_of, tree_of}
-use Rattle.anti_proc.specs.Trees.{Tree, after, branch}
+use Rattle.anti_proc.specs.declared.process.Process.{Process}
+use Rattle.anti_proc.specs.declared.want.End.TheVariants.{Fine}
+use Rattle.anti_proc.specs.Meaning.{reply_of, tree_of, process_after}
+use Rattle.anti_proc.specs.Standing.{full_of, process_of}
+use Rattle.anti_proc.specs.Trees.{Tree, after, branch, want_of}
 use Rattle.anti_trace.specs.Traces.{is_by, entries_by}
-use Rattle.anti_text.specs.Following.{left_after, left_after_one_more}
+use Rattle.anti_text.specs.Following.{left_after, Stands, IsFollowed}
+use Rattle.anti_text.specs.Processes.{ended_in, end_in}
 
 after-more : (tree : Tree) (es : List Entry) (e : Entry) → after tree (map reply_of (es ++ e ∷ [])) ≡ branch (after tree (map reply_of es)) e.reply
 after-more tree [] e = refl
 after-more tree (d ∷ es) e = after-more (branch tree d.reply) es e
 
-left_after-more : (app : App) (es : List Entry) (e : Entry) → left_after app (es ++ e ∷ []) ≡ Some (left_after_one_more app (left_after app es) e)
-left_after-more app [] e = refl
-left_after-more app (birth ∷ es) e = ap (λ tree. Some tree) (after-more (tree_of app birth) es e)
+pub followed_first : (app : App) (e : Entry) (new : Process) → process_of app new ≡ tree_of app e → full_of new ≡ None → IsFollowed app None e new
+followed_first app e new is open' [] none = (ap (λ (t : Tree). Some t) (sym is), open')
+followed_first app e new is open' (birth ∷ es) none = absurd (cc)
 
--- an actor's entries with one more entry of the trace
-entries_by-take : (a : Actor) (trace : List Entry) (i : ℕ) (e : Entry) → i < length trace → e ≡ get_or trace i e →
-    entries_by a (take (i + 1) trace) ≡ entries_by a (take i trace) ++ cond (is_by a e) (e ∷ []) []
-entries_by-take a trace i e lt is =
-    let back : get_or trace i e ≡ e = sym is in rw (take_more trace i e lt) (rw back (filter-append (is_by a) (take i trace) (e ∷ [])))
+pub followed_more : (app : App) (old new : Process) (e : Entry) → process_of app new ≡ branch (process_of app old) e.reply → full_of new ≡ full_of old → IsFollowed app (Some old) e new
+followed_more app old new e is same [] s = let none : None ≡ Some (process_of app old) = s.0 in absurd (cc)
+followed_more app old new e is same (birth ∷ es) s =
+    let was : after (tree_of app birth) (map reply_of es) ≡ process_of app old = cc in
+    (ap (λ (t : Tree). Some t) (after-more (tree_of app birth) es e ∙ ap (λ (t : Tree). branch t e.reply) was ∙ sym is), same ∙ s.1)
 
-pub left_after-own : (app : App) (a : Actor) (trace : List Entry) (i : ℕ) (e : Entry) → i < length trace → e ≡ get_or trace i e → is_by a e ≡ true →
-    left_after app (entries_by a (take (i + 1) trace)) ≡ Some (left_after_one_more app (left_after app (entries_by a (take i trace))) e)
-left_after-own app a trace i e lt is own =
-    rw (entries_by-take a trace i e lt is) (rw own (left_after-more app (entries_by a (take i trace)) e))
+-- the entries of the process in one entry more of the trace
+entries_more : (b : Birth) (trace : List Entry) (i : ℕ) (e : Entry) (own : Bool) → i < length trace → e ≡ get_or trace i e → is_by (actors.Process b) e ≡ own
+    → entries_by (actors.Process b) (take (i + 1) trace) ≡ entries_by (actors.Process b) (take i trace) ++ cond own (e ∷ []) []
+entries_more b trace i e own lt is by =
+    filter_more (is_by (actors.Process b)) trace i e lt
+    ∙ ap (λ (x : Entry). entries_by (actors.Process b) (take i trace) ++ cond (is_by (actors.Process b) x) (x ∷ []) []) (sym is)
+    ∙ ap (λ (own : Bool). entries_by (actors.Process b) (take i trace) ++ cond own (e ∷ []) []) by
 
-pub left_after-other : (app : App) (a : Actor) (trace : List Entry) (i : ℕ) (e : Entry) → i < length trace → e ≡ get_or trace i e → is_by a e ≡ false →
-    left_after app (entries_by a (take (i + 1) trace)) ≡ left_after app (entries_by a (take i trace))
-left_after-other app a trace i e lt is other =
-    rw (entries_by-take a trace i e lt is) (rw other (ap (left_after app) (append-nil (entries_by a (take i trace)))))
+pub stands_own : (app : App) (b : Birth) (trace : List Entry) (i : ℕ) (e : Entry) (old : Option Process) (new : Process) → i < length trace → e ≡ get_or trace i e → is_by (actors.Process b) e ≡ true
+    → IsFollowed app old e new → Stands app (entries_by (actors.Process b) (take i trace)) old → Stands app (entries_by (actors.Process b) (take (i + 1) trace)) (Some new)
+stands_own app b trace i e old new lt is own followed s =
+    subst (λ (es : List Entry). Stands app es (Some new)) (sym (entries_more b trace i e true lt is own)) (followed (entries_by (actors.Process b) (take i trace)) s)
+
+pub stands_other : (app : App) (b : Birth) (trace : List Entry) (i : ℕ) (e : Entry) (old : Option Process) → i < length trace → e ≡ get_or trace i e → is_by (actors.Process b) e ≡ false
+    → Stands app (entries_by (actors.Process b) (take i trace)) old → Stands app (entries_by (actors.Process b) (take (i + 1) trace)) old
+stands_other app b trace i e old lt is other s =
+    subst (λ (es : List Entry). Stands app es old) (sym (entries_more b trace i e false lt is other ∙ append-nil (entries_by (actors.Process b) (take i trace)))) s
+
+-- a process that is not born does nothing
+unborn : (app : App) (es : List Entry) → left_after app es ≡ None → es ≡ []
+unborn app [] none = refl
+unborn app (birth ∷ es) none = absurd (cc)
+
+pub end_unborn : (app : App) (trace : List Entry) (b : Birth) → Stands app (entries_by (actors.Process b) trace) None → Some Fine ≡ end_in app trace b
+end_unborn app trace b s = sym (ap (λ (es : List Entry). ended_in app trace (want_of (process_after app es))) (unborn app (entries_by (actors.Process b) trace) s))
+
+-- what is left of a process that stands is what it stands for
+pub process_left : (app : App) (es : List Entry) (p : Process) → Stands app es (Some p) → process_after app es ≡ process_of app p
+process_left app [] p s = let none : None ≡ Some (process_of app p) = s.0 in absurd (cc)
+process_left app (birth ∷ es) p s = cc

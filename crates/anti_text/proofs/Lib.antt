@@ -1,3 +1,4 @@
 pub mod Followed
+pub mod Replayed
 pub mod Sound
 pub mod Worked

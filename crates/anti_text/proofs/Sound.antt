@@ -1,5 +1,5 @@
--- A sound application has few objects, as `text` asks.
-use Rattle.std.proofs.Common.{◌<◌, ◌^◌, ◌≤◌, IsTrue, arith}
+-- A sound application has few objects.
+use Rattle.std.proofs.Common.{◌<◌, ◌^◌, IsTrue, arith}
 use Rattle.anti_app.specs.Sound.{is_sound}
 use Rattle.anti_app.specs.declared.app.App.{App}
 use Rattle.anti_app.proofs.SoundLemmas.{app_known}

@@ -6,7 +6,7 @@ use Rattle.anti_kind.specs.declared.call.Actor.TheVariants.{Carrier, Process, Ne
 use Rattle.anti_kind.specs.declared.call.Entry.{Entry}
 use Rattle.anti_app.specs.declared.app.App.{App}
 use Rattle.anti_app.specs.declared.app.Choice.{Choice}
-use Rattle.anti_app.specs.declared.app.Choice.TheVariants.{Take, Ship, Go}
+use Rattle.anti_app.specs.declared.app.Choice.TheVariants.{Take, Ship, Again, Go}
 use Rattle.anti_text.specs.Words.{store_name, service_name, region_name, mark_text}
 use Rattle.anti_text.specs.Calls.{call_text, reply_text}
 
@@ -27,10 +27,15 @@ abbrev pub part_text : Option ℕ → List ℕ
 part_text None = []
 part_text (Some part) = codes " " ++ decimal part
 
+-- a store, a region, a version and a part where one was given
+abbrev pub shipment_text : App → ℕ → ℕ → ℕ → Option ℕ → List ℕ
+shipment_text app store region version part =
+    store_name app store ++ codes " " ++ region_name app region ++ codes " " ++ decimal version ++ part_text part
+
 abbrev pub choice_text : App → Choice → List ℕ
 choice_text app (Take service nth) = codes "take " ++ service_name app service ++ codes " " ++ decimal nth
-choice_text app (Ship store region version part) =
-    codes "ship " ++ store_name app store ++ codes " " ++ region_name app region ++ codes " " ++ decimal version ++ part_text part
+choice_text app (Ship store region version part) = codes "ship " ++ shipment_text app store region version part
+choice_text app (Again store region version part) = codes "again " ++ shipment_text app store region version part
 choice_text app (Go object place) = codes "go " ++ mark_text app object place
 
 -- the choice with a number, counted from 1; no text where there is none

@@ -3,4 +3,5 @@ pub mod Entries
 pub mod Following
 pub mod Processes
 pub mod Record
+pub mod Replays
 pub mod Words

@@ -1,28 +1,46 @@
 -- The lines of the processes.
-use Rattle.std.specs.Prelude.{ℕ, zero, suc, ◌+◌, ◌-◌, ◌&&◌, List, [], ◌++◌, length, codes, if◌then◌else◌, Option, Some, None}
+use Rattle.std.specs.Prelude.{ℕ, zero, suc, ◌-◌, ◌&&◌, Bool, false, not, List, [], ◌++◌, length, codes, if◌then◌else◌, Option, Some, None}
 use Rattle.std.specs.List.{flat_map}
 use Rattle.anti_kind.specs.declared.call.Actor.TheVariants.{Process}
 use Rattle.anti_kind.specs.declared.call.Birth.{Birth}
+use Rattle.anti_kind.specs.declared.call.Call.{Call}
 use Rattle.anti_kind.specs.declared.call.Entry.{Entry}
 use Rattle.anti_kind.specs.declared.call.Reply.{Reply}
 use Rattle.anti_kind.specs.declared.call.Reply.TheVariants as replies
+use Rattle.anti_kind.specs.Objects.{Start, ready, fits}
 use Rattle.anti_app.specs.declared.app.App.{App}
+use Rattle.anti_object.specs.Starts.{start_of}
 use Rattle.anti_proc.specs.Births.{birth_at, is_birth}
 use Rattle.anti_proc.specs.Meaning.{process_after}
-use Rattle.anti_proc.specs.Trees.{end_of}
+use Rattle.anti_proc.specs.Trees.{want_of}
+use Rattle.anti_proc.specs.declared.want.Want.{Want}
+use Rattle.anti_proc.specs.declared.want.Want.TheVariants.{Make, Over}
 use Rattle.anti_proc.specs.declared.want.End.{End}
-use Rattle.anti_proc.specs.declared.want.End.TheVariants.{Fine, LineageFull}
-use Rattle.anti_trace.specs.Traces.{is_on, entries_by}
-use Rattle.anti_text.specs.Words.{service_name, mark_text}
+use Rattle.anti_proc.specs.declared.want.End.TheVariants.{Fine, LineageFull, StoreFull}
+use Rattle.anti_trace.specs.Traces.{is_on, entries_on, entries_by}
+use Rattle.anti_text.specs.Words.{service_name, object_name, mark_text}
 
--- how a process ended by the end of the trace, where it did: what its handler does after the replies to all that it did there
+-- whether a call is ready after a history of an object that starts so, and does not fit there
+abbrev pub is_full_after : List Entry → Call → Option Start → Bool
+is_full_after history call (Some start) = ready start history call && not (fits start history call)
+is_full_after history call None = false
+
+-- How a process ended that wants this after all that it did in the trace: its handler ended, or its next call is ready after all
+-- that was done there on its object, and does not fit. Otherwise it did not end.
+abbrev pub ended_in : App → List Entry → Want → Option End
+ended_in app trace (Make object span call) =
+    if is_full_after (entries_on object trace) call (start_of app object) then Some (StoreFull object) else None
+ended_in app trace (Over end) = Some end
+
+-- how a process ended by the end of the trace, where it did
 abbrev pub end_in : App → List Entry → Birth → Option End
-end_in app trace birth = end_of (process_after app (entries_by (Process birth) trace))
+end_in app trace birth = ended_in app trace (want_of (process_after app (entries_by (Process birth) trace)))
 
-abbrev pub end_text : Option End → List ℕ
-end_text (Some Fine) = codes "fine"
-end_text (Some LineageFull) = codes "lineage"
-end_text None = codes "open"
+abbrev pub end_text : App → Option End → List ℕ
+end_text app (Some Fine) = codes "fine"
+end_text app (Some LineageFull) = codes "lineage"
+end_text app (Some (StoreFull object)) = codes "store " ++ object_name app object
+end_text app None = codes "open"
 
 -- the handler that a birth started: the one that the message names
 abbrev pub handler_text : Reply → List ℕ
@@ -39,7 +57,7 @@ birth_text app e = mark_text app e.object e.place ++ codes " " ++ service_text a
 
 -- the process of a birth, as `process w.1 w one fine`
 abbrev pub process_line : App → Entry → Option End → List ℕ
-process_line app e end = codes "process " ++ birth_text app e ++ codes " " ++ end_text end ++ codes "\n"
+process_line app e end = codes "process " ++ birth_text app e ++ codes " " ++ end_text app end ++ codes "\n"
 
 -- the line of the process that an entry starts on an object; no text, where it starts none there
 abbrev pub birth_line : App → List Entry → ℕ → Entry → List ℕ

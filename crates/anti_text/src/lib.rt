@@ -2,10 +2,12 @@
 #![tactic(auto)]
 
 mod call_words;
+mod ends;
 mod entry_lines;
 mod output;
 mod printed;
 mod process_lines;
+mod replay;
 mod reply_words;
 mod wait_lines;
 mod words;

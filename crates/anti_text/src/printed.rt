@@ -1,9 +1,9 @@
-ghost use Rattle.std.specs.Prelude.{◌≡◌, ◌++◌, ◌<◌, ◌^◌, OnOk, IfOk};
+ghost use Rattle.std.specs.Prelude.{◌≡◌, ◌++◌, OnOk, IfOk};
 ghost use Rattle.std.specs.List.{flat_map};
 ghost use Rattle.anti_ids.specs.List.{plain};
 ghost use Rattle.anti_text.specs.Entries.{entry_line, wait_line};
-ghost use Rattle.anti_proc.specs.Numbers.{object_count};
 ghost use Rattle.anti_text.specs.Record.{text_of};
+ghost use Rattle.anti_text.specs.Replays.{IsReplayable};
 
 use crate::entry_lines::entry_line;
 use crate::output::Output;
@@ -41,7 +41,7 @@ fn wait_lines(out: &mut Output, app: &App, waits: &[u32]) -> Result<(), NoMemory
 /// The record of a run of an application: a line for each entry in the order of the trace, for each choice that made no entry, and
 /// for each process. The only error is want of memory.
 pub fn text(alloc: Global, app: &App, trace: &Trace, waits: &Waits) -> Result<Bytes, NoMemory>
-    requires { object_count app.now < 2 ^ 32 }
+    requires { IsReplayable app.now trace.now }
     ensures { IfOk result (λ t. t ≡ plain (text_of app.now trace.now waits.now.items)) }
 {
     let mut out = Output::new(alloc);

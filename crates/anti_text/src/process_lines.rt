@@ -1,19 +1,20 @@
-ghost use Rattle.std.specs.Prelude.{◌≡◌, ◌++◌, ◌<◌, ◌^◌, OnOk, IfOk};
+ghost use Rattle.std.specs.Prelude.{◌≡◌, ◌++◌, ◌<◌, ◌^◌, OnOk, length};
 ghost use Rattle.std.specs.List.{flat_map};
-ghost use Rattle.std.specs.Option.{option_map};
 ghost use Rattle.anti_proc.specs.Births.{birth_at, is_birth};
-ghost use Rattle.anti_proc.specs.Standing.{process_of};
-ghost use Rattle.anti_text.specs.Following.{left_after_one_more};
 ghost use Rattle.anti_proc.specs.Numbers.{object_count};
-ghost use Rattle.anti_text.specs.Processes.{end_in, end_text, handler_text, service_text, birth_text, process_line, birth_line, process_lines};
+ghost use Rattle.anti_text.specs.Processes.{end_text, handler_text, service_text, birth_text, process_line, birth_line, process_lines};
+ghost use Rattle.anti_text.specs.Replays.{AreAfter, IsReplayable};
 
+use crate::ends::end_in;
 use crate::output::Output;
-use crate::words::{mark_text, service_name};
+use crate::replay::objects_after;
+use crate::words::{mark_text, object_name, service_name};
 use anti_app::App;
 use anti_ids::NoMemory;
 use anti_kind::{Actor, Birth, Entry, Reply};
-use anti_proc::{End, Process};
-use anti_trace::{is_by, is_on};
+use anti_object::Object;
+use anti_proc::End;
+use anti_trace::is_on;
 use std::alloc::Global;
 
 // The birth that an entry is, where it is one.
@@ -36,49 +37,17 @@ fn is_birth(entry: &Entry) -> bool
     }
 }
 
-// What is left of a process after one more of its entries, of which the first is its birth.
-fn followed(
-    alloc: Global,
-    app: &App,
-    process: Option<Process>,
-    entry: &Entry,
-) -> Result<Process, NoMemory>
-    requires { object_count app.now < 2 ^ 32 }
-    ensures { IfOk result (λ p. process_of app.now p ≡ left_after_one_more app.now (option_map (process_of app.now) process) entry.now) }
-{
-    match process {
-        None => Process::born(alloc, app, entry),
-        Some(mut process) => {
-            process.feed(app, entry.stamp, &entry.reply)?;
-            Ok(process)
-        }
-    }
-}
-
-// How the process with this birth ended by the end of the trace, where it did.
-fn end_in(alloc: Global, app: &App, trace: &[Entry], birth: Birth) -> Result<Option<End>, NoMemory>
-    requires { object_count app.now < 2 ^ 32 }
-    ensures { IfOk result (λ end. end ≡ end_in app.now trace.now birth) }
-{
-    let mut process = None;
-    for entry in trace {
-        if is_by(Actor::Process(birth), entry) {
-            process = Some(followed(alloc, app, process, entry)?);
-        }
-    }
-    match process {
-        None => Ok(Some(End::Fine)),
-        Some(process) => Ok(process.ended(app)),
-    }
-}
-
 // Writes how a process ended.
-fn end_text(out: &mut Output, end: Option<End>) -> Result<(), NoMemory>
-    ensures { OnOk result (out.new ≡ out.old ++ end_text end) }
+fn end_text(out: &mut Output, app: &App, end: Option<End>) -> Result<(), NoMemory>
+    ensures { OnOk result (out.new ≡ out.old ++ end_text app.now end) }
 {
     match end {
         Some(End::Fine) => out.put(b"fine"),
         Some(End::LineageFull) => out.put(b"lineage"),
+        Some(End::StoreFull(object)) => {
+            out.put(b"store ")?;
+            object_name(out, app, object)
+        }
         None => out.put(b"open"),
     }
 }
@@ -123,7 +92,7 @@ fn process_line(
     out.put(b"process ")?;
     birth_text(out, app, entry)?;
     out.put(b" ")?;
-    end_text(out, end)?;
+    end_text(out, app, end)?;
     out.put(b"\n")
 }
 
@@ -132,15 +101,17 @@ fn birth_line(
     alloc: Global,
     out: &mut Output,
     app: &App,
+    objects: &[Object],
     trace: &[Entry],
     object: u32,
     entry: &Entry,
 ) -> Result<(), NoMemory>
-    requires { object_count app.now < 2 ^ 32 }
+    requires stores { length app.now.stores.items < 2 ^ 32 }
+    requires objects { AreAfter app.now trace.now (object_count app.now) objects.now }
     ensures { OnOk result (out.new ≡ out.old ++ birth_line app.now trace.now object entry.now) }
 {
     if is_on(object, entry) && is_birth(entry) {
-        let end = end_in(alloc, app, trace, birth_at(entry))?;
+        let end = end_in(alloc, app, objects, trace, birth_at(entry))?;
         process_line(out, app, entry, end)
     } else {
         Ok(())
@@ -152,14 +123,16 @@ fn lines_on(
     alloc: Global,
     out: &mut Output,
     app: &App,
+    objects: &[Object],
     trace: &[Entry],
     object: u32,
 ) -> Result<(), NoMemory>
-    requires { object_count app.now < 2 ^ 32 }
+    requires stores { length app.now.stores.items < 2 ^ 32 }
+    requires objects { AreAfter app.now trace.now (object_count app.now) objects.now }
     ensures { OnOk result (out.new ≡ out.old ++ flat_map (birth_line app.now trace.now object) trace.now) }
 {
     for entry in trace {
-        birth_line(alloc, out, app, trace, object, entry)?;
+        birth_line(alloc, out, app, objects, trace, object, entry)?;
     }
     Ok(())
 }
@@ -171,12 +144,13 @@ pub fn process_lines(
     app: &App,
     trace: &[Entry],
 ) -> Result<(), NoMemory>
-    requires { object_count app.now < 2 ^ 32 }
+    requires { IsReplayable app.now trace.now }
     ensures { OnOk result (out.new ≡ out.old ++ process_lines app.now trace.now (object_count app.now)) }
 {
-    let objects = (app.stores.len() + app.services.len()) as u32;
-    for object in 0..objects {
-        lines_on(alloc, out, app, trace, object)?;
+    let objects = objects_after(alloc, app, trace)?;
+    let count = (app.stores.len() + app.services.len()) as u32;
+    for object in 0..count {
+        lines_on(alloc, out, app, objects.as_slice(), trace, object)?;
     }
     Ok(())
 }

@@ -1,5 +1,5 @@
 ghost use Rattle.std.specs.Prelude.{◌≡◌, ◌++◌, OnOk};
-ghost use Rattle.anti_text.specs.Entries.{part_text, choice_text, choice_numbered, wait_line};
+ghost use Rattle.anti_text.specs.Entries.{part_text, shipment_text, choice_text, choice_numbered, wait_line};
 
 use crate::output::Output;
 use crate::words::{mark_text, region_name, service_name, store_name};
@@ -17,6 +17,25 @@ fn part_text(out: &mut Output, part: Option<u32>) -> Result<(), NoMemory>
             out.number(u64::from(part))
         }
     }
+}
+
+// Writes a store, a region, a version, and a part where one was given.
+fn shipment_text(
+    out: &mut Output,
+    app: &App,
+    store: u32,
+    region: u32,
+    version: u64,
+    part: Option<u32>,
+) -> Result<(), NoMemory>
+    ensures { OnOk result (out.new ≡ out.old ++ shipment_text app.now store region version part) }
+{
+    store_name(out, app, store as usize)?;
+    out.put(b" ")?;
+    region_name(out, app, region)?;
+    out.put(b" ")?;
+    out.number(version)?;
+    part_text(out, part)
 }
 
 // Writes a choice.
@@ -37,12 +56,16 @@ fn choice_text(out: &mut Output, app: &App, choice: &Choice) -> Result<(), NoMem
             part,
         } => {
             out.put(b"ship ")?;
-            store_name(out, app, *store as usize)?;
-            out.put(b" ")?;
-            region_name(out, app, *region)?;
-            out.put(b" ")?;
-            out.number(*version)?;
-            part_text(out, *part)
+            shipment_text(out, app, *store, *region, *version, *part)
+        }
+        Choice::Again {
+            store,
+            region,
+            version,
+            part,
+        } => {
+            out.put(b"again ")?;
+            shipment_text(out, app, *store, *region, *version, *part)
         }
         Choice::Go { object, place } => {
             out.put(b"go ")?;

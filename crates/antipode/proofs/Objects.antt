@@ -1,8 +1,10 @@
--- An application that can be played has few objects.
-use Rattle.std.proofs.Common.{◌+◌, ◌^◌, ◌<◌, length, IsTrue, arith}
+-- A run of an application that can be played can be replayed.
+use Rattle.std.proofs.Common.{IsTrue, List}
+use Rattle.anti_kind.specs.declared.call.Entry.{Entry}
 use Rattle.anti_app.specs.declared.app.App.{App}
 use Rattle.anti_app.specs.Sound.{is_sound}
-use Rattle.anti_app.proofs.SoundLemmas.{SoundApp, app_known}
+use Rattle.anti_play.specs.Runs.{IsRun}
+use Rattle.anti_text.specs.Replays.{IsReplayable}
 
-pub few_objects : (app : App) → IsTrue (is_sound app) → length app.stores.items + length app.services.items < 2 ^ 32
-few_objects app sound = let known : SoundApp app = app_known app sound in omega arith
+pub replayable : (app : App) (trace : List Entry) → IsTrue (is_sound app) → IsRun app trace → IsReplayable app trace
+replayable app trace sound run = record { sound = sound; legal = run.legal; calls = run.calls }

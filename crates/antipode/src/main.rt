@@ -8,6 +8,8 @@ mod command;
 mod fault;
 mod outcome;
 mod preparing;
+#[cfg(test)]
+mod shim_tests;
 mod telling;
 #[cfg(test)]
 mod tests;

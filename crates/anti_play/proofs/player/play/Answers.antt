@@ -28,7 +28,7 @@ loop-before-preserved c =
     let items = c.as_slice-choice-items.result.now in
     let choice = get_or items i (Take 0 0) in
     let r = here app.choices.items items i c.as_slice-choice-items.ensures c.loop-before-test.true in
-    let chose = c.in_ok-choose.ensures (run_until app i).trace c.loop-before.invariant.world in
+    let chose = c.in_ok-choose.ensures.chose (run_until app i).trace c.loop-before.invariant.world in
     elim c.if-not-branch.branch [
       | then-not-branch+in_ok-reserve w ↦
           let more : c.if-not-branch.waits ≡ plain (c.loop-before.waits.items ++ (i + 1) ∷ []) =

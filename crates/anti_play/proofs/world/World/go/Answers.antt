@@ -1,57 +1,121 @@
-use Rattle.std.proofs.Common.{◌∙◌, refl, sym}
-use Rattle.anti_play.proofs.Steps.{goes_of, call_is_of_run, call_of, may_grow, going, goes_clock, goes_stores, goes_born, go_done, go_waits, chose_kept, none_of}
+use Rattle.std.proofs.Common.{◌≡◌, ℕ, refl, sym, List}
+use Rattle.std.proofs.lemmas.Option.{slice_get_within}
+use Rattle.anti_kind.specs.declared.call.Entry.{Entry}
+use Rattle.anti_proc.specs.Standing.{clock_of}
+use Rattle.anti_play.specs.declared.outcome.Outcome.{Outcome}
+use Rattle.anti_play.specs.declared.outcome.Outcome.TheVariants as outcomes
+use Rattle.anti_play.specs.Standing.{IsOutcome, WorldStands}
+use Rattle.anti_play.proofs.Steps.{Goes, goes_of, outcome_is, going, call_of, may_grow, goes_clock, goes_born, goes_call, go_over, go_done, go_waits, go_ended, stops_none, stops_over, stops_made, stops_waits, stops_ended, chose_kept}
 use Rattle.anti_play.proofs.world.World.go.Goals as goal
+use Rattle.anti_play.proofs.world.World.go.Goals.{In_ok-object, In_ok-entry}
 
-pub entry_for-requires-clause-call : goal.entry_for-requires-clause-call
-entry_for-requires-clause-call c =
-    call_is_of_run c.args.app.now c.in-Make.object c.in-Make.span c.in-Make.call c.in_ok-object.field-0 c.in-Make.is
-    (goes_stores c.args.app.now c.args.self.now c.requires.world.trace c.args.birth c.in-Some.at c.in_ok-process.process c.in_ok-object.field-0 c.clock.result c.requires.world.stands
-    (goes_of c.args.app.now c.args.self.now c.args.birth c.in-Some.at _ _ c.in_ok-process.process c.in_ok-object.field-0 c.clock.result c.as_slice.ensures (sym c.in-Some.ensures) c.at.ensures c.in_ok-process.ensures c.in_ok-object.ensures c.clock.ensures))
+-- what is known of the process when its next call is
+goes : (c : In_ok-object) (clock : ℕ) → clock ≡ clock_of c.in_ok-process.process
+    → Goes c.args.app.now c.args.self.now c.args.birth c.in-Some.at c.in_ok-process.process c.in_ok-object.field-0 clock
+goes c clock is =
+    goes_of c.args.app.now c.args.self.now c.args.birth c.in-Some.at c.as_slice.result.now _ c.in_ok-process.process c.in_ok-object.field-0 clock
+    c.as_slice.ensures (sym c.in-Some.ensures) c.at.ensures c.in_ok-process.ensures c.in_ok-object.ensures.going c.in_ok-object.ensures.full is
 
-pub entry_for-requires-clause-clock : goal.entry_for-requires-clause-clock
-entry_for-requires-clause-clock c = record {
+pub returns-in_default-clause-ended : goal.returns-in_default-clause-ended
+returns-in_default-clause-ended c = λ trace s. stops_none c.args.app.now c.args.self.now trace c.args.birth c.as_slice.result.now _ s c.as_slice.ensures (sym c.in_default.ensures)
+
+pub returns-in_default-2 : goal.returns-in_default-2
+returns-in_default-2 c =
+    let p = c.in_ok-process.process in
+    let g = goes ((goal.at.returns-in_default-2 c).In_ok-object) (clock_of p) refl in
+    record {
+      chose = λ trace s. go_over c.args.app.now c.args.self.now trace c.args.birth c.in-Some.at c.in_ok-process.process c.in_ok-object.field-0 (clock_of p) s g c.requires.sound c.in_default-2.field-0 c.in_default-2.is;
+      ended = λ trace s. stops_over c.args.app.now c.args.self.now trace c.args.birth c.in-Some.at c.in_ok-process.process c.in_ok-object.field-0 (clock_of p) s g c.in_default-2.field-0 c.in_default-2.is;
+    }
+
+pub outcome-requires-clause-call : goal.outcome-requires-clause-call
+outcome-requires-clause-call c =
+    let g = goes ((goal.at.outcome-requires-clause-call c).In_ok-object) c.clock.result c.clock.ensures in
+    goes_call c.args.app.now c.args.self.now c.requires.world.trace c.args.birth c.in-Some.at c.in_ok-process.process c.in_ok-object.field-0 c.clock.result c.requires.world.stands g
+    c.in-Make.object c.in-Make.span c.in-Make.call c.in-Make.is
+
+pub outcome-requires-clause-clock : goal.outcome-requires-clause-clock
+outcome-requires-clause-clock c = record {
   trace = c.requires.world.trace;
   stands = c.requires.world.stands;
   is_clock = goes_clock c.args.app.now c.args.self.now c.requires.world.trace c.args.birth c.in-Some.at c.in_ok-process.process c.in_ok-object.field-0 c.clock.result c.requires.world.stands
-      (goes_of c.args.app.now c.args.self.now c.args.birth c.in-Some.at _ _ c.in_ok-process.process c.in_ok-object.field-0 c.clock.result c.as_slice.ensures (sym c.in-Some.ensures) c.at.ensures c.in_ok-process.ensures c.in_ok-object.ensures c.clock.ensures);
+      (goes ((goal.at.outcome-requires-clause-clock c).In_ok-object) c.clock.result c.clock.ensures);
 }
 
-pub returns-in_default-3 : goal.returns-in_default-3
-returns-in_default-3 c = λ trace s.
-    let g = goes_of c.args.app.now c.args.self.now c.args.birth c.in-Some.at _ _ c.in_ok-process.process c.in_ok-object.field-0 c.clock.result c.as_slice.ensures (sym c.in-Some.ensures) c.at.ensures c.in_ok-process.ensures c.in_ok-object.ensures c.clock.ensures in
-    go_waits c.args.app.now c.args.self.now trace c.args.birth c.in-Some.at c.in_ok-process.process c.in_ok-object.field-0 c.clock.result s g
-    c.in-Make.object c.in-Make.span c.in-Make.call c.in-Make.is
-    (none_of c.in_ok-entry.field-0 c.in_default-3.not-Some ∙ c.in_ok-entry.ensures trace s (goes_clock c.args.app.now c.args.self.now trace c.args.birth c.in-Some.at c.in_ok-process.process c.in_ok-object.field-0 c.clock.result s g))
+-- what came of the call
+came : (c : In_ok-entry) (trace : List Entry) → WorldStands c.args.app.now c.args.self.now trace
+    → Goes c.args.app.now c.args.self.now c.args.birth c.in-Some.at c.in_ok-process.process c.in_ok-object.field-0 c.clock.result
+    → (then : Outcome) → c.in_ok-entry.field-0 ≡ then → IsOutcome c.args.app.now trace (going c.args.birth c.in-Make.object c.in-Make.span c.in-Make.call) then
+came c trace s g then is =
+    outcome_is c.args.app.now trace (going c.args.birth c.in-Make.object c.in-Make.span c.in-Make.call) c.in_ok-entry.field-0 then is
+    (c.in_ok-entry.ensures trace s (goes_clock c.args.app.now c.args.self.now trace c.args.birth c.in-Some.at c.in_ok-process.process c.in_ok-object.field-0 c.clock.result s g))
 
-pub returns-in_err-feed : goal.returns-in_err-feed
-returns-in_err-feed c = λ trace s. chose_kept c.args.app.now c.args.self.now _ trace _ _ c.from_residual-in_err-feed.ensures.0 s s.objects refl refl
+pub returns-in-NotYet : goal.returns-in-NotYet
+returns-in-NotYet c =
+    let g = goes ((goal.at.returns-in-NotYet c).In_ok-object) c.clock.result c.clock.ensures in
+    let at = (goal.at.returns-in-NotYet c).In_ok-entry in
+    record {
+      chose = λ trace s.
+          go_waits c.args.app.now c.args.self.now trace c.args.birth c.in-Some.at c.in_ok-process.process c.in_ok-object.field-0 c.clock.result s g
+          c.in-Make.object c.in-Make.span c.in-Make.call c.in-Make.is ((came at trace s g outcomes.NotYet c.in-NotYet.is).0);
+      ended = λ trace s.
+          stops_waits c.args.app.now c.args.self.now trace c.args.birth c.in-Some.at c.in_ok-process.process c.in_ok-object.field-0 c.clock.result s g
+          c.in-Make.object c.in-Make.span c.in-Make.call c.in-Make.is c.args.self.now.processes.items ((came at trace s g outcomes.NotYet c.in-NotYet.is).1);
+    }
+
+pub returns-in-Full : goal.returns-in-Full
+returns-in-Full c =
+    let g = goes ((goal.at.returns-in-Full c).In_ok-object) c.clock.result c.clock.ensures in
+    let at = (goal.at.returns-in-Full c).In_ok-entry in
+    record {
+      chose = λ trace s.
+          go_ended c.args.app.now c.args.self.now trace c.args.birth c.in-Some.at c.in_ok-process.process c.in_ok-object.field-0 c.clock.result s g
+          c.in-Make.object c.in-Make.span c.in-Make.call c.in-Make.is _ c.full.new.self (came at trace s g outcomes.Full c.in-Full.is)
+          refl c.set-in-Full.ensures.items refl (c.full.ensures.stands c.args.app.now) c.full.ensures.clock c.full.ensures.birth c.full.ensures.full;
+      ended = λ trace s.
+          stops_ended c.args.app.now c.args.self.now trace c.args.birth c.in-Some.at c.in_ok-process.process c.in_ok-object.field-0 c.clock.result s g
+          c.in-Make.object c.in-Make.span c.in-Make.call c.in-Make.is _ c.full.new.self c.set-in-Full.ensures.items c.full.ensures.birth c.full.ensures.full;
+    }
 
 pub add-requires-clause-call : goal.add-requires-clause-call
 add-requires-clause-call c =
-    let g = goes_of c.args.app.now c.args.self.now c.args.birth c.in-Some.at _ _ c.in_ok-process.process c.in_ok-object.field-0 c.clock.result c.as_slice.ensures (sym c.in-Some.ensures) c.at.ensures c.in_ok-process.ensures c.in_ok-object.ensures c.clock.ensures in
-    call_of c.args.app.now c.args.self.now c.requires.world.trace c.requires.world.stands (going c.args.birth c.in-Make.object c.in-Make.span c.in-Make.call)
-    (goes_born c.args.app.now c.args.self.now c.requires.world.trace c.args.birth c.in-Some.at c.in_ok-process.process c.in_ok-object.field-0 c.clock.result c.requires.world.stands g)
-    c.in_ok-entry.field-0 c.in-Some-2.entry c.in-Some-2.is
-    (c.in_ok-entry.ensures c.requires.world.trace c.requires.world.stands (goes_clock c.args.app.now c.args.self.now c.requires.world.trace c.args.birth c.in-Some.at c.in_ok-process.process c.in_ok-object.field-0 c.clock.result c.requires.world.stands g))
-    (call_is_of_run c.args.app.now c.in-Make.object c.in-Make.span c.in-Make.call c.in_ok-object.field-0 c.in-Make.is
-    (goes_stores c.args.app.now c.args.self.now c.requires.world.trace c.args.birth c.in-Some.at c.in_ok-process.process c.in_ok-object.field-0 c.clock.result c.requires.world.stands g))
+    let g = goes ((goal.at.add-requires-clause-call c).In_ok-object) c.clock.result c.clock.ensures in
+    let at = (goal.at.add-requires-clause-call c).In_ok-entry in
+    let trace = c.requires.world.trace in
+    let s = c.requires.world.stands in
+    call_of c.args.app.now c.args.self.now trace s (going c.args.birth c.in-Make.object c.in-Make.span c.in-Make.call)
+    (goes_born c.args.app.now c.args.self.now trace c.args.birth c.in-Some.at c.in_ok-process.process c.in_ok-object.field-0 c.clock.result s g)
+    (goes_call c.args.app.now c.args.self.now trace c.args.birth c.in-Some.at c.in_ok-process.process c.in_ok-object.field-0 c.clock.result s g c.in-Make.object c.in-Make.span c.in-Make.call c.in-Make.is)
+    c.in-Makes.entry (came at trace s g (outcomes.Makes c.in-Makes.entry) c.in-Makes.is)
 
 pub add-requires-clause-grows : goal.add-requires-clause-grows
 add-requires-clause-grows c =
-    let g = goes_of c.args.app.now c.args.self.now c.args.birth c.in-Some.at _ _ c.in_ok-process.process c.in_ok-object.field-0 c.clock.result c.as_slice.ensures (sym c.in-Some.ensures) c.at.ensures c.in_ok-process.ensures c.in_ok-object.ensures c.clock.ensures in
-    may_grow c.args.app.now c.args.self.now c.requires.world.trace c.requires.world.stands (going c.args.birth c.in-Make.object c.in-Make.span c.in-Make.call)
-    (goes_born c.args.app.now c.args.self.now c.requires.world.trace c.args.birth c.in-Some.at c.in_ok-process.process c.in_ok-object.field-0 c.clock.result c.requires.world.stands g)
-    c.in_ok-entry.field-0 c.in-Some-2.entry c.in-Some-2.is
-    (c.in_ok-entry.ensures c.requires.world.trace c.requires.world.stands (goes_clock c.args.app.now c.args.self.now c.requires.world.trace c.args.birth c.in-Some.at c.in_ok-process.process c.in_ok-object.field-0 c.clock.result c.requires.world.stands g))
+    let g = goes ((goal.at.add-requires-clause-grows c).In_ok-object) c.clock.result c.clock.ensures in
+    let at = (goal.at.add-requires-clause-grows c).In_ok-entry in
+    let trace = c.requires.world.trace in
+    let s = c.requires.world.stands in
+    may_grow c.args.app.now c.args.self.now trace s (going c.args.birth c.in-Make.object c.in-Make.span c.in-Make.call)
+    (goes_born c.args.app.now c.args.self.now trace c.args.birth c.in-Some.at c.in_ok-process.process c.in_ok-object.field-0 c.clock.result s g)
+    (goes_call c.args.app.now c.args.self.now trace c.args.birth c.in-Some.at c.in_ok-process.process c.in_ok-object.field-0 c.clock.result s g c.in-Make.object c.in-Make.span c.in-Make.call c.in-Make.is)
+    c.in-Makes.entry (came at trace s g (outcomes.Makes c.in-Makes.entry) c.in-Makes.is)
 
-pub returns-in_err-add : goal.returns-in_err-add
-returns-in_err-add c = λ trace s. chose_kept c.args.app.now c.args.self.now _ trace _ _ c.from_residual-in_err-add.ensures.0 s (c.in_err-add.ensures.err c.args.app.now trace s.objects) refl refl
+pub set-requires : goal.set-requires
+set-requires c = slice_get_within c.args.self.now.processes.items c.in-Some.at c.in_ok-process.process (goes ((goal.at.set-requires c).In_ok-object) c.clock.result c.clock.ensures).is
 
-pub returns : goal.returns
-returns c = λ trace s.
-    let g = goes_of c.args.app.now c.args.self.now c.args.birth c.in-Some.at _ _ c.in_ok-process.process c.in_ok-object.field-0 c.clock.result c.as_slice.ensures (sym c.in-Some.ensures) c.at.ensures c.in_ok-process.ensures c.in_ok-object.ensures c.clock.ensures in
-    go_done c.args.app.now c.args.self.now trace c.args.birth c.in-Some.at c.in_ok-process.process c.in_ok-object.field-0 c.clock.result s g
-    _ c.in-Make.object c.in-Make.span c.in-Make.call c.in_ok-entry.field-0 c.in-Some-2.entry c.feed.new.self
-    c.in-Make.is c.in-Some-2.is
-    (c.in_ok-entry.ensures trace s (goes_clock c.args.app.now c.args.self.now trace c.args.birth c.in-Some.at c.in_ok-process.process c.in_ok-object.field-0 c.clock.result s g))
-    (c.in_ok-add.ensures.stand c.args.app.now) c.set.ensures.items refl c.in_ok-feed.ensures.goes c.in_ok-feed.ensures.clock c.feed.ensures.birth
+pub returns-in_err-add-in-Makes-clause-chose : goal.returns-in_err-add-in-Makes-clause-chose
+returns-in_err-add-in-Makes-clause-chose c = λ trace s. chose_kept c.args.app.now c.args.self.now _ trace _ _ c.from_residual-in_err-add-in-Makes.ensures.0 s (c.in_err-add-in-Makes.ensures.err c.args.app.now trace s.objects) refl refl
+
+pub returns-in_ok-add-in-Makes : goal.returns-in_ok-add-in-Makes
+returns-in_ok-add-in-Makes c =
+    let g = goes ((goal.at.returns-in_ok-add-in-Makes c).In_ok-object) c.clock.result c.clock.ensures in
+    let at = (goal.at.returns-in_ok-add-in-Makes c).In_ok-entry in
+    record {
+      chose = λ trace s.
+          go_done c.args.app.now c.args.self.now trace c.args.birth c.in-Some.at c.in_ok-process.process c.in_ok-object.field-0 c.clock.result s g
+          c.in-Make.object c.in-Make.span c.in-Make.call c.in-Make.is _ c.in-Makes.entry c.feed.new.self (came at trace s g (outcomes.Makes c.in-Makes.entry) c.in-Makes.is)
+          (c.in_ok-add-in-Makes.ensures.stand c.args.app.now) c.set.ensures.items refl
+          c.in_ok-feed-in-Makes.ensures.goes c.in_ok-feed-in-Makes.ensures.clock c.feed.ensures.birth c.feed.ensures.full;
+      ended = λ trace s.
+          stops_made c.args.app.now c.args.self.now trace c.args.birth c.in-Some.at c.in_ok-process.process c.in_ok-object.field-0 c.clock.result s g
+          c.in-Make.object c.in-Make.span c.in-Make.call c.in-Make.is _ c.in-Makes.entry (came at trace s g (outcomes.Makes c.in-Makes.entry) c.in-Makes.is);
+    }

@@ -1,0 +1,4 @@
+pub mod Starts
+pub mod News
+pub mod Taking
+pub mod Histories

@@ -1,0 +1,44 @@
+-- How an object of an application stands for a history.
+use Rattle.std.specs.Prelude.{◌≡◌, ℕ, List, [], Some}
+use Rattle.anti_kind.specs.declared.call.Call.{Call}
+use Rattle.anti_kind.specs.declared.call.Call.TheVariants.{Write, Read, Look, Ship, Again, Take}
+use Rattle.anti_kind.specs.declared.call.Entry.{Entry}
+use Rattle.anti_kind.specs.Objects.{Start, StandsFor}
+use Rattle.anti_kind.specs.Objects as objects
+use Rattle.anti_kv.specs.KvStates.{its_start, KvStands}
+use Rattle.anti_inbox.specs.Inboxes as inboxes
+use Rattle.anti_app.specs.declared.app.App.{App}
+use Rattle.anti_object.specs.declared.object.Object.{Object}
+use Rattle.anti_object.specs.declared.object.Object.TheVariants.{Store, Inbox}
+use Rattle.anti_object.specs.Starts.{start_of}
+
+-- the calls that schedules and handlers make so far
+abbrev pub IsCallOfRun : Call → Type 0
+IsCallOfRun (Write key value lineage) = Unit {0}
+IsCallOfRun (Read region key) = Unit {0}
+IsCallOfRun (Look region ids dry) = Unit {0}
+IsCallOfRun (Ship region version part) = Unit {0}
+IsCallOfRun (Again region version part) = Unit {0}
+IsCallOfRun (Take nth) = Unit {0}
+IsCallOfRun _ = ⊥
+
+abbrev pub object_start : Object → Start
+object_start (Store m) = its_start m
+object_start (Inbox m) = inboxes.start_of m
+
+abbrev pub ObjectStands : Object → List Entry → Type 0
+ObjectStands (Store m) h = KvStands m h
+ObjectStands (Inbox m) h = inboxes.InboxStands m h
+
+-- an object stands for a history that is legal
+abbrev pub ObjectAt : Object → List Entry → Type 0
+ObjectAt o h = StandsFor (object_start o) (ObjectStands o) h
+
+-- after some history for which the object stands the call is ready and fits
+abbrev pub MayMake : Object → Call → Type 0
+MayMake o c = objects.MayMake (object_start o) (ObjectStands o) c
+
+-- the object with a number, on which nothing has happened yet
+pub record IsNew (app : App) (number : ℕ) (o : Object) : Type 0 where
+  pub start : start_of app number ≡ Some (object_start o)
+  pub stands : ObjectAt o []

@@ -1,0 +1,84 @@
+ghost use Rattle.std.specs.Prelude.{◌≡◌, reverse, IfOk};
+ghost use Rattle.anti_proc.specs.Meaning.{Setting, Local, Go, looks};
+ghost use Rattle.anti_proc.specs.Standing.{next_or};
+
+use crate::want::End;
+use anti_ids::{Copies, List, Name, NoMemory, Value};
+use anti_shim::{Looks, PlannedLook};
+use std::alloc::Global;
+
+/// The call that is next, with all that its reply needs; or the end.
+#[derive(Drop)]
+pub enum Next {
+    /// Writes a value to a key of a store.
+    Write {
+        store: u32,
+        key: Name,
+        value: Value,
+    },
+    /// Reads a key of a store.
+    Read {
+        store: u32,
+        key: Name,
+    },
+    /// Makes a look. Those that the barrier makes after it stand in `later`, the last first.
+    Look {
+        look: PlannedLook,
+        later: Looks,
+        dry: bool,
+    },
+    /// There is no further call.
+    Over(End),
+}
+
+impl Copies for Next {
+    fn copy(&self, alloc: Global) -> Result<Next, NoMemory> {
+        match self {
+            Next::Write { store, key, value } => {
+                let value = value.copy(alloc)?;
+                Ok(Next::Write {
+                    store: *store,
+                    key: *key,
+                    value,
+                })
+            }
+            Next::Read { store, key } => Ok(Next::Read {
+                store: *store,
+                key: *key,
+            }),
+            Next::Look { look, later, dry } => {
+                let look = look.copy(alloc)?;
+                let later = later.copy(alloc)?;
+                Ok(Next::Look {
+                    look,
+                    later,
+                    dry: *dry,
+                })
+            }
+            Next::Over(end) => Ok(Next::Over(*end)),
+        }
+    }
+}
+
+// These looks, the last first.
+pub fn last_first(alloc: Global, mut looks: Looks) -> Result<Looks, NoMemory>
+    ensures { IfOk result (λ turned. turned.items ≡ reverse looks.items) }
+{
+    let mut turned = List::with_room_of(alloc, &looks)?;
+    while let Some(look) = looks.pop() {
+        turned.put(look);
+    }
+    Ok(turned)
+}
+
+// The first of the looks that are left to a barrier, of which the last comes first; `None` where none is left.
+pub fn look_of(mut left: Looks, dry: bool) -> Option<Next>
+    ensures { (s : Setting) (l : Local) (go : Go) → next_or result s l go ≡ looks s.region dry (reverse left.items) l go }
+{
+    let look = left.pop()?;
+    Some(Next::Look {
+        look,
+        later: left,
+        dry,
+    })
+}

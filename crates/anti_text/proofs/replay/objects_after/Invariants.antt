@@ -1,0 +1,6 @@
+use Rattle.anti_text.specs.Replays.{AreAfter}
+use Rattle.anti_text.proofs.replay.objects_after.Given as goal
+
+-- the objects so far
+abbrev pub invariant-loop-number : goal.invariant-loop-number
+invariant-loop-number l = AreAfter l.app l.trace l.number l.objects.items

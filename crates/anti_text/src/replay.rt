@@ -1,0 +1,60 @@
+ghost use Rattle.std.specs.Prelude.{◌≡◌, ◌<◌, [], All, IfOk, OnOk};
+ghost use Rattle.anti_kind.specs.Objects.{IsLegal};
+ghost use Rattle.anti_object.specs.Standing.{object_start, ObjectAt, IsCallOfRun};
+ghost use Rattle.anti_trace.specs.Traces.{entries_on};
+ghost use Rattle.anti_proc.specs.Numbers.{object_count};
+ghost use Rattle.anti_text.specs.Replays.{AreAfter, IsAfter, IsReplayable};
+
+use anti_app::App;
+use anti_ids::NoMemory;
+use anti_kind::Entry;
+use anti_object::Object;
+use anti_trace::is_on;
+use std::alloc::Global;
+
+// Makes the calls that a trace has on an object, on which nothing has happened yet.
+fn replay(object: &mut Object, number: u32, trace: &[Entry]) -> Result<(), NoMemory>
+    requires first { ObjectAt object.old [] }
+    requires legal { IsLegal (object_start object.old) (entries_on number trace.now) }
+    requires calls { All (λ e. IsCallOfRun e.call) trace.now }
+    ensures after { OnOk result (ObjectAt object.new (entries_on number trace.now)) }
+    ensures start { object_start object.new ≡ object_start object.old }
+{
+    for entry in trace {
+        if is_on(number, entry) {
+            object.apply(&entry.call)?;
+        }
+    }
+    Ok(())
+}
+
+// The object with a number, after its history in a trace.
+fn object_after(alloc: Global, app: &App, trace: &[Entry], number: u32) -> Result<Object, NoMemory>
+    requires replayable { IsReplayable app.now trace.now }
+    requires there { number < object_count app.now }
+    ensures { IfOk result (IsAfter app.now trace.now number) }
+{
+    match Object::of(alloc, app, number)? {
+        Some(mut object) => {
+            replay(&mut object, number, trace)?;
+            Ok(object)
+        }
+        None => unreachable!(),
+    }
+}
+
+/// The objects of an application, each after its history in a trace.
+pub fn objects_after(alloc: Global, app: &App, trace: &[Entry]) -> Result<Vec<Object>, NoMemory>
+    requires { IsReplayable app.now trace.now }
+    ensures { IfOk result (λ objects. AreAfter app.now trace.now (object_count app.now) objects.items) }
+{
+    let mut objects = Vec::new(alloc);
+    let count = (app.stores.len() + app.services.len()) as u32;
+    for number in 0..count {
+        let object = object_after(alloc, app, trace, number)?;
+        if objects.push(object).is_err() {
+            return Err(NoMemory);
+        }
+    }
+    Ok(objects)
+}
