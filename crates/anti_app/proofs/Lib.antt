@@ -1,2 +1,10 @@
-pub mod TreeLemmas
+mod Choosing
+mod Lookups
+mod Kept
+mod SoundRegions
+mod SoundStores
+mod SoundBodies
+mod SoundServices
+mod SoundChoices
+mod Soundness
 pub mod SoundLemmas

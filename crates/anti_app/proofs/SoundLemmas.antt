@@ -1,22 +1,28 @@
 -- What a sound application is known to keep.
-use Rattle.std.proofs.Common.{◌≡◌, ℕ, ◌+◌, IfSome, ◌<◌, ◌≤◌, List, [], ◌∷◌, Bool, true, false, not, nat_eq, nat_lt, length, slice_get, Option, Some, None, IsTrue, refl, arith}
+use Rattle.std.proofs.Common.{◌≡◌, ℕ, ◌+◌, IfSome, ◌<◌, ◌≤◌, List, [], ◌∷◌, Bool, true, false, not, nat_eq, nat_lt, nat_le, length, slice_get, Option, Some, None, is_none, IsTrue, refl, arith}
 use Rattle.std.specs.List.{list_all, list_any, All, AllPairs}
 use Rattle.std.specs.Option.{option_map_or}
-use Rattle.std.proofs.lemmas.Bool.{and_parts, or_parts, not-true, leb-true, eq-eqb}
+use Rattle.std.proofs.lemmas.Bool.{and_parts, or_parts, not-true, leb-true, eq-eqb, eqb-true}
 use Rattle.std.proofs.lemmas.List.Elements.{All-nil, All-cons}
 use Rattle.std.proofs.lemmas.List.Kept.{AllPairs-cons}
 use Rattle.std.specs.Str.{bytes_eq}
+use Rattle.anti_ids.specs.Names.{is_plain}
 use Rattle.anti_kind.specs.declared.call.StoreKind.{StoreKind}
 use Rattle.anti_kind.specs.declared.call.StoreKind.TheVariants.{Kv, Table, Blob, Queue, Topic}
-use Rattle.anti_app.specs.Sound.{are_distinct, is_kv, is_sound_store, is_stored, fits_stores, sets_same, is_sound_handler, is_sound_service, is_sound_request, is_countable, is_part, is_shipment, is_sound_choice, is_sound}
+use Rattle.anti_lang.specs.Program.{Block}
+use Rattle.anti_lang.specs.Bodies.{block_of}
+use Rattle.anti_lang.specs.Blocks.{lines_of}
+use Rattle.anti_lang.specs.Faults.{block_fault, variable_fault}
+use Rattle.anti_lang.specs.Spans.{spans_of}
+use Rattle.anti_rules.specs.declared.limits.TheConstants.{MOST_CHOICES}
+use Rattle.anti_app.specs.Sound.{are_distinct, is_few, is_kv, is_sound_store, is_stored, fits_stores, is_sound_body, is_sound_handler, is_sound_service, has_handler, is_sound_request, is_countable, is_part, is_shipment, is_sound_choice, are_sound_regions, are_sound_stores, are_sound_services, are_sound_requests, are_sound_choices, are_sound_numbers, is_sound}
 use Rattle.anti_app.specs.declared.app.App.{App}
 use Rattle.anti_app.specs.declared.app.StoreDef.{StoreDef}
 use Rattle.anti_app.specs.declared.app.HandlerDef.{HandlerDef}
 use Rattle.anti_app.specs.declared.app.ServiceDef.{ServiceDef}
 use Rattle.anti_app.specs.declared.app.RequestDef.{RequestDef}
 use Rattle.anti_app.specs.declared.app.Choice.{Choice}
-use Rattle.anti_app.specs.declared.app.Choice.TheVariants.{Take, Ship, Again, Go}
-use Rattle.anti_app.specs.declared.limits.TheConstants.{MOST_CHOICES}
+use Rattle.anti_app.specs.declared.app.Choice.TheVariants.{Take, Repost, Pull, Repull, Ship, Again, Go, Finish}
 
 -- ---- lists
 -- what a test says of each element that passes it
@@ -42,13 +48,27 @@ pairs_known same (x ∷ xs) h =
 numbers_differ : (xs : List ℕ) → AllPairs (λ a b. nat_eq a b ≡ false) xs → AllPairs (λ a b. a ≡ b → ⊥) xs
 numbers_differ xs h = λ i j d less within e. let same = eq-eqb _ _ e in let other = h i j d less within in cc
 
+few_known : (n : ℕ) → is_few n ≡ true → (1 ≤ n) × (n ≤ 8)
+few_known n h = let parts = and_parts _ _ h in (leb-true _ _ parts.0, leb-true _ _ parts.1)
+
+none_is : {T : Type 0} (o : Option T) → is_none o ≡ true → o ≡ None
+none_is None h = refl
+none_is (Some x) h = cc
+
+no_items : {T : Type 0} (xs : List T) → nat_eq (length xs) 0 ≡ true → xs ≡ []
+no_items [] h = refl
+no_items (x ∷ xs) h = absurd (omega (arith, eqb-true _ _ h))
+
 -- ---- parts
 pub record SoundStore (regions : ℕ) (store : StoreDef) : Type 0 where
+  pub name : is_plain store.name ≡ true
   pub kind : store.kind ≡ Kv
   pub some : 1 ≤ length store.replicas.items
   pub few : length store.replicas.items ≤ 8
   pub below : All (λ region. region < regions) store.replicas.items
   pub distinct : AllPairs (λ a b. a ≡ b → ⊥) store.replicas.items
+  pub tried : 1 ≤ store.tries
+  pub few_tries : store.tries ≤ 8
 
 kv_known : (kind : StoreKind) → is_kv kind ≡ true → kind ≡ Kv
 kv_known Kv h = refl
@@ -61,30 +81,51 @@ pub store_known : (regions : ℕ) (store : StoreDef) → is_sound_store regions 
 unfolding is_sound_store
 store_known regions store h =
     let one = and_parts _ _ h in let two = and_parts _ _ one.1 in let three = and_parts _ _ two.1 in let four = and_parts _ _ three.1 in
+    let five = and_parts _ _ four.1 in
+    let few = few_known _ three.0 in let tries = few_known _ five.1 in
     record {
-      kind = kv_known store.kind one.0;
-      some = leb-true _ _ two.0;
-      few = leb-true _ _ three.0;
+      name = one.0;
+      kind = kv_known store.kind two.0;
+      some = few.0;
+      few = few.1;
       below = each_known (λ region. nat_lt region regions) (λ region. region < regions) (λ region less. leb-true _ _ less) store.replicas.items four.0;
-      distinct = numbers_differ _ (pairs_known nat_eq _ four.1);
+      distinct = numbers_differ _ (pairs_known nat_eq _ five.0);
+      tried = tries.0;
+      few_tries = tries.1;
+    }
+
+pub record SoundBody (stores : List StoreDef) (region : ℕ) (body : Block) : Type 0 where
+  pub few : length (lines_of body) ≤ 64
+  pub spans : spans_of body ≤ 64
+  pub blocks : block_fault (lines_of body) ≡ None
+  pub variables : variable_fault (lines_of body) ≡ None
+  pub fits : All (λ line. fits_stores stores region line ≡ true) (lines_of body)
+
+pub body_known : (stores : List StoreDef) (region : ℕ) (body : Block) → is_sound_body stores region body ≡ true → SoundBody stores region body
+unfolding is_sound_body
+body_known stores region body h =
+    let one = and_parts _ _ h in let two = and_parts _ _ one.1 in let three = and_parts _ _ two.1 in let four = and_parts _ _ three.1 in
+    record {
+      few = leb-true _ _ one.0;
+      spans = leb-true _ _ two.0;
+      blocks = none_is (block_fault (lines_of body)) three.0;
+      variables = none_is (variable_fault (lines_of body)) four.0;
+      fits = each_known (fits_stores stores region) (λ line. fits_stores stores region line ≡ true) (λ line fits. fits) (lines_of body) four.1;
     }
 
 pub record SoundHandler (stores : List StoreDef) (region : ℕ) (handler : HandlerDef) : Type 0 where
-  pub few : length handler.body.items ≤ 64
-  pub fits : All (λ statement. fits_stores stores region statement ≡ true) handler.body.items
-  pub distinct : AllPairs (λ a b. sets_same a b ≡ false) handler.body.items
+  pub name : is_plain handler.name ≡ true
+  pub body : SoundBody stores region (block_of handler.body)
+  pub spans : spans_of (block_of handler.body) ≤ 64
 
 pub handler_known : (stores : List StoreDef) (region : ℕ) (handler : HandlerDef) → is_sound_handler stores region handler ≡ true → SoundHandler stores region handler
 unfolding is_sound_handler
 handler_known stores region handler h =
-    let one = and_parts _ _ h in let two = and_parts _ _ one.1 in
-    record {
-      few = leb-true _ _ one.0;
-      fits = each_known (fits_stores stores region) (λ statement. fits_stores stores region statement ≡ true) (λ statement fits. fits) handler.body.items two.0;
-      distinct = pairs_known sets_same _ two.1;
-    }
+    let one = and_parts _ _ h in let body = body_known stores region (block_of handler.body) one.1 in
+    record { name = one.0; body = body; spans = body.spans }
 
 pub record SoundService (regions : ℕ) (stores : List StoreDef) (service : ServiceDef) : Type 0 where
+  pub name : is_plain service.name ≡ true
   pub region : service.region < regions
   pub own_name : is_stored stores service.name ≡ false
   pub few : length service.handlers.items ≤ 16
@@ -95,28 +136,33 @@ pub service_known : (regions : ℕ) (stores : List StoreDef) (service : ServiceD
 unfolding is_sound_service
 service_known regions stores service h =
     let one = and_parts _ _ h in let two = and_parts _ _ one.1 in let three = and_parts _ _ two.1 in let four = and_parts _ _ three.1 in
+    let five = and_parts _ _ four.1 in
     record {
-      region = leb-true _ _ one.0;
-      own_name = not-true _ two.0;
-      few = leb-true _ _ three.0;
-      handlers = each_known (is_sound_handler stores service.region) (SoundHandler stores service.region) (handler_known stores service.region) service.handlers.items four.0;
-      distinct = pairs_known (λ a b. bytes_eq a.name b.name) _ four.1;
+      name = one.0;
+      region = leb-true _ _ two.0;
+      own_name = not-true _ three.0;
+      few = leb-true _ _ four.0;
+      handlers = each_known (is_sound_handler stores service.region) (SoundHandler stores service.region) (handler_known stores service.region) service.handlers.items five.0;
+      distinct = pairs_known (λ a b. bytes_eq a.name b.name) _ five.1;
     }
 
--- the service that a request names, and that it has the handler
+-- the service that a request names, that it has the handler, and that the value is short
 pub record SoundRequest (services : List ServiceDef) (request : RequestDef) : Type 0 where
   pub service : ServiceDef
   pub found : slice_get services request.service ≡ Some service
   pub handler : request.handler < length service.handlers.items
+  pub short : length request.value ≤ 256
 
 named : (services : List ServiceDef) (request : RequestDef) (found : Option ServiceDef) → slice_get services request.service ≡ found
-    → option_map_or (λ service. nat_lt request.handler (length service.handlers.items)) found false ≡ true → SoundRequest services request
-named services request None e h = absurd (let wrong : false ≡ true = h in cc)
-named services request (Some service) e h = record { service = service; found = e; handler = leb-true _ _ h }
+    → option_map_or (λ service. nat_lt request.handler (length service.handlers.items)) found false ≡ true → length request.value ≤ 256 → SoundRequest services request
+named services request None e h short = absurd (let wrong : false ≡ true = h in cc)
+named services request (Some service) e h short = record { service = service; found = e; handler = leb-true _ _ h; short = short }
 
 pub request_known : (services : List ServiceDef) (request : RequestDef) → is_sound_request services request ≡ true → SoundRequest services request
 unfolding is_sound_request
-request_known services request h = named services request (slice_get services request.service) refl h
+request_known services request h =
+    let one = and_parts (has_handler services request.service request.handler) (nat_le (length request.value) 256) h in
+    named services request (slice_get services request.service) refl one.0 (leb-true _ _ one.1)
 
 -- the store and the region of a shipment are there, and its numbers are from 1 to 4,096
 abbrev pub SoundShipment : ℕ → ℕ → ℕ → ℕ → ℕ → Option ℕ → Type 0
@@ -126,9 +172,13 @@ SoundShipment regions stores store region version part =
 -- what a choice names is there, and its numbers are from 1 to 4,096
 abbrev pub SoundChoice : ℕ → ℕ → ℕ → Choice → Type 0
 SoundChoice regions stores services (Take service nth) = (service < services) × (1 ≤ nth) × (nth ≤ 4096)
+SoundChoice regions stores services (Repost service number) = ⊥
+SoundChoice regions stores services (Pull sub) = ⊥
+SoundChoice regions stores services (Repull sub version) = ⊥
 SoundChoice regions stores services (Ship store region version part) = SoundShipment regions stores store region version part
 SoundChoice regions stores services (Again store region version part) = SoundShipment regions stores store region version part
 SoundChoice regions stores services (Go object place) = (object < stores + services) × (1 ≤ place) × (place ≤ 4096)
+SoundChoice regions stores services Finish = Unit {0}
 
 counted_known : (n : ℕ) → is_countable n ≡ true → (1 ≤ n) × (n ≤ 4096)
 counted_known n h = let parts = and_parts _ _ h in (leb-true _ _ parts.0, leb-true _ _ parts.1)
@@ -148,18 +198,24 @@ pub choice_known : (regions stores services : ℕ) (choice : Choice) → is_soun
 unfolding is_sound_choice
 choice_known regions stores services (Take service nth) h =
     let one = and_parts _ _ h in let number = counted_known nth one.1 in (leb-true _ _ one.0, number.0, number.1)
+choice_known regions stores services (Repost service number) h = cc
+choice_known regions stores services (Pull sub) h = cc
+choice_known regions stores services (Repull sub version) h = cc
 choice_known regions stores services (Ship store region version part) h = shipment_known regions stores store region version part h
 choice_known regions stores services (Again store region version part) h = shipment_known regions stores store region version part h
 choice_known regions stores services (Go object place) h =
     let one = and_parts _ _ h in let number = counted_known place one.1 in (leb-true _ _ one.0, number.0, number.1)
+choice_known regions stores services Finish h = tt
 
 -- ---- the whole
 pub record SoundApp (app : App) : Type 0 where
   pub some_region : 1 ≤ length app.regions.items
   pub few_regions : length app.regions.items ≤ 8
+  pub plain_regions : All (λ region. is_plain region ≡ true) app.regions.items
   pub regions : AllPairs (λ a b. bytes_eq a b ≡ false) app.regions.items
-  pub few_stores : length app.stores.items ≤ 1
+  pub few_stores : length app.stores.items ≤ 16
   pub stores : All (SoundStore (length app.regions.items)) app.stores.items
+  pub store_names : AllPairs (λ a b. bytes_eq a.name b.name ≡ false) app.stores.items
   pub few_services : length app.services.items ≤ 16
   pub services : All (SoundService (length app.regions.items) app.stores.items) app.services.items
   pub names : AllPairs (λ a b. bytes_eq a.name b.name ≡ false) app.services.items
@@ -167,29 +223,45 @@ pub record SoundApp (app : App) : Type 0 where
   pub requests : All (SoundRequest app.services.items) app.requests.items
   pub few_choices : length app.choices.items ≤ MOST_CHOICES
   pub choices : All (SoundChoice (length app.regions.items) (length app.stores.items) (length app.services.items)) app.choices.items
+  pub seed : app.seed ≤ 9223372036854775807
+  pub some_worker : 1 ≤ app.workers
+  pub few_workers : app.workers ≤ 8
+  pub no_sub : app.subs.items ≡ []
 
 pub app_known : (app : App) → IsTrue (is_sound app) → SoundApp app
 app_known app h =
-    let one = and_parts _ _ h in let two = and_parts _ _ one.1 in let three = and_parts _ _ two.1 in let four = and_parts _ _ three.1 in
-    let regions = and_parts _ _ one.0 in let more_regions = and_parts _ _ regions.1 in
-    let stores = and_parts _ _ two.0 in
+    let regions : ℕ = length app.regions.items in
+    let one = and_parts (are_sound_regions app.regions.items) _ h in
+    let two = and_parts (are_sound_stores regions app.stores.items) _ one.1 in
+    let three = and_parts (are_sound_services regions app.stores.items app.services.items) _ two.1 in
+    let four = and_parts (are_sound_requests app.services.items app.requests.items) _ three.1 in
+    let five = and_parts (are_sound_choices regions (length app.stores.items) (length app.services.items) app.choices.items) (are_sound_numbers app) four.1 in
+    let few = and_parts _ _ one.0 in let named = and_parts _ _ few.1 in let count = few_known _ few.0 in
+    let stores = and_parts _ _ two.0 in let more_stores = and_parts _ _ stores.1 in
     let services = and_parts _ _ three.0 in let more_services = and_parts _ _ services.1 in
     let requests = and_parts _ _ four.0 in
-    let choices = and_parts _ _ four.1 in
+    let choices = and_parts _ _ five.0 in
+    let numbers = and_parts _ _ five.1 in let more_numbers = and_parts _ _ numbers.1 in let workers = few_known _ more_numbers.0 in
     record {
-      some_region = leb-true _ _ regions.0;
-      few_regions = leb-true _ _ more_regions.0;
-      regions = pairs_known bytes_eq _ more_regions.1;
+      some_region = count.0;
+      few_regions = count.1;
+      plain_regions = each_known is_plain (λ region. is_plain region ≡ true) (λ region plain. plain) app.regions.items named.0;
+      regions = pairs_known bytes_eq _ named.1;
       few_stores = leb-true _ _ stores.0;
-      stores = each_known (is_sound_store (length app.regions.items)) (SoundStore (length app.regions.items)) (store_known (length app.regions.items)) app.stores.items stores.1;
+      stores = each_known (is_sound_store regions) (SoundStore regions) (store_known regions) app.stores.items more_stores.0;
+      store_names = pairs_known (λ a b. bytes_eq a.name b.name) _ more_stores.1;
       few_services = leb-true _ _ services.0;
-      services = each_known (is_sound_service (length app.regions.items) app.stores.items) (SoundService (length app.regions.items) app.stores.items)
-          (service_known (length app.regions.items) app.stores.items) app.services.items more_services.0;
+      services = each_known (is_sound_service regions app.stores.items) (SoundService regions app.stores.items)
+          (service_known regions app.stores.items) app.services.items more_services.0;
       names = pairs_known (λ a b. bytes_eq a.name b.name) _ more_services.1;
       few_requests = leb-true _ _ requests.0;
       requests = each_known (is_sound_request app.services.items) (SoundRequest app.services.items) (request_known app.services.items) app.requests.items requests.1;
       few_choices = leb-true _ _ choices.0;
-      choices = each_known (is_sound_choice (length app.regions.items) (length app.stores.items) (length app.services.items))
-          (SoundChoice (length app.regions.items) (length app.stores.items) (length app.services.items))
-          (choice_known (length app.regions.items) (length app.stores.items) (length app.services.items)) app.choices.items choices.1;
+      choices = each_known (is_sound_choice regions (length app.stores.items) (length app.services.items))
+          (SoundChoice regions (length app.stores.items) (length app.services.items))
+          (choice_known regions (length app.stores.items) (length app.services.items)) app.choices.items choices.1;
+      seed = leb-true _ _ numbers.0;
+      some_worker = workers.0;
+      few_workers = workers.1;
+      no_sub = no_items app.subs.items more_numbers.1;
     }

@@ -1,5 +1,3 @@
-pub mod Trees
-pub mod Keys
 pub mod Parts
 pub mod Chosen
 pub mod Sound

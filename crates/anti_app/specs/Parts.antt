@@ -1,102 +1,140 @@
--- The regions, stores, services and requests that the tables of a document state, each where its keys are there and have the
--- listed types, its names are plain and what it names is there.
-use Rattle.std.specs.Prelude.{ℕ, codes, List, [], Option, Some, None, is_some, if◌then◌else◌, option_map, position, slice_get}
+-- The parts of the application that the tables of a document state. Each of them is total: where a rule of the format forbids a
+-- case, a default stands for it, and the comment says which rule keeps a document that states an application from the case.
+use Rattle.std.specs.Prelude.{ℕ, ◌^◌, ℤ, pos, negsuc, codes, List, [], ◌&&◌, nat_le, nat_lt, length, map, Option, Some, None, unwrap_or, Result, Ok, Err, if◌then◌else◌, position, slice_get}
 use Rattle.std.specs.Option.{option_and_then}
 use Rattle.std.specs.Str.{bytes_eq}
-use Rattle.anti_ids.specs.List.{Listed}
+use Rattle.anti_ids.specs.List.{Listed, plain, empty}
+use Rattle.anti_ids.specs.Values.{value_of}
+use Rattle.anti_ids.specs.declared.value.ValueFault.{ValueFault}
 use Rattle.anti_kind.specs.declared.call.StoreKind.{StoreKind}
-use Rattle.anti_kind.specs.declared.call.StoreKind.TheVariants.{Kv}
-use Rattle.anti_lang.specs.Texts.{plain_name, unreserved_value}
-use Rattle.anti_lang.specs.Statements.{statement_of}
+use Rattle.anti_kind.specs.declared.call.StoreKind.TheVariants.{Kv, Table, Blob, Queue, Topic}
+use Rattle.anti_lang.specs.Texts.{plain_name}
+use Rattle.anti_lang.specs.Program.{Block}
+use Rattle.anti_lang.specs.Bodies.{body_of}
+use Rattle.anti_lang.specs.Parsing.{parsed}
 use Rattle.anti_lang.specs.declared.statement.Statement.{Statement}
-use Rattle.toml.specs.Data.{Data, Members, get_member, as_str}
-use Rattle.anti_app.specs.Trees.{text_at, things_at, things_or_none, gathered, small}
-use Rattle.anti_app.specs.Keys.{table_of}
-use Rattle.anti_app.specs.declared.app.Part.TheVariants.{Store, Service, Handler, Request}
+use Rattle.anti_lang.specs.declared.fault.LangFault.{LangFault}
+use Rattle.toml.specs.Data.{Data, Members, get_member, as_integer}
+use Rattle.anti_rules.specs.Trees.{things_at, things_in, text_of, member_in, text_at}
 use Rattle.anti_app.specs.declared.app.StoreDef.{StoreDef}
 use Rattle.anti_app.specs.declared.app.HandlerDef.{HandlerDef}
 use Rattle.anti_app.specs.declared.app.ServiceDef.{ServiceDef}
+use Rattle.anti_app.specs.declared.app.SubDef.{SubDef}
 use Rattle.anti_app.specs.declared.app.RequestDef.{RequestDef}
 
--- The name at the key `name`.
-abbrev pub name_at : Members → Option (List ℕ)
-name_at ms = option_and_then plain_name (text_at (codes "name") ms)
+-- ---- names and numbers
+-- The name that a text is; `a` where it is no plain name (rule 6).
+abbrev pub name_or_a : List ℕ → List ℕ
+name_or_a text = unwrap_or (plain_name text) (codes "a")
+
+-- the name at a key of a thing
+abbrev pub name_at : List ℕ → Data → List ℕ
+name_at key d = name_or_a (text_at key d)
+
+-- A number that four bytes hold. No list of a document is so long that one of its places is none (rule 4).
+abbrev pub small : ℕ → Option ℕ
+small n = if nat_lt n (2 ^ 32) then Some n else None
+
+-- The number of a thing that is there; 0 where it is not.
+abbrev pub number_or_0 : Option ℕ → ℕ
+number_or_0 found = unwrap_or found 0
+
+-- The integer from 1 to 8 at a key; the default where the key is left out, and for any other value (rules 3 and 5).
+abbrev pub few_or : ℕ → Option ℤ → ℕ
+few_or default (Some (pos n)) = if nat_le 1 n && nat_le n 8 then n else default
+few_or default (Some (negsuc n)) = default
+few_or default None = default
+
+-- The integer from 0 at a key; 0 where the key is left out, and for any other value (rules 3 and 5).
+abbrev pub whole_or_0 : Option ℤ → ℕ
+whole_or_0 (Some (pos n)) = n
+whole_or_0 (Some (negsuc n)) = 0
+whole_or_0 None = 0
+
+-- ---- the top
+-- the numbers that a run with workers draws from and has
+abbrev pub seed_of : Members → ℕ
+seed_of doc = whole_or_0 (option_and_then as_integer (get_member (codes "seed") doc))
+
+abbrev pub workers_of : Members → ℕ
+workers_of doc = few_or 2 (option_and_then as_integer (get_member (codes "workers") doc))
 
 -- ---- regions
 -- A region's name.
-abbrev pub region_of : Data → Option (List ℕ)
-region_of d = option_and_then plain_name (as_str d)
+abbrev pub region_of : Data → List ℕ
+region_of d = name_or_a (text_of d)
 
--- The names of the regions: 1 to 8.
-abbrev pub regions_at : Members → Option (Listed (List ℕ))
-regions_at doc = option_and_then (gathered region_of []) (things_at (codes "regions") 1 8 doc)
+-- The names of the regions.
+abbrev pub regions_of : Members → List (List ℕ)
+regions_of doc = map region_of (things_at (codes "regions") doc)
 
 -- The number of the region of a name.
 abbrev pub region_number : List (List ℕ) → List ℕ → Option ℕ
 region_number regions text = option_and_then small (position (λ name. bytes_eq name text) regions)
 
 -- ---- stores
--- the kinds that are built
-abbrev pub kind_of : List ℕ → Option StoreKind
-kind_of text = if bytes_eq text (codes "kv") then Some Kv else None
+-- The kind that a word names; `kv` where it names none (rule 11).
+abbrev pub kind_of : List ℕ → StoreKind
+kind_of text =
+    if bytes_eq text (codes "table") then Table else
+    (if bytes_eq text (codes "blob") then Blob else
+    (if bytes_eq text (codes "queue") then Queue else
+    (if bytes_eq text (codes "topic") then Topic else Kv)))
 
-abbrev pub replica_of : List (List ℕ) → Data → Option ℕ
-replica_of regions d = option_and_then (region_number regions) (as_str d)
+-- the region of a replica (rule 12)
+abbrev pub replica_of : List (List ℕ) → Data → ℕ
+replica_of regions d = number_or_0 (region_number regions (text_of d))
 
--- the numbers of the regions of the replicas: 1 to 8
-abbrev pub replicas_at : List (List ℕ) → Members → Option (Listed ℕ)
-replicas_at regions ms = option_and_then (gathered (replica_of regions) []) (things_at (codes "replicas") 1 8 ms)
+-- A store. A queue gives a message out three times where it says nothing.
+unfoldable pub store_of : List (List ℕ) → Data → StoreDef
+store_of regions d = record {
+  name = name_at (codes "name") d;
+  kind = kind_of (text_at (codes "kind") d);
+  replicas = plain (map (replica_of regions) (things_in (codes "replicas") d));
+  tries = few_or 3 (option_and_then as_integer (member_in (codes "tries") d));
+}
 
--- the store of a table; a queue would give a message out three times where it says nothing
-abbrev pub store_in : List (List ℕ) → Members → Option StoreDef
-store_in regions ms =
-    option_and_then (λ name. option_and_then (λ kind. option_map (λ replicas.
-    record { name = name; kind = kind; replicas = replicas; tries = 3 })
-    (replicas_at regions ms)) (option_and_then kind_of (text_at (codes "kind") ms))) (name_at ms)
+-- The stores.
+abbrev pub stores_of : Members → List StoreDef
+stores_of doc = map (store_of (regions_of doc)) (things_at (codes "store") doc)
 
--- A store.
-unfoldable pub store_of : List (List ℕ) → Data → Option StoreDef
-store_of regions d = option_and_then (store_in regions) (table_of Store d)
+-- The number of the store of a name.
+abbrev pub store_place : List StoreDef → List ℕ → Option ℕ
+store_place stores text = position (λ store. bytes_eq store.name text) stores
 
--- The stores. Only one is built yet.
-abbrev pub stores_at : List (List ℕ) → Members → Option (Listed StoreDef)
-stores_at regions doc = option_and_then (gathered (store_of regions) []) (things_or_none (codes "store") 1 doc)
+abbrev pub store_number : List StoreDef → List ℕ → Option ℕ
+store_number stores text = option_and_then small (store_place stores text)
 
 -- ---- services
--- a line of a body
-abbrev pub line_of : Data → Option Statement
-line_of d = option_and_then statement_of (as_str d)
+-- what parsed lines are as a body; the empty one where they state none (rules 20, 21 and 22)
+abbrev pub body_or_empty : Result Block LangFault → Listed Statement
+body_or_empty (Ok block) = body_of block
+body_or_empty (Err fault) = empty
 
--- the lines of a body: at most 64
-abbrev pub body_at : Members → Option (Listed Statement)
-body_at ms = option_and_then (gathered line_of []) (things_at (codes "body") 0 64 ms)
+-- The body that lines state; the empty one where there are more than 64 (rule 4).
+abbrev pub body_in : List (List ℕ) → Listed Statement
+body_in lines = if nat_le (length lines) 64 then body_or_empty (parsed lines) else empty
 
-abbrev pub handler_in : Members → Option HandlerDef
-handler_in ms = option_and_then (λ name. option_map (λ body. record { name = name; body = body }) (body_at ms)) (name_at ms)
+-- the lines of a handler's body
+abbrev pub lines_in : Data → List (List ℕ)
+lines_in d = map text_of (things_in (codes "body") d)
 
 -- A handler.
-unfoldable pub handler_of : Data → Option HandlerDef
-handler_of d = option_and_then handler_in (table_of Handler d)
+unfoldable pub handler_of : Data → HandlerDef
+handler_of d = record { name = name_at (codes "name") d; body = body_in (lines_in d) }
 
--- the handlers of a service: at most 16
-abbrev pub handlers_at : Members → Option (Listed HandlerDef)
-handlers_at ms = option_and_then (gathered handler_of []) (things_or_none (codes "handler") 16 ms)
+-- A service (rule 14).
+unfoldable pub service_of : List (List ℕ) → Data → ServiceDef
+service_of regions d = record {
+  name = name_at (codes "name") d;
+  region = number_or_0 (region_number regions (text_at (codes "region") d));
+  handlers = plain (map handler_of (things_in (codes "handler") d));
+}
 
-abbrev pub service_in : List (List ℕ) → Members → Option ServiceDef
-service_in regions ms =
-    option_and_then (λ name. option_and_then (λ region. option_map (λ handlers.
-    record { name = name; region = region; handlers = handlers })
-    (handlers_at ms)) (option_and_then (region_number regions) (text_at (codes "region") ms))) (name_at ms)
+-- The services.
+abbrev pub services_of : Members → List ServiceDef
+services_of doc = map (service_of (regions_of doc)) (things_at (codes "service") doc)
 
--- A service.
-unfoldable pub service_of : List (List ℕ) → Data → Option ServiceDef
-service_of regions d = option_and_then (service_in regions) (table_of Service d)
-
--- The services: at most 16.
-abbrev pub services_at : List (List ℕ) → Members → Option (Listed ServiceDef)
-services_at regions doc = option_and_then (gathered (service_of regions) []) (things_or_none (codes "service") 16 doc)
-
--- ---- requests
 -- The number of the service of a name, and of a handler among those of a service.
 abbrev pub service_place : List ServiceDef → List ℕ → Option ℕ
 service_place services text = position (λ service. bytes_eq service.name text) services
@@ -107,26 +145,50 @@ service_number services text = option_and_then small (service_place services tex
 abbrev pub handler_number : List HandlerDef → List ℕ → Option ℕ
 handler_number handlers text = option_and_then small (position (λ handler. bytes_eq handler.name text) handlers)
 
--- the value at the key `value`, and the empty one where it is left out
-abbrev pub value_at : Members → Option (List ℕ)
-value_at ms =
-    if is_some (get_member (codes "value") ms) then option_and_then unreserved_value (text_at (codes "value") ms) else Some []
+-- the same of the service of a number
+abbrev pub handler_in : List ServiceDef → ℕ → List ℕ → Option ℕ
+handler_in services number text = option_and_then (λ service. handler_number service.handlers.items text) (slice_get services number)
 
--- the number of the handler that a request's table names, among those of the service of this number
-abbrev pub handler_at : List ServiceDef → ℕ → Members → Option ℕ
-handler_at services number ms =
-    option_and_then (λ service. option_and_then (handler_number service.handlers.items) (text_at (codes "handler") ms)) (slice_get services number)
+-- the number of the service that a thing names, and of the handler that it names among those of that service (rules 16 and 18)
+abbrev pub service_at : List ServiceDef → Data → ℕ
+service_at services d = number_or_0 (service_number services (text_at (codes "service") d))
 
-abbrev pub request_in : List ServiceDef → Members → Option RequestDef
-request_in services ms =
-    option_and_then (λ service. option_and_then (λ handler. option_map (λ value.
-    record { service = service; handler = handler; value = value })
-    (value_at ms)) (handler_at services service ms)) (option_and_then (service_number services) (text_at (codes "service") ms))
+abbrev pub handler_at : List ServiceDef → Data → ℕ
+handler_at services d = number_or_0 (handler_in services (service_at services d) (text_at (codes "handler") d))
 
--- A request.
-unfoldable pub request_of : List ServiceDef → Data → Option RequestDef
-request_of services d = option_and_then (request_in services) (table_of Request d)
+-- ---- subscriptions
+-- A subscription (rule 15).
+unfoldable pub sub_of : List StoreDef → List ServiceDef → Data → SubDef
+sub_of stores services d = record {
+  name = name_at (codes "name") d;
+  store = number_or_0 (store_number stores (text_at (codes "store") d));
+  channel = name_at (codes "channel") d;
+  service = service_at services d;
+  handler = handler_at services d;
+}
 
--- The requests: at most 400.
-abbrev pub requests_at : List ServiceDef → Members → Option (Listed RequestDef)
-requests_at services doc = option_and_then (gathered (request_of services) []) (things_or_none (codes "request") 400 doc)
+-- The subscriptions.
+abbrev pub subs_of : Members → List SubDef
+subs_of doc = map (sub_of (stores_of doc) (services_of doc)) (things_at (codes "sub") doc)
+
+-- The number of the subscription of a name.
+abbrev pub sub_number : List SubDef → List ℕ → Option ℕ
+sub_number subs text = option_and_then small (position (λ sub. bytes_eq sub.name text) subs)
+
+-- ---- requests
+-- The value that a text is; the empty one where it is too long (rule 19).
+abbrev pub value_or_empty : Result (List ℕ) ValueFault → List ℕ
+value_or_empty (Ok value) = value
+value_or_empty (Err fault) = []
+
+-- A request. Its value is empty where it says nothing.
+unfoldable pub request_of : List ServiceDef → Data → RequestDef
+request_of services d = record {
+  service = service_at services d;
+  handler = handler_at services d;
+  value = value_or_empty (value_of (text_at (codes "value") d));
+}
+
+-- The requests.
+abbrev pub requests_of : Members → List RequestDef
+requests_of doc = map (request_of (services_of doc)) (things_at (codes "request") doc)

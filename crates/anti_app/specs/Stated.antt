@@ -1,38 +1,29 @@
 -- The application that bytes state.
-use Rattle.std.specs.Prelude.{◌≡◌, ℕ, List, Option, Some, None, Result, Ok, Err, if◌then◌else◌, option_map}
-use Rattle.std.specs.Option.{option_and_then, ok_or}
+use Rattle.std.specs.Prelude.{◌≡◌, ℕ, List, Option, Some, None, Result, Ok, Err, if◌then◌else◌}
 use Rattle.std.specs.Str.{is_utf8}
 use Rattle.toml.specs.Data.{Members}
 use Rattle.toml.specs.Parse.{parse_document}
-use Rattle.anti_app.specs.Trees.{has_only}
-use Rattle.anti_app.specs.Keys.{keys_of}
-use Rattle.anti_app.specs.Parts.{regions_at, stores_at, services_at, requests_at}
-use Rattle.anti_app.specs.Chosen.{choices_at}
-use Rattle.anti_app.specs.Sound.{is_sound}
+use Rattle.anti_rules.specs.Order.{first_breach}
+use Rattle.anti_rules.specs.declared.breach.Breach.{Breach}
+use Rattle.anti_app.specs.Chosen.{app_with, choices_of}
+use Rattle.anti_app.specs.declared.app.Choice.{Choice}
 use Rattle.anti_app.specs.declared.app.App.{App}
 use Rattle.anti_app.specs.declared.app.AppFault.{AppFault}
 use Rattle.anti_app.specs.declared.app.AppFault.TheVariants.{NotToml, Bad, BadChoice, NoMemory}
-use Rattle.anti_app.specs.declared.app.Part.TheVariants.{Top}
 
--- the application of the parts of a document, each where its own form is right
-abbrev pub draft_of : Members → Option App
-draft_of doc =
-    if has_only (keys_of Top) doc
-    then option_and_then (λ regions. option_and_then (λ stores. option_and_then (λ services. option_and_then (λ requests. option_map (λ choices.
-    record { regions = regions; stores = stores; services = services; requests = requests; choices = choices })
-    (choices_at regions.items stores.items services.items doc)) (requests_at services.items doc)) (services_at regions.items doc)) (stores_at regions.items doc)) (regions_at doc)
-    else None
+-- the application of a document with these choices
+abbrev pub app_or : Members → Result (List Choice) ℕ → Result App AppFault
+app_or doc (Ok choices) = Ok (app_with doc choices)
+app_or doc (Err number) = Err (BadChoice number)
 
-abbrev pub if_sound : App → Option App
-if_sound app = if is_sound app then Some app else None
+-- the same, unless the document fails a rule
+abbrev pub app_unless : Members → Option Breach → Result App AppFault
+app_unless doc (Some breach) = Err (Bad breach.rule breach.place)
+app_unless doc None = app_or doc (choices_of doc)
 
--- the fault of a document that is wrong or has something that is not built yet
-abbrev pub not_built : AppFault
-not_built = Bad 25 (record { part = Top; item = 0; line = 0 })
-
--- the application of a document
+-- the application of a document, or why it states none: the rules come first, then the choices
 abbrev pub app_in : Option Members → Result App AppFault
-app_in (Some doc) = ok_or (option_and_then if_sound (draft_of doc)) not_built
+app_in (Some doc) = app_unless doc (first_breach doc)
 app_in None = Err NotToml
 
 -- The application that bytes state, or why they state none. A document is UTF-8.

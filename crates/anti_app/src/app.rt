@@ -1,6 +1,7 @@
 use anti_ids::{List, Name, Value};
 use anti_kind::StoreKind;
 use anti_lang::Body;
+use anti_rules::Place;
 
 /// Names, in the order of the document.
 pub type Names = List<Name>;
@@ -29,7 +30,7 @@ pub type Stores = List<StoreDef>;
 pub struct HandlerDef {
     /// A plain name, unlike that of any other handler of the service.
     pub name: Name,
-    /// At most 64 statements.
+    /// The body of at most 64 lines.
     pub body: Body,
 }
 
@@ -64,6 +65,24 @@ pub struct RequestDef {
 /// The requests, in the order of the document.
 pub type Requests = List<RequestDef>;
 
+/// A subscription: which handler the messages of a store's channel start.
+#[derive(Drop)]
+pub struct SubDef {
+    /// A plain name, unlike that of any other subscription.
+    pub name: Name,
+    /// The number of the store, a queue or a topic.
+    pub store: u32,
+    /// A plain name.
+    pub channel: Name,
+    /// The number of the service.
+    pub service: u32,
+    /// The number of the handler among those of the service.
+    pub handler: u32,
+}
+
+/// The subscriptions, in the order of the document.
+pub type SubDefs = List<SubDef>;
+
 /// What happens next in a run. Each number of a choice that counts from 1 is at most 4,096.
 #[derive(Clone, Copy, Debug, PartialEq, Eq)]
 pub enum Choice {
@@ -71,6 +90,20 @@ pub enum Choice {
     Take {
         service: u32,
         nth: u32,
+    },
+    /// The message of this number of the service's inbox is delivered once more.
+    Repost {
+        service: u32,
+        number: u32,
+    },
+    /// The next message of a subscription is pulled: a process is born.
+    Pull {
+        sub: u32,
+    },
+    /// The message of this version is pulled once more by a subscription: a process is born.
+    Repull {
+        sub: u32,
+        version: u64,
     },
     /// A carrier moves a part, counted from 1, of a version to a region. The part is the first where none is given.
     Ship {
@@ -93,10 +126,15 @@ pub enum Choice {
         object: u32,
         place: u32,
     },
+    /// All that can still happen happens, one after another, until nothing can.
+    Finish,
 }
 
 /// The choices, in the order of the document.
 pub type Choices = List<Choice>;
+
+/// The numbers, counted from 1, of the choices that made no entry.
+pub type Waits = List<u32>;
 
 /// An application: what a document states.
 #[derive(Drop)]
@@ -107,42 +145,16 @@ pub struct App {
     pub stores: Stores,
     /// The services.
     pub services: Services,
+    /// The subscriptions.
+    pub subs: SubDefs,
     /// The requests.
     pub requests: Requests,
     /// The choices.
     pub choices: Choices,
-}
-
-/// A part of a document, in the order in which faults are sought.
-#[derive(Clone, Copy, Debug, PartialEq, Eq)]
-pub enum Part {
-    /// The top of the document.
-    Top,
-    /// The name of a region.
-    Region,
-    /// A store.
-    Store,
-    /// A service.
-    Service,
-    /// A handler. Handlers are counted over all services together.
-    Handler,
-    /// A subscription of a handler to a channel.
-    Sub,
-    /// A request.
-    Request,
-    /// A choice.
-    Choice,
-}
-
-/// A place of a document.
-#[derive(Clone, Copy, Debug, PartialEq, Eq)]
-pub struct Place {
-    /// The part.
-    pub part: Part,
-    /// Which one of its part, counted from 1. The top is item 0.
-    pub item: u32,
-    /// The line of a body, counted from 1, or 0 where no line is meant.
-    pub line: u32,
+    /// What a run with workers draws from.
+    pub seed: u64,
+    /// How many workers a run has, 1 to 8.
+    pub workers: u32,
 }
 
 /// Why bytes state no application.
@@ -150,7 +162,8 @@ pub struct Place {
 pub enum AppFault {
     /// The bytes are no TOML document.
     NotToml,
-    /// The document fails a rule of the format, at this place first. Rule 25 stands for all that is not built yet.
+    /// This rule of the format, counted from 1, is the first that the document fails, and this the first place at which it does.
+    /// Rule 25 stands for what is not built yet.
     Bad { rule: u32, place: Place },
     /// The choice of this number, counted from 1, is none.
     BadChoice { number: u32 },

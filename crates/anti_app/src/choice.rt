@@ -1,27 +1,29 @@
 ghost use Rattle.std.specs.Prelude.{◌≡◌, [], ◌∷◌, ◌==◌, map, IfOk, IfSome, ◌<◌, length, position};
-ghost use Rattle.toml.specs.View.{view, table_view};
-ghost use Rattle.anti_app.specs.Trees.{gathered};
-ghost use Rattle.anti_app.specs.Chosen.{object_place, object_number, taking, take_of, bringing, shipment_of, ship, again, mark_at, go_of, choice_in, choice_of, choices_at};
+ghost use Rattle.anti_ids.specs.List.{plain};
+ghost use Rattle.toml.specs.View.{view};
+ghost use Rattle.anti_app.specs.Chosen.{object_place, object_number, taking, reposting, pulling, repulling, take_of, repost_of, pull_of, repull_of, bringing, shipment_of, ship, again, mark_at, go_of, finish_of, choice_in, choice_of, choices_from, if_chosen};
 
-use crate::app::{Choice, Choices, ServiceDef, StoreDef};
-use crate::limits::MOST_CHOICES;
+use crate::app::{App, Choice, Choices};
 use crate::number::number_of;
+use crate::reading::small;
 use crate::region::region_number;
 use crate::service::{service_number, service_place};
 use crate::store::{store_number, store_place};
-use crate::tree::{add, small, things_or_none};
-use anti_ids::{List, Name, NoMemory};
+use crate::sub::sub_number;
+use anti_ids::{List, NoMemory, add};
 use anti_lang::words;
+use anti_rules::text_of;
 use std::alloc::Global;
-use toml::{Table, Value};
+use toml::Value;
 
 // Where the object of a name stands: first come the stores, then the inboxes of the services.
-fn object_place(stores: &[StoreDef], services: &[ServiceDef], text: &[u8]) -> Option<usize>
-    ensures { result ≡ object_place stores.now services.now text.now }
+fn object_place(app: &App, text: &[u8]) -> Option<usize>
+    ensures { result ≡ object_place app.now text.now }
 {
+    let stores = app.stores.as_slice();
     match store_place(stores, text) {
         Some(place) => Some(place),
-        None => match service_place(services, text) {
+        None => match service_place(app.services.as_slice(), text) {
             Some(place) => Some(stores.len() + place),
             None => None,
         },
@@ -29,34 +31,96 @@ fn object_place(stores: &[StoreDef], services: &[ServiceDef], text: &[u8]) -> Op
 }
 
 // The number of the object of a name.
-fn object_number(stores: &[StoreDef], services: &[ServiceDef], text: &[u8]) -> Option<u32>
-    ensures { result ≡ object_number stores.now services.now text.now }
+fn object_number(app: &App, text: &[u8]) -> Option<u32>
+    ensures { result ≡ object_number app.now text.now }
 {
-    match object_place(stores, services, text) {
+    match object_place(app, text) {
         Some(place) => small(place),
         None => None,
     }
 }
 
+// The choice `take SERVICE N`.
+#[tactic(auto, unfolding(crate::specs::Chosen::taking))]
+fn taking(app: &App, service: &[u8], nth: &[u8]) -> Option<Choice>
+    ensures { result ≡ taking app.now service.now nth.now }
+{
+    Some(Choice::Take {
+        service: service_number(app.services.as_slice(), service)?,
+        nth: number_of(nth)?,
+    })
+}
+
 // The choice of the words behind `take`.
-fn take_of(services: &[ServiceDef], words: &[&[u8]]) -> Option<Choice>
-    ensures { result ≡ take_of services.now (map (λ word. word.now) words.now) }
+fn take_of(app: &App, words: &[&[u8]]) -> Option<Choice>
+    ensures { result ≡ take_of app.now (map (λ word. word.now) words.now) }
 {
     match words {
-        [service, nth] => taking(services, service, nth),
+        [service, nth] => taking(app, service, nth),
         _ => None,
     }
 }
 
-// The choice `take SERVICE NTH`.
-#[tactic(auto, unfolding(crate::specs::Chosen::taking))]
-fn taking(services: &[ServiceDef], service: &[u8], nth: &[u8]) -> Option<Choice>
-    ensures { result ≡ taking services.now service.now nth.now }
+// The choice `repost SERVICE N`.
+#[tactic(auto, unfolding(crate::specs::Chosen::reposting))]
+fn reposting(app: &App, service: &[u8], number: &[u8]) -> Option<Choice>
+    ensures { result ≡ reposting app.now service.now number.now }
 {
-    Some(Choice::Take {
-        service: service_number(services, service)?,
-        nth: number_of(nth)?,
+    Some(Choice::Repost {
+        service: service_number(app.services.as_slice(), service)?,
+        number: number_of(number)?,
     })
+}
+
+// The choice of the words behind `repost`.
+fn repost_of(app: &App, words: &[&[u8]]) -> Option<Choice>
+    ensures { result ≡ repost_of app.now (map (λ word. word.now) words.now) }
+{
+    match words {
+        [service, number] => reposting(app, service, number),
+        _ => None,
+    }
+}
+
+// The choice `pull SUB`.
+#[tactic(auto, unfolding(crate::specs::Chosen::pulling))]
+fn pulling(app: &App, sub: &[u8]) -> Option<Choice>
+    ensures { result ≡ pulling app.now sub.now }
+{
+    Some(Choice::Pull {
+        sub: sub_number(app.subs.as_slice(), sub)?,
+    })
+}
+
+// The choice of the words behind `pull`.
+fn pull_of(app: &App, words: &[&[u8]]) -> Option<Choice>
+    ensures { result ≡ pull_of app.now (map (λ word. word.now) words.now) }
+{
+    match words {
+        [sub] => pulling(app, sub),
+        _ => None,
+    }
+}
+
+// The choice `repull SUB VERSION`.
+#[tactic(auto, unfolding(crate::specs::Chosen::repulling))]
+fn repulling(app: &App, sub: &[u8], version: &[u8]) -> Option<Choice>
+    ensures { result ≡ repulling app.now sub.now version.now }
+{
+    Some(Choice::Repull {
+        sub: sub_number(app.subs.as_slice(), sub)?,
+        version: number_of(version)? as u64,
+    })
+}
+
+// The choice of the words behind `repull`.
+fn repull_of(app: &App, words: &[&[u8]]) -> Option<Choice>
+    ensures { result ≡ repull_of app.now (map (λ word. word.now) words.now) }
+{
+    match words {
+        [sub, version] => repulling(app, sub, version),
+        _ => None,
+    }
 }
 
 // What a carrier brings to a region: a part of a version, or the first part where none is given.
@@ -97,49 +161,45 @@ impl Shipment {
 // The shipment `STORE REGION VERSION` with a part, where one is given.
 #[tactic(auto, unfolding(crate::specs::Chosen::bringing))]
 fn bringing(
-    regions: &[Name],
-    stores: &[StoreDef],
+    app: &App,
     store: &[u8],
     region: &[u8],
     version: &[u8],
     part: Option<u32>,
 ) -> Option<Shipment>
-    ensures { result ≡ bringing regions.now stores.now store.now region.now version.now part }
+    ensures { result ≡ bringing app.now store.now region.now version.now part }
 {
     Some(Shipment {
-        store: store_number(stores, store)?,
-        region: region_number(regions, region)?,
+        store: store_number(app.stores.as_slice(), store)?,
+        region: region_number(app.regions.as_slice(), region)?,
         version: number_of(version)? as u64,
         part,
     })
 }
 
 // The shipment of the words behind `ship` and `again`.
-fn shipment_of(regions: &[Name], stores: &[StoreDef], words: &[&[u8]]) -> Option<Shipment>
-    ensures { result ≡ shipment_of regions.now stores.now (map (λ word. word.now) words.now) }
+fn shipment_of(app: &App, words: &[&[u8]]) -> Option<Shipment>
+    ensures { result ≡ shipment_of app.now (map (λ word. word.now) words.now) }
 {
     match words {
-        [store, region, version] => bringing(regions, stores, store, region, version, None),
-        [store, region, version, part] => {
-            bringing_part(regions, stores, store, region, version, part)
-        }
+        [store, region, version] => bringing(app, store, region, version, None),
+        [store, region, version, part] => bringing_part(app, store, region, version, part),
         _ => None,
     }
 }
 
 // The shipment `STORE REGION VERSION PART`.
 fn bringing_part(
-    regions: &[Name],
-    stores: &[StoreDef],
+    app: &App,
     store: &[u8],
     region: &[u8],
     version: &[u8],
     part: &[u8],
 ) -> Option<Shipment>
-    ensures { result ≡ shipment_of regions.now stores.now (store.now ∷ region.now ∷ version.now ∷ part.now ∷ []) }
+    ensures { result ≡ shipment_of app.now (store.now ∷ region.now ∷ version.now ∷ part.now ∷ []) }
 {
     let part = number_of(part)?;
-    bringing(regions, stores, store, region, version, Some(part))
+    bringing(app, store, region, version, Some(part))
 }
 
 // Where the first dot stands.
@@ -151,45 +211,59 @@ fn first_dot(word: &[u8]) -> Option<usize>
 }
 
 // The choice `go OBJECT.PLACE`.
-fn go_to(stores: &[StoreDef], services: &[ServiceDef], mark: &[u8]) -> Option<Choice>
-    ensures { result ≡ go_of stores.now services.now (mark.now ∷ []) }
+fn go_to(app: &App, mark: &[u8]) -> Option<Choice>
+    ensures { result ≡ go_of app.now (mark.now ∷ []) }
 {
     let dot = first_dot(mark)?;
-    let object = object_number(stores, services, mark.split_at(dot).0)?;
+    let object = object_number(app, mark.split_at(dot).0)?;
     let place = number_of(mark.split_at(dot + 1).1)?;
     Some(Choice::Go { object, place })
 }
 
 // The choice of the words behind `go`.
-fn go_of(stores: &[StoreDef], services: &[ServiceDef], words: &[&[u8]]) -> Option<Choice>
-    ensures { result ≡ go_of stores.now services.now (map (λ word. word.now) words.now) }
+fn go_of(app: &App, words: &[&[u8]]) -> Option<Choice>
+    ensures { result ≡ go_of app.now (map (λ word. word.now) words.now) }
 {
     match words {
-        [mark] => go_to(stores, services, mark),
+        [mark] => go_to(app, mark),
         _ => None,
     }
 }
 
-// The choice of some words.
-fn choice_in(
-    regions: &[Name],
-    stores: &[StoreDef],
-    services: &[ServiceDef],
-    words: &[&[u8]],
-) -> Option<Choice>
-    ensures { result ≡ choice_in regions.now stores.now services.now (map (λ word. word.now) words.now) }
+// The choice of the words behind `finish`.
+fn finish_of(words: &[&[u8]]) -> Option<Choice>
+    ensures { result ≡ finish_of (map (λ word. word.now) words.now) }
+{
+    match words {
+        [] => Some(Choice::Finish),
+        _ => None,
+    }
+}
+
+// The choice of some words: its form goes by the first of them.
+#[tactic(auto, unfolding(crate::specs::Chosen::choice_in))]
+fn choice_in(app: &App, words: &[&[u8]]) -> Option<Choice>
+    ensures { result ≡ choice_in app.now (map (λ word. word.now) words.now) }
 {
     match words {
         [] => None,
         [what, rest @ ..] => {
             if *what == b"take".as_slice() {
-                take_of(services, rest)
+                take_of(app, rest)
+            } else if *what == b"repost".as_slice() {
+                repost_of(app, rest)
+            } else if *what == b"pull".as_slice() {
+                pull_of(app, rest)
+            } else if *what == b"repull".as_slice() {
+                repull_of(app, rest)
             } else if *what == b"ship".as_slice() {
-                Some(shipment_of(regions, stores, rest)?.ship())
+                Some(shipment_of(app, rest)?.ship())
             } else if *what == b"again".as_slice() {
-                Some(shipment_of(regions, stores, rest)?.again())
+                Some(shipment_of(app, rest)?.again())
             } else if *what == b"go".as_slice() {
-                go_of(stores, services, rest)
+                go_of(app, rest)
+            } else if *what == b"finish".as_slice() {
+                finish_of(rest)
             } else {
                 None
             }
@@ -199,56 +273,29 @@ fn choice_in(
 
 // A choice.
 #[tactic(auto, unfolding(crate::specs::Chosen::choice_of))]
-fn choice_of(
-    alloc: Global,
-    regions: &[Name],
-    stores: &[StoreDef],
-    services: &[ServiceDef],
-    value: &Value,
-) -> Result<Option<Choice>, NoMemory>
-    ensures { IfOk result (λ choice. choice ≡ choice_of regions.now stores.now services.now (view value.now)) }
+fn choice_of(alloc: Global, app: &App, value: &Value) -> Result<Option<Choice>, NoMemory>
+    ensures { IfOk result (λ choice. choice ≡ choice_of app.now (view value.now)) }
 {
-    match value.as_str() {
-        Some(text) => {
-            let words = words(alloc, text.as_bytes())?;
-            Ok(choice_in(regions, stores, services, words.as_slice()))
-        }
-        None => Ok(None),
-    }
+    let words = words(alloc, text_of(value).as_bytes())?;
+    Ok(choice_in(app, words.as_slice()))
 }
 
-// Some choices.
-fn choices_of(
+/// Some choices, or the number, counted from 1, of the first that has no form of the format or names what is not there.
+pub fn choices_of(
     alloc: Global,
-    regions: &[Name],
-    stores: &[StoreDef],
-    services: &[ServiceDef],
+    app: &App,
     values: &[Value],
-) -> Result<Option<Choices>, NoMemory>
-    ensures { IfOk result (λ choices. choices ≡ gathered (choice_of regions.now stores.now services.now) [] (map view values.now)) }
+) -> Result<Result<Choices, u32>, NoMemory>
+    ensures { IfOk result (λ found. found ≡ if_chosen plain (choices_from app.now 0 (map view values.now))) }
 {
     let mut choices = List::new(alloc);
+    let mut number: u32 = 0;
     for value in values {
-        let Some(choice) = choice_of(alloc, regions, stores, services, value)? else {
-            return Ok(None);
+        number = number.saturating_add(1);
+        let Some(choice) = choice_of(alloc, app, value)? else {
+            return Ok(Err(number));
         };
         add(&mut choices, choice)?;
     }
-    Ok(Some(choices))
-}
-
-/// The choices of a document.
-pub fn choices_at(
-    alloc: Global,
-    regions: &[Name],
-    stores: &[StoreDef],
-    services: &[ServiceDef],
-    doc: &Table,
-) -> Result<Option<Choices>, NoMemory>
-    ensures { IfOk result (λ choices. choices ≡ choices_at regions.now stores.now services.now (table_view doc.now)) }
-{
-    match things_or_none(doc, "choices", MOST_CHOICES) {
-        Some(values) => choices_of(alloc, regions, stores, services, values),
-        None => Ok(None),
-    }
+    Ok(Ok(choices))
 }

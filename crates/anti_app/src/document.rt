@@ -2,60 +2,52 @@ ghost use Rattle.std.specs.Prelude.{◌≡◌, [], map, IfOk, IsTrue, true, fals
 ghost use Rattle.std.specs.Str.{is_utf8};
 ghost use Rattle.toml.specs.Parse.{parse_document};
 ghost use Rattle.toml.specs.View.{table_view};
+ghost use Rattle.anti_rules.specs.Order.{first_breach};
 ghost use Rattle.anti_app.specs.Sound.{is_sound};
-ghost use Rattle.anti_app.specs.Stated.{draft_of, app_of, Reads};
+ghost use Rattle.anti_app.specs.Parts.{seed_of, workers_of};
+ghost use Rattle.anti_app.specs.Chosen.{app_with, choices_of, if_chosen};
+ghost use Rattle.anti_app.specs.Stated.{app_of, app_or, app_unless, Reads};
 
-use crate::app::{App, AppFault, Part, Place};
-use crate::choice::choices_at;
-use crate::region::regions_at;
-use crate::request::requests_at;
-use crate::service::services_at;
-use crate::soundness::is_sound;
-use crate::store::stores_at;
-use crate::tree::has_only;
-use anti_ids::NoMemory;
+use crate::app::{App, AppFault};
+use crate::choice::choices_of;
+use crate::reading::{few_or, integer_in, whole_or_0};
+use crate::region::regions_of;
+use crate::request::requests_of;
+use crate::service::services_of;
+use crate::store::stores_of;
+use crate::sub::subs_of;
+use anti_ids::{List, NoMemory};
+use anti_rules::{first_breach, things_at};
 use std::alloc::Global;
 use toml::Table;
 
-// The rule that stands for all that is not built yet.
-const NOT_BUILT: u32 = 25;
+// How many workers a run has where the document says nothing.
+const WORKERS: u32 = 2;
 
-// The application of the parts of a document, each where its own form is right.
-fn draft_of(alloc: Global, doc: &Table) -> Result<Option<App>, NoMemory>
-    ensures { IfOk result (λ app. app ≡ draft_of (table_view doc.now)) }
+// The application of a document, without its choices.
+fn parts_of(alloc: Global, doc: &Table) -> Result<App, NoMemory>
+    ensures { IfOk result (λ app. app ≡ app_with (table_view doc.now) []) }
 {
-    if !has_only(Part::Top, doc) {
-        return Ok(None);
-    }
-    let Some(regions) = regions_at(alloc, doc)? else {
-        return Ok(None);
-    };
-    let Some(stores) = stores_at(alloc, regions.as_slice(), doc)? else {
-        return Ok(None);
-    };
-    let Some(services) = services_at(alloc, regions.as_slice(), doc)? else {
-        return Ok(None);
-    };
-    let Some(requests) = requests_at(alloc, services.as_slice(), doc)? else {
-        return Ok(None);
-    };
-    let Some(choices) = choices_at(
+    let regions = regions_of(alloc, things_at(doc, "regions"))?;
+    let stores = stores_of(alloc, regions.as_slice(), things_at(doc, "store"))?;
+    let services = services_of(alloc, regions.as_slice(), things_at(doc, "service"))?;
+    let subs = subs_of(
         alloc,
-        regions.as_slice(),
         stores.as_slice(),
         services.as_slice(),
-        doc,
-    )?
-    else {
-        return Ok(None);
-    };
-    Ok(Some(App {
+        things_at(doc, "sub"),
+    )?;
+    let requests = requests_of(alloc, services.as_slice(), things_at(doc, "request"))?;
+    Ok(App {
         regions,
         stores,
         services,
+        subs,
         requests,
-        choices,
-    }))
+        choices: List::new(alloc),
+        seed: whole_or_0(integer_in(doc, "seed")),
+        workers: few_or(WORKERS, integer_in(doc, "workers")),
+    })
 }
 
 // The text of bytes that are UTF-8.
@@ -79,8 +71,43 @@ fn table_in(alloc: Global, text: &str) -> Result<Option<Table>, NoMemory>
     }
 }
 
-/// The application that bytes state. They state none where they are no TOML document in UTF-8 (`NotToml`), and where the
-/// document fails a rule of the format or has something that is not built yet: that is `Bad`, with rule 25 at the top.
+// The application of a document that fails no rule, or the number, counted from 1, of its first choice that is none.
+fn chosen(alloc: Global, doc: &Table) -> Result<Result<App, u32>, NoMemory>
+    ensures { IfOk result (λ app. app ≡ if_chosen (app_with (table_view doc.now)) (choices_of (table_view doc.now))) }
+{
+    let mut app = parts_of(alloc, doc)?;
+    match choices_of(alloc, &app, things_at(doc, "choices"))? {
+        Ok(choices) => {
+            app.choices = choices;
+            Ok(Ok(app))
+        }
+        Err(number) => Ok(Err(number)),
+    }
+}
+
+// The application of a document.
+fn app_in(alloc: Global, doc: &Table) -> Result<App, AppFault>
+    ensures { Reads result (app_unless (table_view doc.now) (first_breach (table_view doc.now))) }
+{
+    match first_breach(alloc, doc) {
+        Ok(None) => {}
+        Ok(Some(breach)) => {
+            return Err(AppFault::Bad {
+                rule: breach.rule,
+                place: breach.place,
+            });
+        }
+        Err(NoMemory) => return Err(AppFault::NoMemory),
+    }
+    match chosen(alloc, doc) {
+        Ok(Ok(app)) => Ok(app),
+        Ok(Err(number)) => Err(AppFault::BadChoice { number }),
+        Err(NoMemory) => Err(AppFault::NoMemory),
+    }
+}
+
+/// The application that bytes state. They state none where they are no TOML document in UTF-8 (`NotToml`), where the document fails
+/// a rule of the format (`Bad`), and else where one of its choices has no form of the format or names what is not there (`BadChoice`).
 pub fn read_app(alloc: Global, bytes: &[u8]) -> Result<App, AppFault>
     ensures reads { Reads result (app_of bytes.now) }
     ensures sound { IfOk result (λ app. IsTrue (is_sound app)) }
@@ -88,22 +115,9 @@ pub fn read_app(alloc: Global, bytes: &[u8]) -> Result<App, AppFault>
     let Some(text) = text_of(bytes) else {
         return Err(AppFault::NotToml);
     };
-    let table = match table_in(alloc, text) {
-        Ok(Some(table)) => table,
-        Ok(None) => return Err(AppFault::NotToml),
-        Err(NoMemory) => return Err(AppFault::NoMemory),
-    };
-    let bad = AppFault::Bad {
-        rule: NOT_BUILT,
-        place: Place {
-            part: Part::Top,
-            item: 0,
-            line: 0,
-        },
-    };
-    match draft_of(alloc, &table) {
-        Ok(Some(app)) if is_sound(&app) => Ok(app),
-        Ok(_) => Err(bad),
+    match table_in(alloc, text) {
+        Ok(Some(table)) => app_in(alloc, &table),
+        Ok(None) => Err(AppFault::NotToml),
         Err(NoMemory) => Err(AppFault::NoMemory),
     }
 }

@@ -1,24 +1,25 @@
-//! The application that a document states.
+//! Applications: what the bytes of a document state.
 #![tactic(auto)]
 
 mod app;
 mod choice;
-mod distinct;
 mod document;
 mod limits;
 mod number;
+mod reading;
 mod region;
 mod request;
 mod service;
-mod soundness;
 mod store;
-mod tree;
+mod sub;
 
+pub use anti_rules::{MOST_CHOICES, Part, Place};
 pub use app::{
-    App, AppFault, Choice, Choices, HandlerDef, Handlers, Names, Numbers, Part, Place, RequestDef,
-    Requests, ServiceDef, Services, StoreDef, Stores,
+    App, AppFault, Choice, Choices, HandlerDef, Handlers, Names, Numbers, RequestDef, Requests,
+    ServiceDef, Services, StoreDef, Stores, SubDef, SubDefs, Waits,
 };
 pub use document::read_app;
+pub use limits::MOST_COUNTED;
 
 #[cfg(test)]
 mod tests;

@@ -1,49 +1,25 @@
-ghost use Rattle.std.specs.Prelude.{◌≡◌, [], map, IfOk, position};
+ghost use Rattle.std.specs.Prelude.{◌≡◌, map, IfOk, position};
 ghost use Rattle.std.specs.Str.{bytes_eq};
-ghost use Rattle.toml.specs.View.{view, table_view};
-ghost use Rattle.anti_app.specs.Trees.{gathered};
-ghost use Rattle.anti_app.specs.Parts.{region_of, regions_at, region_number};
+ghost use Rattle.anti_ids.specs.List.{plain};
+ghost use Rattle.toml.specs.View.{view};
+ghost use Rattle.anti_app.specs.Parts.{region_of, region_number};
 
 use crate::app::Names;
-use crate::limits::MOST_REGIONS;
-use crate::tree::{add, small, things_at};
-use anti_ids::{List, Name, NoMemory};
-use anti_lang::plain_name;
+use crate::reading::{name_or_a, small};
+use anti_ids::{List, Name, NoMemory, add};
+use anti_rules::text_of;
 use std::alloc::Global;
-use toml::{Table, Value};
+use toml::Value;
 
-// A region's name.
-fn region_of(value: &Value) -> Option<Name>
-    ensures { result ≡ region_of (view value.now) }
-{
-    match value.as_str() {
-        Some(text) => plain_name(text.as_bytes()),
-        None => None,
-    }
-}
-
-// The names of some regions.
-fn regions_of(alloc: Global, values: &[Value]) -> Result<Option<Names>, NoMemory>
-    ensures { IfOk result (λ regions. regions ≡ gathered region_of [] (map view values.now)) }
+/// The names of some regions.
+pub fn regions_of(alloc: Global, values: &[Value]) -> Result<Names, NoMemory>
+    ensures { IfOk result (λ regions. regions ≡ plain (map region_of (map view values.now))) }
 {
     let mut regions = List::new(alloc);
     for value in values {
-        let Some(region) = region_of(value) else {
-            return Ok(None);
-        };
-        add(&mut regions, region)?;
+        add(&mut regions, name_or_a(text_of(value)))?;
     }
-    Ok(Some(regions))
-}
-
-/// The names of the regions of a document.
-pub fn regions_at(alloc: Global, doc: &Table) -> Result<Option<Names>, NoMemory>
-    ensures { IfOk result (λ regions. regions ≡ regions_at (table_view doc.now)) }
-{
-    match things_at(doc, "regions", 1, MOST_REGIONS) {
-        Some(values) => regions_of(alloc, values),
-        None => Ok(None),
-    }
+    Ok(regions)
 }
 
 // Where the region of a name stands.

@@ -1,172 +1,90 @@
-ghost use Rattle.std.specs.Prelude.{◌≡◌, [], map, IfOk, position};
+ghost use Rattle.std.specs.Prelude.{◌≡◌, ◌≤◌, length, map, IfOk, position};
 ghost use Rattle.std.specs.Str.{bytes_eq};
-ghost use Rattle.toml.specs.View.{view, table_view};
-ghost use Rattle.anti_app.specs.Trees.{gathered};
-ghost use Rattle.anti_app.specs.Parts.{line_of, body_at, handler_in, handler_of, handlers_at, service_in, service_of, services_at, service_place, service_number, handler_number};
+ghost use Rattle.anti_ids.specs.List.{plain};
+ghost use Rattle.anti_lang.specs.Parsing.{parsed, texts_of};
+ghost use Rattle.toml.specs.View.{view};
+ghost use Rattle.anti_app.specs.Parts.{body_or_empty, body_in, lines_in, handler_of, service_of, service_place, service_number, handler_number, handler_in, service_at, handler_at};
 
-use crate::app::{HandlerDef, Handlers, Part, ServiceDef, Services};
-use crate::limits::{MOST_HANDLERS, MOST_LINES, MOST_SERVICES};
+use crate::app::{HandlerDef, Handlers, ServiceDef, Services};
+use crate::reading::{name_at, small};
 use crate::region::region_number;
-use crate::tree::{add, name_at, small, table_of, text_at, things_at, things_or_none};
-use anti_ids::{List, Name, NoMemory};
-use anti_lang::{Body, Statement, read_statement};
+use anti_ids::{List, Name, NoMemory, add};
+use anti_lang::{Body, LangFault, Lines, parse};
+use anti_rules::{MOST_LINES, text_at, texts_in, things_in};
 use std::alloc::Global;
-use toml::{Table, Value};
+use toml::Value;
 
-// A line of a body.
-fn line_of(alloc: Global, value: &Value) -> Result<Option<Statement>, NoMemory>
-    ensures { IfOk result (λ line. line ≡ line_of (view value.now)) }
+// The body that at most 64 lines state, or the empty one where they state none.
+fn parsed_body(alloc: Global, lines: &Lines) -> Result<Body, NoMemory>
+    requires { length lines.now.items ≤ 64 }
+    ensures { IfOk result (λ body. body ≡ body_or_empty (parsed (texts_of lines.now))) }
 {
-    match value.as_str() {
-        Some(text) => read_statement(alloc, text.as_bytes()),
-        None => Ok(None),
+    match parse(alloc, lines) {
+        Ok(body) => Ok(body),
+        Err(LangFault::Line { line: _, code: _ }) => Ok(List::new(alloc)),
+        Err(LangFault::NoMemory) => Err(NoMemory),
     }
 }
 
-// Some lines of a body.
-fn body_of(alloc: Global, values: &[Value]) -> Result<Option<Body>, NoMemory>
-    ensures { IfOk result (λ body. body ≡ gathered line_of [] (map view values.now)) }
+// The body that lines state, or the empty one where they are more than 64 or state none.
+fn body_in(alloc: Global, lines: &Lines) -> Result<Body, NoMemory>
+    ensures { IfOk result (λ body. body ≡ body_in (texts_of lines.now)) }
 {
-    let mut body = List::new(alloc);
-    for value in values {
-        let Some(line) = line_of(alloc, value)? else {
-            return Ok(None);
-        };
-        add(&mut body, line)?;
+    if lines.len() <= MOST_LINES {
+        parsed_body(alloc, lines)
+    } else {
+        Ok(List::new(alloc))
     }
-    Ok(Some(body))
-}
-
-// The body of a handler.
-fn body_at(alloc: Global, table: &Table) -> Result<Option<Body>, NoMemory>
-    ensures { IfOk result (λ body. body ≡ body_at (table_view table.now)) }
-{
-    match things_at(table, "body", 0, MOST_LINES) {
-        Some(values) => body_of(alloc, values),
-        None => Ok(None),
-    }
-}
-
-// The handler of a table.
-fn handler_in(alloc: Global, table: &Table) -> Result<Option<HandlerDef>, NoMemory>
-    ensures { IfOk result (λ handler. handler ≡ handler_in (table_view table.now)) }
-{
-    let Some(name) = name_at(table) else {
-        return Ok(None);
-    };
-    let Some(body) = body_at(alloc, table)? else {
-        return Ok(None);
-    };
-    Ok(Some(HandlerDef { name, body }))
 }
 
 // A handler.
 #[tactic(auto, unfolding(crate::specs::Parts::handler_of))]
-fn handler_of(alloc: Global, value: &Value) -> Result<Option<HandlerDef>, NoMemory>
+fn handler_of(alloc: Global, value: &Value) -> Result<HandlerDef, NoMemory>
     ensures { IfOk result (λ handler. handler ≡ handler_of (view value.now)) }
 {
-    match table_of(Part::Handler, value) {
-        Some(table) => handler_in(alloc, table),
-        None => Ok(None),
-    }
+    let lines = texts_in(alloc, things_in(value, "body"))?;
+    let body = body_in(alloc, &lines)?;
+    Ok(HandlerDef {
+        name: name_at(value, "name"),
+        body,
+    })
 }
 
 // Some handlers.
-fn handlers_of(alloc: Global, values: &[Value]) -> Result<Option<Handlers>, NoMemory>
-    ensures { IfOk result (λ handlers. handlers ≡ gathered handler_of [] (map view values.now)) }
+fn handlers_of(alloc: Global, values: &[Value]) -> Result<Handlers, NoMemory>
+    ensures { IfOk result (λ handlers. handlers ≡ plain (map handler_of (map view values.now))) }
 {
     let mut handlers = List::new(alloc);
     for value in values {
-        let Some(handler) = handler_of(alloc, value)? else {
-            return Ok(None);
-        };
+        let handler = handler_of(alloc, value)?;
         add(&mut handlers, handler)?;
     }
-    Ok(Some(handlers))
-}
-
-// The handlers of a service.
-fn handlers_at(alloc: Global, table: &Table) -> Result<Option<Handlers>, NoMemory>
-    ensures { IfOk result (λ handlers. handlers ≡ handlers_at (table_view table.now)) }
-{
-    match things_or_none(table, "handler", MOST_HANDLERS) {
-        Some(values) => handlers_of(alloc, values),
-        None => Ok(None),
-    }
-}
-
-// The service of a table.
-fn service_in(
-    alloc: Global,
-    regions: &[Name],
-    table: &Table,
-) -> Result<Option<ServiceDef>, NoMemory>
-    ensures { IfOk result (λ service. service ≡ service_in regions.now (table_view table.now)) }
-{
-    let Some(name) = name_at(table) else {
-        return Ok(None);
-    };
-    let Some(text) = text_at(table, "region") else {
-        return Ok(None);
-    };
-    let Some(region) = region_number(regions, text.as_bytes()) else {
-        return Ok(None);
-    };
-    let Some(handlers) = handlers_at(alloc, table)? else {
-        return Ok(None);
-    };
-    Ok(Some(ServiceDef {
-        name,
-        region,
-        handlers,
-    }))
+    Ok(handlers)
 }
 
 // A service.
 #[tactic(auto, unfolding(crate::specs::Parts::service_of))]
-fn service_of(
-    alloc: Global,
-    regions: &[Name],
-    value: &Value,
-) -> Result<Option<ServiceDef>, NoMemory>
+fn service_of(alloc: Global, regions: &[Name], value: &Value) -> Result<ServiceDef, NoMemory>
     ensures { IfOk result (λ service. service ≡ service_of regions.now (view value.now)) }
 {
-    match table_of(Part::Service, value) {
-        Some(table) => service_in(alloc, regions, table),
-        None => Ok(None),
-    }
+    let handlers = handlers_of(alloc, things_in(value, "handler"))?;
+    Ok(ServiceDef {
+        name: name_at(value, "name"),
+        region: region_number(regions, text_at(value, "region").as_bytes()).unwrap_or(0),
+        handlers,
+    })
 }
 
-// Some services.
-fn services_of(
-    alloc: Global,
-    regions: &[Name],
-    values: &[Value],
-) -> Result<Option<Services>, NoMemory>
-    ensures { IfOk result (λ services. services ≡ gathered (service_of regions.now) [] (map view values.now)) }
+/// Some services.
+pub fn services_of(alloc: Global, regions: &[Name], values: &[Value]) -> Result<Services, NoMemory>
+    ensures { IfOk result (λ services. services ≡ plain (map (service_of regions.now) (map view values.now))) }
 {
     let mut services = List::new(alloc);
     for value in values {
-        let Some(service) = service_of(alloc, regions, value)? else {
-            return Ok(None);
-        };
+        let service = service_of(alloc, regions, value)?;
         add(&mut services, service)?;
     }
-    Ok(Some(services))
-}
-
-/// The services of a document.
-pub fn services_at(
-    alloc: Global,
-    regions: &[Name],
-    doc: &Table,
-) -> Result<Option<Services>, NoMemory>
-    ensures { IfOk result (λ services. services ≡ services_at regions.now (table_view doc.now)) }
-{
-    match things_or_none(doc, "service", MOST_SERVICES) {
-        Some(values) => services_of(alloc, regions, values),
-        None => Ok(None),
-    }
+    Ok(services)
 }
 
 /// Where the service of a name stands.
@@ -197,12 +115,37 @@ fn handler_place(handlers: &[HandlerDef], text: &[u8]) -> Option<usize>
         .position(|handler| handler.name.bytes() == text)
 }
 
-/// The number of the handler of a name among those of a service.
-pub fn handler_number(handlers: &[HandlerDef], text: &[u8]) -> Option<u32>
+// The number of the handler of a name among those of a service.
+fn handler_number(handlers: &[HandlerDef], text: &[u8]) -> Option<u32>
     ensures { result ≡ handler_number handlers.now text.now }
 {
     match handler_place(handlers, text) {
         Some(place) => small(place),
         None => None,
     }
+}
+
+// The number of the handler of a name among those of the service of this number.
+fn handler_in(services: &[ServiceDef], number: u32, text: &[u8]) -> Option<u32>
+    ensures { result ≡ handler_in services.now number text.now }
+{
+    match services.get(number as usize) {
+        Some(service) => handler_number(service.handlers.as_slice(), text),
+        None => None,
+    }
+}
+
+/// The number of the service that a thing names, or 0 where it names none.
+pub fn service_at(services: &[ServiceDef], value: &Value) -> u32
+    ensures { result ≡ service_at services.now (view value.now) }
+{
+    service_number(services, text_at(value, "service").as_bytes()).unwrap_or(0)
+}
+
+/// The number of the handler that a thing names among those of the service that it names, or 0 where it names none.
+pub fn handler_at(services: &[ServiceDef], value: &Value) -> u32
+    ensures { result ≡ handler_at services.now (view value.now) }
+{
+    let service = service_at(services, value);
+    handler_in(services, service, text_at(value, "handler").as_bytes()).unwrap_or(0)
 }

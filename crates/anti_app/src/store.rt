@@ -1,128 +1,80 @@
-ghost use Rattle.std.specs.Prelude.{◌≡◌, [], map, IfOk, position};
+ghost use Rattle.std.specs.Prelude.{◌≡◌, map, IfOk, position};
 ghost use Rattle.std.specs.Str.{bytes_eq};
-ghost use Rattle.toml.specs.View.{view, table_view};
-ghost use Rattle.anti_app.specs.Trees.{gathered};
-ghost use Rattle.anti_app.specs.Parts.{kind_of, replica_of, replicas_at, store_in, store_of, stores_at};
-ghost use Rattle.anti_app.specs.Chosen.{store_place, store_number};
+ghost use Rattle.anti_ids.specs.List.{plain};
+ghost use Rattle.toml.specs.View.{view};
+ghost use Rattle.anti_app.specs.Parts.{kind_of, replica_of, store_of, store_place, store_number};
 
-use crate::app::{Numbers, Part, StoreDef, Stores};
-use crate::limits::{MOST_REPLICAS, MOST_STORES};
+use crate::app::{Numbers, StoreDef, Stores};
+use crate::reading::{few_or, integer_at, name_at, small};
 use crate::region::region_number;
-use crate::tree::{add, name_at, small, table_of, text_at, things_at, things_or_none};
-use anti_ids::{List, Name, NoMemory};
+use anti_ids::{List, Name, NoMemory, add};
 use anti_kind::StoreKind;
+use anti_rules::{text_at, text_of, things_in};
 use std::alloc::Global;
-use toml::{Table, Value};
+use toml::Value;
 
 // How often a queue gives a message out where the document says nothing.
 const TRIES: u32 = 3;
 
-// The kind that a word names, of those that are built.
-fn kind_of(text: &str) -> Option<StoreKind>
+// The kind that a word names, or `kv` where it names none.
+fn kind_of(text: &str) -> StoreKind
     ensures { result ≡ kind_of text.now }
 {
-    if text == "kv" {
-        Some(StoreKind::Kv)
+    if text == "table" {
+        StoreKind::Table
+    } else if text == "blob" {
+        StoreKind::Blob
+    } else if text == "queue" {
+        StoreKind::Queue
+    } else if text == "topic" {
+        StoreKind::Topic
     } else {
-        None
+        StoreKind::Kv
     }
 }
 
-// The number of the region of a replica.
-fn replica_of(regions: &[Name], value: &Value) -> Option<u32>
+// The number of the region of a replica, or 0 where there is none.
+fn replica_of(regions: &[Name], value: &Value) -> u32
     ensures { result ≡ replica_of regions.now (view value.now) }
 {
-    match value.as_str() {
-        Some(text) => region_number(regions, text.as_bytes()),
-        None => None,
-    }
+    region_number(regions, text_of(value).as_bytes()).unwrap_or(0)
 }
 
 // The regions of some replicas.
-fn replicas_of(
-    alloc: Global,
-    regions: &[Name],
-    values: &[Value],
-) -> Result<Option<Numbers>, NoMemory>
-    ensures { IfOk result (λ replicas. replicas ≡ gathered (replica_of regions.now) [] (map view values.now)) }
+fn replicas_of(alloc: Global, regions: &[Name], values: &[Value]) -> Result<Numbers, NoMemory>
+    ensures { IfOk result (λ replicas. replicas ≡ plain (map (replica_of regions.now) (map view values.now))) }
 {
     let mut replicas = List::new(alloc);
     for value in values {
-        let Some(replica) = replica_of(regions, value) else {
-            return Ok(None);
-        };
-        add(&mut replicas, replica)?;
+        add(&mut replicas, replica_of(regions, value))?;
     }
-    Ok(Some(replicas))
-}
-
-// The regions of the replicas of a store.
-fn replicas_at(alloc: Global, regions: &[Name], table: &Table) -> Result<Option<Numbers>, NoMemory>
-    ensures { IfOk result (λ replicas. replicas ≡ replicas_at regions.now (table_view table.now)) }
-{
-    match things_at(table, "replicas", 1, MOST_REPLICAS) {
-        Some(values) => replicas_of(alloc, regions, values),
-        None => Ok(None),
-    }
-}
-
-// The store of a table.
-fn store_in(alloc: Global, regions: &[Name], table: &Table) -> Result<Option<StoreDef>, NoMemory>
-    ensures { IfOk result (λ store. store ≡ store_in regions.now (table_view table.now)) }
-{
-    let Some(name) = name_at(table) else {
-        return Ok(None);
-    };
-    let Some(text) = text_at(table, "kind") else {
-        return Ok(None);
-    };
-    let Some(kind) = kind_of(text) else {
-        return Ok(None);
-    };
-    let Some(replicas) = replicas_at(alloc, regions, table)? else {
-        return Ok(None);
-    };
-    Ok(Some(StoreDef {
-        name,
-        kind,
-        replicas,
-        tries: TRIES,
-    }))
+    Ok(replicas)
 }
 
 // A store.
 #[tactic(auto, unfolding(crate::specs::Parts::store_of))]
-fn store_of(alloc: Global, regions: &[Name], value: &Value) -> Result<Option<StoreDef>, NoMemory>
+fn store_of(alloc: Global, regions: &[Name], value: &Value) -> Result<StoreDef, NoMemory>
     ensures { IfOk result (λ store. store ≡ store_of regions.now (view value.now)) }
 {
-    match table_of(Part::Store, value) {
-        Some(table) => store_in(alloc, regions, table),
-        None => Ok(None),
-    }
+    let replicas = replicas_of(alloc, regions, things_in(value, "replicas"))?;
+    Ok(StoreDef {
+        name: name_at(value, "name"),
+        kind: kind_of(text_at(value, "kind")),
+        replicas,
+        tries: few_or(TRIES, integer_at(value, "tries")),
+    })
 }
 
-// Some stores.
-fn stores_of(alloc: Global, regions: &[Name], values: &[Value]) -> Result<Option<Stores>, NoMemory>
-    ensures { IfOk result (λ stores. stores ≡ gathered (store_of regions.now) [] (map view values.now)) }
+/// Some stores.
+pub fn stores_of(alloc: Global, regions: &[Name], values: &[Value]) -> Result<Stores, NoMemory>
+    ensures { IfOk result (λ stores. stores ≡ plain (map (store_of regions.now) (map view values.now))) }
 {
     let mut stores = List::new(alloc);
     for value in values {
-        let Some(store) = store_of(alloc, regions, value)? else {
-            return Ok(None);
-        };
+        let store = store_of(alloc, regions, value)?;
         add(&mut stores, store)?;
     }
-    Ok(Some(stores))
-}
-
-/// The stores of a document.
-pub fn stores_at(alloc: Global, regions: &[Name], doc: &Table) -> Result<Option<Stores>, NoMemory>
-    ensures { IfOk result (λ stores. stores ≡ stores_at regions.now (table_view doc.now)) }
-{
-    match things_or_none(doc, "store", MOST_STORES) {
-        Some(values) => stores_of(alloc, regions, values),
-        None => Ok(None),
-    }
+    Ok(stores)
 }
 
 /// Where the store of a name stands.

@@ -1,176 +1,264 @@
 use crate::{App, AppFault, Choice, Part, Place, read_app};
-use anti_lang::{Statement, ValueWord};
+use anti_kind::StoreKind;
+use anti_lang::Statement;
 use std::alloc::{AllocError, Global};
 use std::test::Fail;
 
-// Whether the application is the one of the test's document, but for its choices.
-fn has_parts(app: &App) -> bool {
-    let [us, eu] = app.regions.as_slice() else {
-        return false;
-    };
-    let [store] = app.stores.as_slice() else {
-        return false;
-    };
-    let [service] = app.services.as_slice() else {
-        return false;
-    };
-    let [request] = app.requests.as_slice() else {
-        return false;
-    };
-    us.bytes() == b"us".as_slice()
-        && eu.bytes() == b"eu".as_slice()
-        && store.name.bytes() == b"s".as_slice()
-        && store.replicas.as_slice() == [1].as_slice()
-        && service.region == 1
-        && service.handlers.len() == 2
-        && request.handler == 1
-        && request.value.bytes() == b"a.1".as_slice()
-}
-
-// Whether the body of the service's last handler is the one of the test's document.
-fn has_body(app: &App) -> bool {
-    let [service] = app.services.as_slice() else {
-        return false;
-    };
-    let [_, handler] = service.handlers.as_slice() else {
-        return false;
-    };
-    let [write, Statement::Barrier, Statement::DryRun, read] = handler.body.as_slice() else {
-        return false;
-    };
-    let writes = match write {
-        Statement::Write {
-            store: _,
-            key,
-            value: ValueWord::Input,
-        } => key.bytes() == b"k".as_slice(),
-        _ => false,
-    };
-    let reads = match read {
-        Statement::Read {
-            store: _,
-            key: _,
-            variable,
-        } => variable.bytes() == b"x".as_slice(),
-        _ => false,
-    };
-    writes && reads
-}
-
-// Why the bytes state no application.
-fn fault(alloc: Global, bytes: &[u8]) -> Option<AppFault> {
-    match read_app(alloc, bytes) {
-        Ok(_) => None,
-        Err(fault) => Some(fault),
-    }
-}
-
-// Whether the bytes are a TOML document and no application.
-fn is_refused(alloc: Global, bytes: &[u8]) -> bool {
-    let bad = AppFault::Bad {
-        rule: 25,
-        place: Place {
-            part: Part::Top,
-            item: 0,
-            line: 0,
-        },
-    };
-    fault(alloc, bytes) == Some(bad)
-}
-
-#[test]
-fn documents_are_read(rt: HostRuntime) -> Result<(), Fail> {
-    let text = b"regions = ['us', 'eu']
-store = [{name = 's', kind = 'kv', replicas = ['eu']}]
-request = [{service = 'w', handler = 'two', value = 'a.1'}]
-choices = ['take w 1', ' go  w.12 ', 'go s.1', 'ship s us 4096', 'ship s eu 1 2', 'again s eu 1', 'again s us 4096 2']
-[[service]]
-name = 'w'
-region = 'eu'
-handler = [{name = 'one', body = []}, {name = 'two', body = ['write s k $in', 'barrier', 'dryrun', 'read s k as x']}]";
-    let app = read_app(rt.alloc(), text).ok().ok_or("an application")?;
-    assert!(rt; has_parts(&app));
-    assert!(rt; has_body(&app));
-    let choices = [
-        Choice::Take { service: 0, nth: 1 },
-        Choice::Go {
-            object: 1,
-            place: 12,
-        },
-        Choice::Go {
-            object: 0,
-            place: 1,
-        },
-        Choice::Ship {
-            store: 0,
-            region: 0,
-            version: 4096,
-            part: None,
-        },
-        Choice::Ship {
-            store: 0,
-            region: 1,
-            version: 1,
-            part: Some(2),
-        },
-        Choice::Again {
-            store: 0,
-            region: 1,
-            version: 1,
-            part: None,
-        },
-        Choice::Again {
-            store: 0,
-            region: 0,
-            version: 4096,
-            part: Some(2),
-        },
-    ];
-    assert!(rt; app.choices.as_slice() == choices.as_slice());
-    assert!(rt; fault(rt.alloc(), b"regions") == Some(AppFault::NotToml));
-    assert!(rt; is_refused(rt.alloc(), b"regions = []"));
-    Ok(())
-}
-
-// A document whose only handler has this line, with some choices.
-fn document(alloc: Global, line: &str, choices: &str) -> Result<String, AllocError> {
+// A document with a choice: two stores, of which one has no replica in `us`, a service, and a request.
+fn document(alloc: Global, choice: &str) -> Result<String, AllocError> {
     format!(in alloc;
-        "regions = ['eu']
-store = [{{name = 's', kind = 'kv', replicas = ['eu']}}]
-service = [{{name = 'w', region = 'eu', handler = [{{name = 'one', body = ['{line}']}}]}}]
-choices = [{choices}]"
+        "regions = ['us', 'eu']
+store = [{{name = 's', kind = 'kv', replicas = ['us', 'eu']}}, {{name = 't', kind = 'kv', replicas = ['eu']}}]
+service = [{{name = 'w', region = 'eu', handler = [{{name = 'one', body = []}}]}}]
+request = [{{service = 'w', handler = 'one'}}]
+choices = ['{choice}']"
     )
 }
 
+// What a document's first choice is, or why the bytes state no application.
+fn first_choice(alloc: Global, bytes: &[u8]) -> Result<Option<Choice>, AppFault> {
+    let app = read_app(alloc, bytes)?;
+    match app.choices.as_slice() {
+        [first, ..] => Ok(Some(*first)),
+        [] => Ok(None),
+    }
+}
+
+// The choice that brings a part of a version to a region.
+fn ship(store: u32, region: u32, version: u64, part: Option<u32>) -> Choice {
+    Choice::Ship {
+        store,
+        region,
+        version,
+        part,
+    }
+}
+
+// The same once more.
+fn again(store: u32, region: u32, version: u64, part: Option<u32>) -> Choice {
+    Choice::Again {
+        store,
+        region,
+        version,
+        part,
+    }
+}
+
 #[test]
-fn near_misses_are_refused(rt: HostRuntime) -> Result<(), Fail> {
+fn choices_have_their_forms(rt: HostRuntime) -> Result<(), Fail> {
     let rows = [
-        ("  barrier ", "'again s eu 1 1'", false),
-        ("barrier x", "", true),
-        ("dry run", "", true),
-        ("dryrun", "'again s eu'", true),
-        ("dryrun", "'again s eu 1 1 1'", true),
-        ("dryrun", "'again w eu 1'", true),
-        ("dryrun", "'again s us 1'", true),
-        ("dryrun", "'again s eu 0'", true),
+        ("take w 1", Choice::Take { service: 0, nth: 1 }),
+        (
+            "  take   w 4096 ",
+            Choice::Take {
+                service: 0,
+                nth: 4096,
+            },
+        ),
+        ("ship s us 1", ship(0, 0, 1, None)),
+        ("ship s eu 4096 2", ship(0, 1, 4096, Some(2))),
+        ("ship t us 1", ship(1, 0, 1, None)),
+        ("again s eu 3", again(0, 1, 3, None)),
+        ("again t us 10 4096", again(1, 0, 10, Some(4096))),
+        (
+            "go t.1",
+            Choice::Go {
+                object: 1,
+                place: 1,
+            },
+        ),
+        (
+            "go w.12",
+            Choice::Go {
+                object: 2,
+                place: 12,
+            },
+        ),
+        ("finish", Choice::Finish),
     ];
-    for (line, choices, wanted) in rows {
-        let text = document(rt.alloc(), line, choices)?;
+    for (text, wanted) in rows {
+        let text = document(rt.alloc(), text)?;
         assert!(rt;
-            is_refused(rt.alloc(), text.as_bytes()) == wanted,
-            "at {line} and {choices}"
+            first_choice(rt.alloc(), text.as_bytes()) == Ok(Some(wanted)),
+            "{text}"
         );
     }
     Ok(())
 }
 
+static NO_CHOICES: [&str; 37] = [
+    "",
+    "take",
+    "take w",
+    "take w 0",
+    "take w 01",
+    "take w 4097",
+    "take w 10000",
+    "take w +1",
+    "take w -1",
+    "take w 1x",
+    "take w 1 1",
+    "take s 1",
+    "take x 1",
+    "Take w 1",
+    "pull p",
+    "pull",
+    "repull p 1",
+    "ship s us",
+    "ship s us 0",
+    "ship s us 1 0",
+    "ship s us 1 1 1",
+    "ship w us 1",
+    "ship s w 1",
+    "again s us",
+    "again s x 1",
+    "again x us 1",
+    "again s us 1 1 1",
+    "go",
+    "go s",
+    "go s.",
+    "go .1",
+    "go s.0",
+    "go s.1.2",
+    "go x.1",
+    "go s .1",
+    "finish now",
+    "finished",
+];
+
 #[test]
-fn choices_are_counted(rt: HostRuntime) -> Result<(), Fail> {
-    let most = "'go s.1',".repeat(rt.alloc(), 4096)?;
-    let text = document(rt.alloc(), "dryrun", most.as_str())?;
-    assert!(rt; fault(rt.alloc(), text.as_bytes()) == None);
-    let more = format!(in rt.alloc(); "{most}'go s.1'")?;
-    let text = document(rt.alloc(), "dryrun", more.as_str())?;
-    assert!(rt; is_refused(rt.alloc(), text.as_bytes()));
+fn near_misses_are_no_choices(rt: HostRuntime) -> Result<(), Fail> {
+    for row in &NO_CHOICES {
+        let text = document(rt.alloc(), row)?;
+        let fault = AppFault::BadChoice { number: 1 };
+        assert!(rt;
+            first_choice(rt.alloc(), text.as_bytes()) == Err(fault),
+            "{text}"
+        );
+    }
+    Ok(())
+}
+
+// A fault of a rule.
+fn bad(rule: u32, part: Part, item: u32, line: u32) -> AppFault {
+    AppFault::Bad {
+        rule,
+        place: Place { part, item, line },
+    }
+}
+
+#[test]
+fn faults_come_in_their_order(rt: HostRuntime) -> Result<(), Fail> {
+    let rows: [(&[u8], AppFault); 6] = [
+        (b"regions", AppFault::NotToml),
+        (b"regions = ['us'] # \xff", AppFault::NotToml),
+        (b"regions = []\nchoices = ['x']", bad(4, Part::Top, 0, 0)),
+        (
+            b"regions = ['us']\nchoices = ['finish', 'repost w 1']",
+            bad(25, Part::Top, 0, 0),
+        ),
+        (
+            b"regions = ['us']\nchoices = ['finish', 'finish', 'x', 'y']",
+            AppFault::BadChoice { number: 3 },
+        ),
+        (
+            b"regions = ['us']\nservice = [{name = 'w', region = 'us', handler = [{name = 'a', body = ['nack', 'end']}]}]",
+            bad(21, Part::Handler, 1, 2),
+        ),
+    ];
+    for (bytes, wanted) in rows {
+        assert!(rt; first_choice(rt.alloc(), bytes) == Err(wanted));
+    }
+    Ok(())
+}
+
+// Whether the stores are those of the test's document.
+fn has_stores(app: &App) -> bool {
+    let [one, two] = app.stores.as_slice() else {
+        return false;
+    };
+    one.name.bytes() == b"s".as_slice()
+        && one.kind == StoreKind::Kv
+        && one.replicas.as_slice() == [1, 0].as_slice()
+        && one.tries == 3
+        && two.name.bytes() == b"t".as_slice()
+        && two.replicas.as_slice() == [1].as_slice()
+}
+
+// Whether the services and requests are those of the test's document.
+fn has_services(app: &App) -> bool {
+    let [one, two] = app.services.as_slice() else {
+        return false;
+    };
+    let [first, second] = app.requests.as_slice() else {
+        return false;
+    };
+    one.name.bytes() == b"v".as_slice()
+        && one.region == 0
+        && one.handlers.len() == 1
+        && two.region == 1
+        && two.handlers.len() == 2
+        && first.service == 1
+        && first.handler == 1
+        && first.value.bytes() == b"a.1".as_slice()
+        && second.service == 0
+        && second.handler == 0
+        && second.value.bytes().is_empty()
+}
+
+// Whether the body of the last handler is the one of the test's document.
+fn has_body(app: &App) -> bool {
+    let [_, service] = app.services.as_slice() else {
+        return false;
+    };
+    let [_, handler] = service.handlers.as_slice() else {
+        return false;
+    };
+    let [
+        Statement::Read { .. },
+        Statement::Repeat { count: 3, body },
+        Statement::Stop,
+    ] = handler.body.as_slice()
+    else {
+        return false;
+    };
+    let [
+        Statement::Write {
+            untracked: true,
+            ..
+        },
+    ] = body.as_slice()
+    else {
+        return false;
+    };
+    true
+}
+
+#[test]
+fn documents_are_read(rt: HostRuntime) -> Result<(), Fail> {
+    let text = b"regions = ['us', 'eu']
+seed = 9223372036854775807
+workers = 8
+store = [{name = 's', kind = 'kv', replicas = ['eu', 'us']}, {name = 't', kind = 'kv', replicas = ['eu']}]
+request = [{service = 'w', handler = 'two', value = 'a.1'}, {service = 'v', handler = 'two'}]
+[[service]]
+name = 'v'
+region = 'us'
+handler = [{name = 'two', body = []}]
+[[service]]
+name = 'w'
+region = 'eu'
+handler = [{name = 'one', body = []}, {name = 'two', body = ['read t k as x', ' repeat 3', 'write s $in $x as y untracked', 'end', 'stop']}]";
+    let app = read_app(rt.alloc(), text).ok().ok_or("an application")?;
+    assert!(rt; app.regions.len() == 2);
+    assert!(rt; has_stores(&app));
+    assert!(rt; has_services(&app));
+    assert!(rt; has_body(&app));
+    assert!(rt; app.seed == 9223372036854775807 && app.workers == 8);
+    let app = read_app(rt.alloc(), b"regions = ['us']")
+        .ok()
+        .ok_or("an application")?;
+    assert!(rt; app.seed == 0 && app.workers == 2);
+    assert!(rt; app.stores.is_empty() && app.subs.is_empty() && app.choices.is_empty());
     Ok(())
 }

@@ -1,6 +1,7 @@
 //! The words of Antipode: names, values, lists whose room is part of their value, ids of writes and lineages.
 #![tactic(auto)]
 
+mod adding;
 mod ascending;
 mod copies;
 mod id;
@@ -11,6 +12,7 @@ mod name;
 mod roomy;
 mod value;
 
+pub use adding::add;
 pub use copies::Copies;
 pub use id::WriteId;
 pub use lineage::{Lineage, LineageRefused, MOST_IDS};

@@ -1,3 +1,15 @@
 pub mod Words
 pub mod Texts
-pub mod Statements
+pub mod Keywords
+pub mod Vocabulary
+pub mod Program
+pub mod Bodies
+pub mod Lines
+pub mod Stated
+pub mod Held
+pub mod Blocks
+pub mod Faults
+pub mod Turns
+pub mod Turned
+pub mod Parsing
+pub mod Spans

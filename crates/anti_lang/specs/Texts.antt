@@ -1,25 +1,28 @@
--- Plain names, and values whose bytes stand in a line as they are.
-use Rattle.std.specs.Prelude.{ℕ, List, Bool, ◌||◌, ◌&&◌, ◌==◌, nat_le, Option, Some, None, Result, Ok, Err, if◌then◌else◌}
-use Rattle.std.specs.Result.{result_ok}
+-- Plain names, variables and literals.
+use Rattle.std.specs.Prelude.{ℕ, codes, List, [], ◌∷◌, Bool, false, not, ◌&&◌, ◌==◌, nat_lt, nat_le, length, Option}
+use Rattle.std.specs.Bool.{then_some}
 use Rattle.std.specs.List.{list_all}
-use Rattle.anti_ids.specs.Names.{name_of, is_plain}
-use Rattle.anti_ids.specs.Values.{value_of}
-use Rattle.anti_ids.specs.declared.name.NameFault.{NameFault}
-
--- a name, where it is plain
-abbrev pub if_plain : Result (List ℕ) NameFault → Option (List ℕ)
-if_plain (Ok name) = if is_plain name then Some name else None
-if_plain (Err _) = None
+use Rattle.std.specs.Str.{bytes_eq, is_utf8}
+use Rattle.anti_ids.specs.Names.{is_plain}
 
 -- The name that a text is, where it is plain: 1 to 24 ASCII letters, digits, `_` and `-`.
 abbrev pub plain_name : List ℕ → Option (List ℕ)
-plain_name text = if_plain (name_of text)
+plain_name text = then_some (is_plain text) text
 
--- an ASCII letter, a digit, `-`, `.`, `_` or `~`
-abbrev pub is_unreserved : ℕ → Bool
-is_unreserved b =
-    (nat_le 48 b && nat_le b 57) || ((nat_le 65 b && nat_le b 90) || ((nat_le 97 b && nat_le b 122) || (b == 45 || (b == 46 || (b == 95 || b == 126)))))
+-- a variable is a plain name other than `in`
+abbrev pub is_variable : List ℕ → Bool
+is_variable text = is_plain text && not (bytes_eq text (codes "in"))
 
--- The value of at most 256 unreserved bytes.
-abbrev pub unreserved_value : List ℕ → Option (List ℕ)
-unreserved_value text = if list_all is_unreserved text then result_ok (value_of text) else None
+-- a byte that is no control byte and no space
+abbrev pub is_literal_byte : ℕ → Bool
+is_literal_byte b = nat_lt 32 b && not (b == 127)
+
+-- whether a text begins with `$`, the byte 36
+abbrev pub has_dollar : List ℕ → Bool
+has_dollar [] = false
+has_dollar (first ∷ rest) = first == 36
+
+-- 1 to 256 bytes of UTF-8, none a control byte or a space, the first not `$`
+abbrev pub is_literal : List ℕ → Bool
+is_literal text =
+    nat_lt 0 (length text) && (nat_le (length text) 256 && (not (has_dollar text) && (list_all is_literal_byte text && is_utf8 text)))

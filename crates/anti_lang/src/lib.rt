@@ -1,15 +1,35 @@
-//! The language of handlers: the words of a line, and the statement that they state.
+//! The language of handlers: the words of a line, the statement that they state, and the body that lines state.
 #![tactic(auto)]
 
+mod building;
+mod fault;
+mod form;
+mod keyword;
+mod laws;
+mod laws_of_bodies;
 mod line;
+mod name;
+mod nesting;
+mod parsing;
+mod printing;
+mod reading;
 mod split;
 mod statement;
-mod text;
+mod variable;
+mod word;
+mod write;
 
-pub use line::read_statement;
+pub use fault::{LangCode, LangFault};
+pub use laws::lines_are_spelled;
+pub use laws_of_bodies::bodies_are_printed;
+pub use line::{Line, read_line};
+pub use name::plain_name;
+pub use parsing::{Lines, parse};
+pub use printing::print;
 pub use split::words;
-pub use statement::{Body, Statement, ValueWord};
-pub use text::{plain_name, unreserved_value};
+pub use statement::{Body, KeyWord, Statement, ValueWord};
 
 #[cfg(test)]
 mod tests;
+#[cfg(test)]
+mod tests_of_bodies;

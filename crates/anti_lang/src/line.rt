@@ -1,127 +1,75 @@
-ghost use Rattle.std.specs.Prelude.{◌≡◌, [], ◌∷◌, IfOk, map};
-ghost use Rattle.anti_lang.specs.Statements.{variable_of, value_word, write_of, read_of, lone_word, statement_in, statement_of};
+ghost use Rattle.std.specs.Prelude.{◌≡◌, IfOk, map, option_map};
+ghost use Rattle.anti_lang.specs.Words.{words};
+ghost use Rattle.anti_lang.specs.Lines.{line_of, form_of, read_as, read_line};
 
+use crate::form::{
+    append_form, call_form, if_form, lone_form, poll_form, read_form, remove_form, repeat_form,
+    reply_form, scan_form, send_form, transfer_form,
+};
+use crate::keyword::{Keyword, keyword_of};
 use crate::split::words;
-use crate::statement::{Statement, ValueWord};
-use crate::text::{plain_name, unreserved_value};
+use crate::statement::Statement;
+use crate::write::write_form;
 use anti_ids::{Name, NoMemory};
 use std::alloc::Global;
 
-// The variable that a word names: a plain name other than `in`.
-fn variable_of(word: &[u8]) -> Option<Name>
-    ensures { result ≡ variable_of word.now }
-{
-    if word == b"in".as_slice() {
-        return None;
-    }
-    plain_name(word)
+/// What a line of a body states.
+#[derive(Drop)]
+pub enum Line {
+    /// A statement that opens no block.
+    Does(Statement),
+    /// `repeat N`: opens a block that is run N times, 1 to 16.
+    Repeat(u32),
+    /// `if X absent`: opens a block that is run where no row of X has a version.
+    IfAbsent(Name),
+    /// `end`: closes a block.
+    End,
 }
 
-// The value that a word states: `$in`, or a literal.
-fn value_word(alloc: Global, word: &[u8]) -> Result<Option<ValueWord>, NoMemory>
-    ensures { IfOk result (λ value. value ≡ value_word word.now) }
+// The line of a keyword and the words behind it.
+fn form_of(alloc: Global, keyword: Keyword, words: &[&[u8]]) -> Result<Option<Line>, NoMemory>
+    ensures { IfOk result (λ line. line ≡ read_as (form_of keyword (map (λ word. word.now) words.now))) }
 {
-    if word == b"$in".as_slice() {
-        return Ok(Some(ValueWord::Input));
-    }
-    match unreserved_value(alloc, word)? {
-        Some(value) => Ok(Some(ValueWord::Literal(value))),
-        None => Ok(None),
-    }
-}
-
-// The statement of the words behind `write`.
-fn write_of(alloc: Global, words: &[&[u8]]) -> Result<Option<Statement>, NoMemory>
-    ensures { IfOk result (λ statement. statement ≡ write_of (map (λ word. word.now) words.now)) }
-{
-    match words {
-        [store, key, value] => write_to(alloc, store, key, value),
-        _ => Ok(None),
-    }
-}
-
-// The statement `write STORE KEY VALUE`.
-fn write_to(
-    alloc: Global,
-    store: &[u8],
-    key: &[u8],
-    value: &[u8],
-) -> Result<Option<Statement>, NoMemory>
-    ensures { IfOk result (λ statement. statement ≡ write_of (store.now ∷ key.now ∷ value.now ∷ [])) }
-{
-    let Some(store) = plain_name(store) else {
-        return Ok(None);
-    };
-    let Some(key) = plain_name(key) else {
-        return Ok(None);
-    };
-    match value_word(alloc, value)? {
-        Some(value) => Ok(Some(Statement::Write { store, key, value })),
-        None => Ok(None),
+    match keyword {
+        Keyword::Write => write_form(alloc, words),
+        Keyword::Append => Ok(append_form(words)),
+        Keyword::Remove => Ok(remove_form(words)),
+        Keyword::Transfer => Ok(transfer_form(words)),
+        Keyword::Barrier => Ok(lone_form(words, Line::Does(Statement::Barrier))),
+        Keyword::DryRun => Ok(lone_form(words, Line::Does(Statement::DryRun))),
+        Keyword::Read => Ok(read_form(words)),
+        Keyword::Scan => Ok(scan_form(words)),
+        Keyword::Poll => Ok(poll_form(words)),
+        Keyword::Call => call_form(alloc, words),
+        Keyword::Send => send_form(alloc, words),
+        Keyword::Reply => reply_form(alloc, words),
+        Keyword::Nack => Ok(lone_form(words, Line::Does(Statement::Nack))),
+        Keyword::Root => Ok(lone_form(words, Line::Does(Statement::Root))),
+        Keyword::Stop => Ok(lone_form(words, Line::Does(Statement::Stop))),
+        Keyword::Repeat => Ok(repeat_form(words)),
+        Keyword::If => Ok(if_form(words)),
+        Keyword::End => Ok(lone_form(words, Line::End)),
     }
 }
 
-// The statement of the words behind `read`.
-fn read_of(words: &[&[u8]]) -> Option<Statement>
-    ensures { result ≡ read_of (map (λ word. word.now) words.now) }
-{
-    match words {
-        [store, key, joint, variable] => read_from(store, key, joint, variable),
-        _ => None,
-    }
-}
-
-// The statement `read STORE KEY as VARIABLE`, where `joint` is the word `as`.
-fn read_from(store: &[u8], key: &[u8], joint: &[u8], variable: &[u8]) -> Option<Statement>
-    ensures { result ≡ read_of (store.now ∷ key.now ∷ joint.now ∷ variable.now ∷ []) }
-{
-    if joint != b"as".as_slice() {
-        return None;
-    }
-    Some(Statement::Read {
-        store: plain_name(store)?,
-        key: plain_name(key)?,
-        variable: variable_of(variable)?,
-    })
-}
-
-// The statement that a word states where it stands alone.
-fn lone_word(word: &[u8]) -> Option<Statement>
-    ensures { result ≡ lone_word word.now }
-{
-    if word == b"barrier".as_slice() {
-        Some(Statement::Barrier)
-    } else if word == b"dryrun".as_slice() {
-        Some(Statement::DryRun)
-    } else {
-        None
-    }
-}
-
-// The statement that words state.
-fn statement_in(alloc: Global, words: &[&[u8]]) -> Result<Option<Statement>, NoMemory>
-    ensures { IfOk result (λ statement. statement ≡ statement_in (map (λ word. word.now) words.now)) }
+// The line that words state.
+#[tactic(auto, unfolding(crate::specs::Lines::read_line))]
+fn line_of(alloc: Global, words: &[&[u8]]) -> Result<Option<Line>, NoMemory>
+    ensures { IfOk result (λ line. line ≡ option_map line_of (read_line (map (λ word. word.now) words.now))) }
 {
     match words {
         [] => Ok(None),
-        [word] => Ok(lone_word(word)),
-        [what, rest @ ..] => {
-            if *what == b"write".as_slice() {
-                write_of(alloc, rest)
-            } else if *what == b"read".as_slice() {
-                Ok(read_of(rest))
-            } else {
-                Ok(None)
-            }
-        }
+        [first, rest @ ..] => match keyword_of(first) {
+            Some(keyword) => form_of(alloc, keyword, rest),
+            None => Ok(None),
+        },
     }
 }
 
-/// The statement that a line of a body states, or `None` where it states none. Nothing but memory can be wanting.
-#[tactic(auto, unfolding(crate::specs::Statements::statement_of))]
-pub fn read_statement(alloc: Global, line: &[u8]) -> Result<Option<Statement>, NoMemory>
-    ensures { IfOk result (λ statement. statement ≡ statement_of line.now) }
+/// What a line states, or `None` where it states nothing.
+pub fn read_line(alloc: Global, text: &[u8]) -> Result<Option<Line>, NoMemory>
+    ensures { IfOk result (λ line. line ≡ option_map line_of (read_line (words text.now))) }
 {
-    let words = words(alloc, line)?;
-    statement_in(alloc, words.as_slice())
+    let words = words(alloc, text)?;
+    line_of(alloc, words.as_slice())
 }

@@ -1,7 +1,7 @@
 -- How an object of an application stands for a history.
 use Rattle.std.specs.Prelude.{◌≡◌, ℕ, List, [], Some}
 use Rattle.anti_kind.specs.declared.call.Call.{Call}
-use Rattle.anti_kind.specs.declared.call.Call.TheVariants.{Write, Read, Look, Ship, Again, Take}
+use Rattle.anti_kind.specs.declared.call.Call.TheVariants.{Write, Read, Scan, Poll, Look, Ship, Again, Take}
 use Rattle.anti_kind.specs.declared.call.Entry.{Entry}
 use Rattle.anti_kind.specs.Objects.{Start, StandsFor}
 use Rattle.anti_kind.specs.Objects as objects
@@ -16,6 +16,8 @@ use Rattle.anti_object.specs.Starts.{start_of}
 abbrev pub IsCallOfRun : Call → Type 0
 IsCallOfRun (Write key value lineage) = Unit {0}
 IsCallOfRun (Read region key) = Unit {0}
+IsCallOfRun (Scan region prefix) = Unit {0}
+IsCallOfRun (Poll region key) = Unit {0}
 IsCallOfRun (Look region ids dry) = Unit {0}
 IsCallOfRun (Ship region version part) = Unit {0}
 IsCallOfRun (Again region version part) = Unit {0}

@@ -1,7 +1,15 @@
 pub mod Growth
 pub mod Fulls
 pub mod Lives
+pub mod Births
 pub mod Steps
 pub mod Starts
 pub mod Closings
 pub mod Plays
+pub mod Firsts
+pub mod Turns
+pub mod Tries
+pub mod Goings
+pub mod Shipping
+pub mod Routes
+pub mod Reached

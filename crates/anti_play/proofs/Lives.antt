@@ -19,6 +19,7 @@ use Rattle.anti_kind.proofs.Histories.{last_is}
 use Rattle.anti_app.specs.declared.app.App.{App}
 use Rattle.anti_trace.specs.Traces.{entries_on, entries_by, same_actor, put}
 use Rattle.anti_trace.proofs.Puts.{same_actor_true, same_actor_itself}
+use Rattle.anti_proc.specs.Running.{IsRunOf}
 use Rattle.anti_proc.specs.declared.process.Process.{Process}
 use Rattle.anti_proc.specs.declared.want.Want.{Want}
 use Rattle.anti_proc.specs.declared.want.Want.TheVariants.{Make, Over}
@@ -26,7 +27,10 @@ use Rattle.anti_proc.specs.Trees.{Tree, branch, want_of}
 use Rattle.anti_proc.specs.Meaning.{tree_of, process_after}
 use Rattle.anti_proc.specs.Standing.{process_of, birth_of, clock_of, full_of}
 use Rattle.anti_proc.proofs.Runs.{process_after_more}
-use Rattle.anti_play.specs.Standing.{is_named, WasFull, IsEnded, Lives, LivesOn, AllLive}
+use Rattle.anti_ids.specs.List.{Listed}
+use Rattle.anti_play.specs.Runs.{GoesOn}
+use Rattle.anti_play.specs.Standing.{is_named, WasFull, IsEnded, Lives, LivesOn, AllLive, born_at, Changes}
+use Rattle.anti_play.proofs.Growth.{decide}
 
 -- ---- places in a list that grows by an item or changes at one place
 
@@ -51,7 +55,7 @@ module _ {X : Type 0} (p : X → Bool) where
       by_test true e f = absurd (cc)
       by_test false e f = ltb-false at len (sym e)
 
-  found_at : (at len : ℕ) → at < len → cond (nat_lt at len) (Some at) None ≡ Some at
+  pub found_at : (at len : ℕ) → at < len → cond (nat_lt at len) (Some at) None ≡ Some at
   found_at at len lt = let t : nat_lt at len ≡ true = lt-ltb at len lt in ap (λ (b : Bool). cond b (Some at) None) t
 
   none_at : (at len : ℕ) → len ≤ at → cond (nat_lt at len) (Some at) None ≡ None
@@ -99,9 +103,19 @@ module _ {X : Type 0} (p : X → Bool) where
 
 -- ---- processes
 
--- the history of each object goes on from what it was
-abbrev pub GoesOn : List Entry → List Entry → Type 0
-GoesOn trace after = (o : ℕ) → (rest : List Entry) × (entries_on o after ≡ entries_on o trace ++ rest)
+-- each process that was born at an object stands for its entries
+abbrev pub LiveAt : App → ℕ → List Process → List Entry → Type 0
+LiveAt app o ps trace = (c : Birth) → c.object ≡ o → Lives app trace ps (position (is_named c) ps) (entries_by (Acting c) trace)
+
+pub live_here : (app : App) (ps : List (Listed Process)) (trace : List Entry) → AllLive app ps trace → (o : ℕ) → LiveAt app o (born_at ps o) trace
+live_here app ps trace live o c at = subst (λ (k : ℕ). Lives app trace (born_at ps k) (position (is_named c) (born_at ps k)) (entries_by (Acting c) trace)) at (live c)
+
+pub same_birth : (b c : Birth) → (c ≡ b) ⊎ (same_actor (Acting c) (Acting b) ≡ false)
+same_birth b c = by_test (same_actor (Acting c) (Acting b)) refl
+  where
+    by_test : (t : Bool) → t ≡ same_actor (Acting c) (Acting b) → (c ≡ b) ⊎ (same_actor (Acting c) (Acting b) ≡ false)
+    by_test true t = inl (let is : Acting c ≡ Acting b = same_actor_true (Acting c) (Acting b) (sym t) in cc)
+    by_test false t = inr (sym t)
 
 module _ (app : App) (trace after : List Entry) (goes : GoesOn trace after) where
   full_later : (object : ℕ) (call : Call) → WasFull app trace object call → WasFull app after object call
@@ -129,6 +143,7 @@ module _ (app : App) (trace after : List Entry) (goes : GoesOn trace after) wher
     birth = on.birth;
     later = on.later;
     entries_are = on.entries_are;
+    run = on.run;
     tree = on.tree;
     clock = on.clock;
     full = if_ended_later (full_of p) (want_of (process_after app es)) on.full;
@@ -139,15 +154,8 @@ module _ (app : App) (trace after : List Entry) (goes : GoesOn trace after) wher
   all_later ps (Some i) es then same l = λ d. lives_later (get_or ps i d) es then same (l d)
 
   -- one process in place of the one that was found
-  module _ (ps : List Process) (live : AllLive app ps trace) (b : Birth)
+  module _ (ps : List Process) (b : Birth) (live : LiveAt app b.object ps trace)
       (others : (c : Birth) → same_actor (Acting c) (Acting b) ≡ false → entries_by (Acting c) after ≡ entries_by (Acting c) trace) where
-    same_or : (c : Birth) → (c ≡ b) ⊎ (same_actor (Acting c) (Acting b) ≡ false)
-    same_or c = by_test (same_actor (Acting c) (Acting b)) refl
-      where
-        by_test : (t : Bool) → t ≡ same_actor (Acting c) (Acting b) → (c ≡ b) ⊎ (same_actor (Acting c) (Acting b) ≡ false)
-        by_test true t = inl (let is : Acting c ≡ Acting b = same_actor_true (Acting c) (Acting b) (sym t) in cc)
-        by_test false t = inr (sym t)
-
     module _ (p : Process) (i : ℕ) (found : position (is_named b) ps ≡ Some i) (named : (d : Process) → birth_of p ≡ birth_of (get_or ps i d))
         (on : LivesOn app after p (entries_by (Acting b) after)) where
       within : i < length ps
@@ -183,11 +191,11 @@ module _ (app : App) (trace after : List Entry) (goes : GoesOn trace after) wher
           (λ d. subst (λ (x : Process). LivesOn app after x (entries_by (Acting c) after)) (sym (get_or-set_other ps i j p d other))
           (lives_later (get_or ps j d) (entries_by (Acting c) trace) (entries_by (Acting c) after) (others c off) (l d)))
 
-      pub live_set : AllLive app (slice_set ps i p) after
-      live_set c =
-          elim (same_or c) [
+      pub live_set : LiveAt app b.object (slice_set ps i p) after
+      live_set c at =
+          elim (same_birth b c) [
             | inl same ↦ lives_on c same
-            | inr off ↦ lives_else c off (position (is_named c) ps) refl (live c)
+            | inr off ↦ lives_else c off (position (is_named c) ps) refl (live c at)
           ]
 
     -- a process more behind those that are there
@@ -214,12 +222,28 @@ module _ (app : App) (trace after : List Entry) (goes : GoesOn trace after) wher
           subst (λ (x : Process). LivesOn app after x (entries_by (Acting c) after)) (sym (get_or_append_left ps (p ∷ []) d i inside))
           (lives_later (get_or ps i d) (entries_by (Acting c) trace) (entries_by (Acting c) after) (others c off) (l d)))
 
-      pub live_pushed : AllLive app (ps ++ p ∷ []) after
-      live_pushed c =
-          elim (same_or c) [
+      pub live_pushed : LiveAt app b.object (ps ++ p ∷ []) after
+      live_pushed c at =
+          elim (same_birth b c) [
             | inl same ↦ lives_new c same
-            | inr off ↦ lives_old c off (position (is_named c) ps) refl (live c)
+            | inr off ↦ lives_old c off (position (is_named c) ps) refl (live c at)
           ]
+
+  -- the processes of all objects, where those of one have changed
+  pub live_with : (ps ns : List (Listed Process)) (here : List Process) (b : Birth) → AllLive app ps trace → Changes ps ns b.object here
+      → ((c : Birth) → same_actor (Acting c) (Acting b) ≡ false → entries_by (Acting c) after ≡ entries_by (Acting c) trace)
+      → LiveAt app b.object here after → AllLive app ns after
+  live_with ps ns here b live changes others at c =
+      elim (decide b.object c.object) [
+        | inl same ↦
+            subst (λ (xs : List Process). Lives app after xs (position (is_named c) xs) (entries_by (Acting c) after))
+            (sym (subst (λ (o : ℕ). born_at ns o ≡ here) same changes.here_are)) (at c (sym same))
+        | inr other ↦
+            subst (λ (xs : List Process). Lives app after xs (position (is_named c) xs) (entries_by (Acting c) after)) (sym (changes.others c.object other))
+            (all_later (born_at ps c.object) (position (is_named c) (born_at ps c.object)) (entries_by (Acting c) trace) (entries_by (Acting c) after)
+            (elim (same_birth b c) [ inl is ↦ absurd (other (ap (λ (x : Birth). x.object) (sym is))) | inr off ↦ others c off ])
+            (live c))
+      ]
 
 pub no_more : (trace : List Entry) → GoesOn trace trace
 no_more trace o = ([], sym (append-nil (entries_on o trace)))
@@ -235,12 +259,15 @@ not_ended app trace o want none = subst (λ (x : Option ℕ). IfSome x (IsEnded 
 
 -- ---- with one entry more, after the last of its object and of its actor
 
-module _ (app : App) (ps : List Process) (trace : List Entry) (live : AllLive app ps trace) (e : Entry) (goes : GoesOn trace (put e trace))
+module _ (app : App) (ps : List (Listed Process)) (trace : List Entry) (live : AllLive app ps trace) (e : Entry) (goes : GoesOn trace (put e trace))
     (own : entries_by e.actor (put e trace) ≡ entries_by e.actor trace ++ e ∷ [])
     (others : (a : Actor) → (e.actor ≡ a → ⊥) → entries_by a (put e trace) ≡ entries_by a trace) where
   -- a carrier's entry is none of a process
   pub live_kept : ((b : Birth) → e.actor ≡ Acting b → ⊥) → AllLive app ps (put e trace)
-  live_kept none b = all_later app trace (put e trace) goes ps (position (is_named b) ps) (entries_by (Acting b) trace) (entries_by (Acting b) (put e trace)) (others (Acting b) (none b)) (live b)
+  live_kept none b = all_later app trace (put e trace) goes (born_at ps b.object) (position (is_named b) (born_at ps b.object)) (entries_by (Acting b) trace) (entries_by (Acting b) (put e trace)) (others (Acting b) (none b)) (live b)
+
+  live_at : (o : ℕ) → LiveAt app o (born_at ps o) trace
+  live_at = live_here app ps trace live
 
   module _ (b : Birth) (actor : e.actor ≡ Acting b) where
     other_births : (c : Birth) → same_actor (Acting c) (Acting b) ≡ false → entries_by (Acting c) (put e trace) ≡ entries_by (Acting c) trace
@@ -254,29 +281,32 @@ module _ (app : App) (ps : List Process) (trace : List Entry) (live : AllLive ap
 
     -- a process that is born by the entry
     module _ (p : Process) (named : birth_of p ≡ b) (unborn : entries_by (Acting b) trace ≡ [])
-        (tree : process_of app p ≡ tree_of app e) (clock : clock_of p ≡ e.stamp) (going : full_of p ≡ None) where
+        (tree : process_of app p ≡ tree_of app e) (clock : clock_of p ≡ e.stamp) (going : full_of p ≡ None)
+        (runs : IsRunOf app p) where
       on_new : LivesOn app (put e trace) p (entries_by (Acting b) (put e trace))
       on_new = subst (λ (es : List Entry). LivesOn app (put e trace) p es) (sym (own_entries ∙ ap (λ (x : List Entry). x ++ e ∷ []) unborn)) (record {
         birth = e;
         later = [];
         entries_are = refl;
+        run = runs;
         tree = tree;
         clock = clock ∙ (let one : e.stamp ≡ last_stamp (e ∷ []) = omega arith in one);
         full = not_ended app (put e trace) (full_of p) (want_of (process_after app (e ∷ []))) going;
       })
 
-      pub live_born : AllLive app (ps ++ p ∷ []) (put e trace)
-      live_born =
-          live_pushed app trace (put e trace) goes ps live b other_births p named
-          (not_found app trace ps p (position (is_named b) ps) (entries_by (Acting b) trace) unborn (live b)) on_new
+      pub live_born : (ns : List (Listed Process)) → Changes ps ns b.object (born_at ps b.object ++ p ∷ []) → AllLive app ns (put e trace)
+      live_born ns changes =
+          live_with app trace (put e trace) goes ps ns (born_at ps b.object ++ p ∷ []) b live changes other_births
+          (live_pushed app trace (put e trace) goes (born_at ps b.object) b (live_at b.object) other_births p named
+          (not_found app trace (born_at ps b.object) p (position (is_named b) (born_at ps b.object)) (entries_by (Acting b) trace) unborn (live b)) on_new)
 
     -- a process that the entry is the next of
-    module _ (p : Process) (i : ℕ) (found : position (is_named b) ps ≡ Some i)
-        (named : (d : Process) → birth_of p ≡ birth_of (get_or ps i d))
-        (tree : (d : Process) → process_of app p ≡ branch (process_of app (get_or ps i d)) e.reply) (clock : clock_of p ≡ e.stamp) (going : full_of p ≡ None)
-        (last : All (λ d. d.stamp < e.stamp) (entries_by (Acting b) trace)) where
-      old : LivesOn app trace (get_or ps i p) (entries_by (Acting b) trace)
-      old = (subst (λ (o : Option ℕ). Lives app trace ps o (entries_by (Acting b) trace)) found (live b)) p
+    module _ (p : Process) (i : ℕ) (found : position (is_named b) (born_at ps b.object) ≡ Some i)
+        (named : (d : Process) → birth_of p ≡ birth_of (get_or (born_at ps b.object) i d))
+        (tree : (d : Process) → process_of app p ≡ branch (process_of app (get_or (born_at ps b.object) i d)) e.reply) (clock : clock_of p ≡ e.stamp) (going : full_of p ≡ None)
+        (last : All (λ d. d.stamp < e.stamp) (entries_by (Acting b) trace)) (runs : IsRunOf app p) where
+      old : LivesOn app trace (get_or (born_at ps b.object) i p) (entries_by (Acting b) trace)
+      old = (subst (λ (o : Option ℕ). Lives app trace (born_at ps b.object) o (entries_by (Acting b) trace)) found (live b)) p
 
       entries_then : entries_by (Acting b) (put e trace) ≡ old.birth ∷ (old.later ++ e ∷ [])
       entries_then = own_entries ∙ ap (λ (x : List Entry). x ++ e ∷ []) old.entries_are
@@ -286,6 +316,7 @@ module _ (app : App) (ps : List Process) (trace : List Entry) (live : AllLive ap
         birth = old.birth;
         later = old.later ++ e ∷ [];
         entries_are = entries_then;
+        run = runs;
         tree = tree p
             ∙ ap (λ (x : Tree). branch x e.reply) (old.tree ∙ ap (λ (x : List Entry). process_after app x) old.entries_are)
             ∙ sym (process_after_more app old.birth old.later e)
@@ -294,5 +325,7 @@ module _ (app : App) (ps : List Process) (trace : List Entry) (live : AllLive ap
         full = not_ended app (put e trace) (full_of p) (want_of (process_after app (entries_by (Acting b) (put e trace)))) going;
       }
 
-      pub live_went : AllLive app (slice_set ps i p) (put e trace)
-      live_went = live_set app trace (put e trace) goes ps live b other_births p i found named on_then
+      pub live_went : (ns : List (Listed Process)) → Changes ps ns b.object (slice_set (born_at ps b.object) i p) → AllLive app ns (put e trace)
+      live_went ns changes =
+          live_with app trace (put e trace) goes ps ns (slice_set (born_at ps b.object) i p) b live changes other_births
+          (live_set app trace (put e trace) goes (born_at ps b.object) b (live_at b.object) other_births p i found named on_then)

@@ -1,32 +1,31 @@
 -- One choice more of a run.
-use Rattle.std.proofs.Common.{◌≡◌, ℕ, suc, ◌+◌, ◌<◌, ◌++◌, ◌∷◌, List, [], true, false, length, take, get_or, refl, sym, ap, ◌∙◌, subst, arith}
-use Rattle.std.specs.Prelude.{IsTrue, Option, None, Some, Ok}
+use Rattle.std.proofs.Common.{◌≡◌, ℕ, suc, ◌+◌, ◌<◌, ◌++◌, ◌∷◌, List, [], true, false, length, take, get_or, sym, ap, ◌∙◌, subst, arith}
+use Rattle.std.specs.Prelude.{IsTrue}
 use Rattle.std.proofs.lemmas.List.{take_more, length-take-le}
 use Rattle.std.proofs.Math.Seq.{take-length}
 use Rattle.std.specs.List.{AllPass}
 use Rattle.std.proofs.lemmas.Bool.{and_parts}
 use Rattle.std.proofs.lemmas.List.Sums.{AllPass-from_list_all}
 use Rattle.anti_ids.specs.List.{Listed, plain}
-use Rattle.anti_kind.specs.declared.call.Entry.{Entry}
 use Rattle.anti_app.specs.declared.app.App.{App}
 use Rattle.anti_app.specs.declared.app.Choice.{Choice}
 use Rattle.anti_app.specs.Sound.{is_sound, is_sound_choice, are_sound_regions, are_sound_stores, are_sound_services, are_sound_requests, are_sound_choices}
 use Rattle.anti_play.specs.declared.world.World.{World}
-use Rattle.anti_play.specs.Schedule.{Run, run_from, turned, chosen, played}
-use Rattle.anti_play.specs.Standing.{Chose, WorldStands}
-use Rattle.anti_play.specs.Closing.{HasPlayed, run_until}
+use Rattle.anti_play.specs.Schedule.{Run, run_from, stepped, played}
+use Rattle.anti_play.specs.Standing.{WorldStands}
+use Rattle.anti_play.specs.Closing.{HasPlayed, Steps, run_until}
 
 run_from-push : (app : App) (run : Run) (number : ℕ) (cs : List Choice) (c : Choice)
     → run_from app run number (cs ++ c ∷ [])
-    ≡ turned (run_from app run number cs) (number + length cs) (chosen app (run_from app run number cs).trace c)
+    ≡ stepped app (run_from app run number cs) (number + length cs) c
 run_from-push app run number [] c =
     let same : number ≡ number + length {A = Choice} [] = omega arith in
-    ap (λ (n : ℕ). turned run n (chosen app run.trace c)) same
+    ap (λ (n : ℕ). stepped app run n c) same
 run_from-push app run number (d ∷ cs) c =
-    let next : Run = turned run number (chosen app run.trace d) in
+    let next : Run = stepped app run number d in
     let same : suc number + length cs ≡ number + length (d ∷ cs) = omega arith in
     run_from-push app next (suc number) cs c
-    ∙ ap (λ (n : ℕ). turned (run_from app next (suc number) cs) n (chosen app (run_from app next (suc number) cs).trace c)) same
+    ∙ ap (λ (n : ℕ). stepped app (run_from app next (suc number) cs) n c) same
 
 -- each choice of a sound application passes the test
 sound_choices : (app : App) → IsTrue (is_sound app) → AllPass (is_sound_choice (length app.regions.items) (length app.stores.items) (length app.services.items)) app.choices.items
@@ -37,56 +36,41 @@ sound_choices app sound =
     let one = and_parts (are_sound_regions app.regions.items) _ sound in
     let two = and_parts (are_sound_stores regions app.stores.items) _ one.1 in
     let three = and_parts (are_sound_services regions app.stores.items app.services.items) _ two.1 in
-    let four = and_parts (are_sound_requests app.services.items app.requests.items) (are_sound_choices regions stores services app.choices.items) three.1 in
-    AllPass-from_list_all (is_sound_choice regions stores services) app.choices.items ((and_parts _ _ four.1).1)
+    let four = and_parts (are_sound_requests app.services.items app.requests.items) _ three.1 in
+    let five = and_parts (are_sound_choices regions stores services app.choices.items) _ four.1 in
+    AllPass-from_list_all (is_sound_choice regions stores services) app.choices.items ((and_parts _ _ five.0).1)
 
 module _ (app : App) (i : ℕ) (c d : Choice) (lt : i < length app.choices.items) (at : c ≡ get_or app.choices.items i d) where
   abbrev before : Run
   before = run_until app i
 
-  run_more : run_until app (i + 1) ≡ turned before (i + 1) (chosen app before.trace c)
+  run_more : run_until app (i + 1) ≡ stepped app before (i + 1) c
   run_more =
       let more : take (i + 1) app.choices.items ≡ take i app.choices.items ++ c ∷ [] =
       take_more app.choices.items i d lt ∙ ap (λ (x : Choice). take i app.choices.items ++ x ∷ []) (sym at) in
       let number : 1 + length (take i app.choices.items) ≡ i + 1 = omega (arith, length-take-le i app.choices.items) in
       ap (run_from app (record { trace = []; waits = [] }) 1) more
       ∙ run_from-push app (record { trace = []; waits = [] }) 1 (take i app.choices.items) c
-      ∙ ap (λ (n : ℕ). turned before n (chosen app before.trace c)) number
+      ∙ ap (λ (n : ℕ). stepped app before n c) number
 
   pub sound_at : IsTrue (is_sound app) → is_sound_choice (length app.regions.items) (length app.stores.items) (length app.services.items) c ≡ true
   sound_at sound =
       ap (λ (x : Choice). is_sound_choice (length app.regions.items) (length app.stores.items) (length app.services.items) x) at
       ∙ sound_choices app sound i d lt
 
-  made_world : (v : World) (o : Option Entry) → Chose app before.trace o (Ok true) v → WorldStands app v (turned before (i + 1) o).trace
-  made_world v None chose = absurd (cc (chose.0))
-  made_world v (Some e) chose = chose.1
-
-  made_waits : (v : World) (o : Option Entry) → Chose app before.trace o (Ok true) v → (turned before (i + 1) o).waits ≡ before.waits
-  made_waits v None chose = absurd (cc (chose.0))
-  made_waits v (Some e) chose = refl
-
-  pub played_made : (w v : World) (waits : Listed ℕ) → HasPlayed app i w waits → Chose app before.trace (chosen app before.trace c) (Ok true) v → HasPlayed app (i + 1) v waits
-  played_made w v waits h chose = record {
-    world = subst (λ (r : Run). WorldStands app v r.trace) (sym run_more) (made_world v (chosen app before.trace c) chose);
-    waits_are = h.waits_are ∙ ap (λ (ns : List ℕ). plain ns) (sym (made_waits v (chosen app before.trace c) chose) ∙ ap (λ (r : Run). r.waits) (sym run_more));
+  pub played_made : (v : World) (waits : Listed ℕ) → waits ≡ plain before.waits → Steps app before (i + 1) c true v → HasPlayed app (i + 1) v waits
+  played_made v waits are steps = record {
+    world = subst (λ (r : Run). WorldStands app v r.trace) (sym run_more) steps.world;
+    waits_are = are ∙ ap (λ (ns : List ℕ). plain ns) (sym steps.waits_are ∙ ap (λ (r : Run). r.waits) (sym run_more));
   }
 
-  waited_world : (v : World) (o : Option Entry) → Chose app before.trace o (Ok false) v → WorldStands app v (turned before (i + 1) o).trace
-  waited_world v None chose = chose.1
-  waited_world v (Some e) chose = absurd (cc (chose.0))
-
-  waited_waits : (v : World) (o : Option Entry) → Chose app before.trace o (Ok false) v → (turned before (i + 1) o).waits ≡ before.waits ++ (i + 1) ∷ []
-  waited_waits v None chose = refl
-  waited_waits v (Some e) chose = absurd (cc (chose.0))
-
-  pub played_waited : (w v : World) (waits more : Listed ℕ) → HasPlayed app i w waits → Chose app before.trace (chosen app before.trace c) (Ok false) v
+  pub played_waited : (v : World) (waits more : Listed ℕ) → waits ≡ plain before.waits → Steps app before (i + 1) c false v
       → more ≡ plain (waits.items ++ (i + 1) ∷ []) → HasPlayed app (i + 1) v more
-  played_waited w v waits more h chose added = record {
-    world = subst (λ (r : Run). WorldStands app v r.trace) (sym run_more) (waited_world v (chosen app before.trace c) chose);
+  played_waited v waits more are steps added = record {
+    world = subst (λ (r : Run). WorldStands app v r.trace) (sym run_more) steps.world;
     waits_are =
-        added ∙ ap (λ (ns : Listed ℕ). plain (ns.items ++ (i + 1) ∷ [])) h.waits_are
-        ∙ ap (λ (ns : List ℕ). plain ns) (sym (waited_waits v (chosen app before.trace c) chose) ∙ ap (λ (r : Run). r.waits) (sym run_more));
+        added ∙ ap (λ (ns : Listed ℕ). plain (ns.items ++ (i + 1) ∷ [])) are
+        ∙ ap (λ (ns : List ℕ). plain ns) (sym steps.waits_are ∙ ap (λ (r : Run). r.waits) (sym run_more));
   }
 
 -- all choices were made

@@ -1,9 +1,9 @@
 -- The objects of an application before anything has happened.
-use Rattle.std.proofs.Common.{◌≡◌, ℕ, ◌+◌, ◌<◌, ◌≤◌, max, ◌-◌, ◌++◌, ◌∷◌, List, [], length, sym, ap, ◌∙◌, subst, arith, inl, inr}
+use Rattle.std.proofs.Common.{◌≡◌, ℕ, ◌+◌, ◌<◌, ◌≤◌, max, ◌-◌, ◌++◌, ◌⊎◌, ◌∷◌, List, [], length, sym, ap, ◌∙◌, subst, arith, inl, inr}
 use Rattle.std.specs.Prelude.{Option, None, Some, MatchOption}
 use Rattle.std.proofs.lemmas.Bool.{cases_lt}
-use Rattle.std.proofs.lemmas.List.{length_push, get_or_push, get_or_append_left}
-use Rattle.anti_ids.specs.List.{Listed, plain, pushed, reserved}
+use Rattle.std.proofs.lemmas.List.{length_push, get_or_push, get_or_append_left, get_or_past}
+use Rattle.anti_ids.specs.List.{Listed, empty, plain, pushed, reserved}
 use Rattle.anti_kind.specs.Objects.{Start}
 use Rattle.anti_app.specs.declared.app.App.{App}
 use Rattle.anti_object.specs.declared.object.Object.{Object}
@@ -12,8 +12,10 @@ use Rattle.anti_object.specs.Standing.{object_start, ObjectAt, IsNew}
 use Rattle.anti_object.proofs.Starts.{start_there, start_known}
 use Rattle.anti_proc.specs.Numbers.{object_count}
 use Rattle.anti_play.specs.declared.logged.Logged.{Logged}
-use Rattle.anti_play.specs.Standing.{IsObject}
-use Rattle.anti_play.specs.Closing.{AreFirst}
+use Rattle.anti_proc.specs.declared.process.Process.{Process}
+use Rattle.anti_play.specs.Standing.{IsObject, born_at}
+use Rattle.anti_play.specs.Closing.{AreFirst, NoneBorn}
+use Rattle.anti_play.proofs.Growth.{decide}
 
 -- an item put into the room that was made for it leaves no room
 pub added : {T : Type 0} (l : Listed T) (x : T) (more : List T) → l.spare ≡ 0 → x ∷ [] ≡ more → pushed (reserved l 1) x ≡ plain (l.items ++ more)
@@ -26,6 +28,21 @@ new_object app o object l new is none = record {
   start = new.start ∙ ap (λ (x : Object). Some (object_start x)) (sym is);
   logged = record { object = subst (λ (x : Object). ObjectAt x []) (sym is) new.stands; history = none };
 }
+
+-- a list more, of no process
+pub none_born_more : (count : ℕ) (ps : List (Listed Process)) (l : Listed Process) → l.items ≡ [] → NoneBorn count ps → NoneBorn (count + 1) (ps ++ l ∷ [])
+none_born_more count ps l empty_list no_processes = record {
+  many = length_push ps l ∙ ap (λ (n : ℕ). n + 1) no_processes.many;
+  none = λ o. elim (cases_lt o (length ps)) as (λ _. born_at (ps ++ l ∷ []) o ≡ []) [
+    | inl before ↦ ap (λ (x : Listed Process). x.items) (get_or_append_left ps (l ∷ []) empty o before) ∙ no_processes.none o
+    | inr past ↦ by_end o past (decide o (length ps))
+  ];
+}
+  where
+    by_end : (o : ℕ) → length ps ≤ o → (o ≡ length ps) ⊎ (o ≡ length ps → ⊥) → born_at (ps ++ l ∷ []) o ≡ []
+    by_end o past (inl last) = ap (λ (x : Listed Process). x.items) (get_or_push ps l empty o (sym last)) ∙ empty_list
+    by_end o past (inr other) =
+        ap (λ (x : Listed Process). x.items) (get_or_past (ps ++ l ∷ []) o empty (omega (arith, length_push ps l)))
 
 -- where there is none at a number it is past them all
 past_all : (app : App) (count : ℕ) → start_of app count ≡ None → object_count app ≤ count

@@ -1,10 +1,11 @@
 -- One step of a world: the entry that a call makes, and what stands behind it.
-use Rattle.std.proofs.Common.{◌≡◌, ℕ, ◌+◌, ◌-◌, ◌*◌, ◌<◌, ◌≤◌, ◌++◌, inl, inr, List, [], ◌∷◌, Bool, true, false, length, get_or, refl, sym, ap, ◌∙◌, subst, arith, append-nil}
-use Rattle.std.specs.Prelude.{All, Option, None, Some, IfSome, option_and_then, slice_set, slice_get, Result, Ok, Err, OnOk, OnErr, IsErr, IsTrue, position}
+use Rattle.std.proofs.Common.{◌≡◌, ℕ, ◌+◌, ◌-◌, ◌*◌, ◌<◌, ◌≤◌, ◌++◌, inl, inr, List, [], ◌∷◌, Bool, true, false, length, map, get_or, refl, sym, ap, ◌∙◌, subst, arith, append-nil}
+use Rattle.std.specs.Prelude.{All, Option, None, Some, is_some, IfSome, option_and_then, slice_set, slice_get, Result, Ok, Err, OnOk, OnErr, IsErr, IsTrue, position}
 use Rattle.std.proofs.lemmas.Bool.{cases_lt}
 use Rattle.std.proofs.lemmas.List.{length-set, get_or-set_same, get_or-set_other}
 use Rattle.std.proofs.Math.Nat.{le_trans, mul-le-mul_right}
 use Rattle.std.proofs.lemmas.Option.{slice_get-get_or, slice_get_within, get_or_from_slice_get}
+use Rattle.anti_ids.specs.List.{Listed}
 use Rattle.anti_ids.specs.declared.memory.NoMemory.{NoMemory}
 use Rattle.anti_kind.specs.declared.limits.TheConstants.{MOST_UNITS}
 use Rattle.anti_kind.specs.declared.call.Actor.{Actor}
@@ -32,12 +33,13 @@ use Rattle.anti_proc.specs.declared.want.End.TheVariants.{StoreFull}
 use Rattle.anti_proc.specs.declared.want.Want.{Want}
 use Rattle.anti_proc.specs.declared.want.Want.TheVariants.{Make, Over}
 use Rattle.anti_proc.specs.Calls.{WantsOfStores, IsStoreCall}
-use Rattle.anti_proc.specs.Trees.{Tree, Asks, Ends, IsAskedAt, want_of, branch}
+use Rattle.anti_proc.specs.Trees.{Tree, Asks, Ends, IsAskedAt, want_of, end_of, branch}
 use Rattle.anti_proc.proofs.StoreCalls.{next_of_stores}
 use Rattle.anti_proc.specs.Births.{birth_at}
 use Rattle.anti_proc.specs.Meaning.{tree_of, process_after}
 use Rattle.anti_proc.specs.Numbers.{inbox_number, object_count}
 use Rattle.anti_proc.specs.Standing as standing
+use Rattle.anti_proc.specs.Running.{IsRunOf}
 use Rattle.anti_proc.specs.Standing.{process_of, birth_of, full_of}
 use Rattle.anti_play.specs.declared.asked.Asked.{Asked}
 use Rattle.anti_play.specs.declared.logged.Logged.{Logged}
@@ -45,10 +47,12 @@ use Rattle.anti_play.specs.declared.outcome.Outcome.{Outcome}
 use Rattle.anti_play.specs.declared.world.World.{World}
 use Rattle.anti_play.specs.Schedule.{asked_by, carrying, next_call, clock_of, entry_of, made, made_at}
 use Rattle.anti_play.specs.Runs.{IsRun, IsBorn}
-use Rattle.anti_play.specs.Standing.{LoggedStands, MayFollow, HasRoom, IsObject, WasFull, IsEnded, IsFull, IsOutcome, IsStopped, Stops, AllStand, AllLive, Lives, LivesOn, is_named, WorldStands, Chose, Grows, MayGrow}
+use Rattle.anti_play.specs.Standing.{LoggedStands, MayFollow, HasRoom, IsObject, WasFull, IsEnded, IsFull, IsOutcome, IsStopped, Stops, AllStand, AllLive, AreBorn, born_at, Changes, Lives, LivesOn, is_named, WorldStands, Chose, Grows, MayGrow}
 use Rattle.anti_play.proofs.Growth.{made_parts, entry_follows, run_more, run_history, run_others, run_actor, run_other_actors, actor_before, decide, last_stamp_within, legal_short, history_stamps, clock_within, run_short}
 use Rattle.anti_play.proofs.Fulls.{none_fits, full_makes_none}
-use Rattle.anti_play.proofs.Lives.{GoesOn, no_more, position_set, live_set, live_born, live_went, live_kept}
+use Rattle.anti_play.specs.Runs.{GoesOn}
+use Rattle.anti_play.proofs.Lives.{no_more, position_set, live_here, live_set, live_with, live_born, live_went, live_kept}
+use Rattle.anti_play.proofs.Births.{SameBorn, is_birth_itself, no_birth, born_kept, born_more, births_set}
 
 -- ---- the last stamp of a history
 
@@ -202,22 +206,22 @@ all_kept objects e l n r is inside start stands app before all =
 
 -- there is a place and a stamp for a further entry
 pub has_room : (app : App) (objects : List Logged) (trace : List Entry) (i : ℕ) (l : Logged) (actor : Actor) (clock : ℕ)
-    → IsRun app trace → AllStand app objects trace → l ≡ get_or objects i l → i < length objects → clock ≡ clock_of actor trace → object_count app ≤ 17 → HasRoom l clock
+    → IsRun app trace → AllStand app objects trace → l ≡ get_or objects i l → i < length objects → clock ≡ clock_of actor trace → object_count app ≤ 32 → HasRoom l clock
 has_room app objects trace i l actor clock run all is inside at few =
     let it : IsObject app i l (entries_on i trace) = subst (λ (x : Logged). IsObject app i x (entries_on i trace)) (sym is) (all.each i l inside) in
     let short : length (entries_on i trace) ≤ MOST_UNITS + 1 = legal_short (object_start l.object) (entries_on i trace) it.logged.object.legal in
     let whole : length trace ≤ object_count app * (MOST_UNITS + 1) = run_short app trace run in
-    let bound : length trace ≤ 17 * 4097 = le_trans whole (mul-le-mul_right (MOST_UNITS + 1) few) in
+    let bound : length trace ≤ 32 * 4097 = le_trans whole (mul-le-mul_right (MOST_UNITS + 1) few) in
     let a : last_stamp (entries_on i trace) ≤ length trace = history_stamps app trace run i in
     let b : clock_of actor trace ≤ length trace = clock_within app trace run actor in
     record { history = entries_on i trace; stands = it.logged; place = omega arith; stamp = omega arith }
 
 pub has_room_in : (app : App) (given objects : List Logged) (trace : List Entry) (i : ℕ) (l : Logged) (actor : Actor) (clock : ℕ)
-    → IsRun app trace → AllStand app objects trace → given ≡ objects → l ≡ get_or given i l → i < length given → clock ≡ clock_of actor trace → object_count app ≤ 17 → HasRoom l clock
+    → IsRun app trace → AllStand app objects trace → given ≡ objects → l ≡ get_or given i l → i < length given → clock ≡ clock_of actor trace → object_count app ≤ 32 → HasRoom l clock
 has_room_in app given objects trace i l actor clock run all same is inside at few =
     has_room app objects trace i l actor clock run all (subst (λ (x : List Logged). l ≡ get_or x i l) same is) (subst (λ (x : List Logged). i < length x) same inside) at few
 
-pub few_objects : (app : App) → IsTrue (is_sound app) → object_count app ≤ 17
+pub few_objects : (app : App) → IsTrue (is_sound app) → object_count app ≤ 32
 few_objects app sound = let known : SoundApp app = app_known app sound in omega arith
 
 -- ---- what is asked for
@@ -276,6 +280,10 @@ module _ (app : App) (w : World) (trace : List Entry) (stands : WorldStands app 
     known = let a : e.object ≡ q.object = step.object in let b : q.object < object_count app = step.known in let count : length w.objects.items ≡ object_count app = stands.objects.count in omega arith;
   }
 
+  -- its object has a list of processes
+  pub has_list : e.object < length w.processes.items
+  has_list = let a : e.object ≡ q.object = step.object in let b : q.object < object_count app = step.known in let count : length w.processes.items ≡ object_count app = stands.lists in omega arith
+
   -- each object's history goes on
   pub goes_on : GoesOn trace (put e trace)
   goes_on o =
@@ -284,14 +292,31 @@ module _ (app : App) (w : World) (trace : List Entry) (stands : WorldStands app 
         | inr other ↦ ([], step.grows.others o other ∙ sym (append-nil (entries_on o trace)))
       ]
 
+-- the same processes stand for a trace in lists that may have more room
+kept_live : (app : App) (ps ns : List (Listed Process)) (trace : List Entry) → SameBorn ps ns → AllLive app ps trace → AllLive app ns trace
+kept_live app ps ns trace same live b =
+    subst (λ (xs : List Process). Lives app trace xs (position (is_named b) xs) (entries_by (Acting b) trace)) (sym (same.same b.object)) (live b)
+
+kept_born : (ps ns : List (Listed Process)) (trace : List Entry) → SameBorn ps ns → AreBorn ps trace → AreBorn ns trace
+kept_born ps ns trace same born o = ap (λ (xs : List Process). map birth_of xs) (same.same o) ∙ born o
+
+pub kept_stands : (app : App) (w n : World) (trace : List Entry) → WorldStands app w trace → AllStand app n.objects.items trace
+    → SameBorn w.processes.items n.processes.items → n.carrier ≡ w.carrier → WorldStands app n trace
+kept_stands app w n trace s objects same carrier = record {
+  run = s.run;
+  objects = objects;
+  lists = same.count ∙ s.lists;
+  born = kept_born w.processes.items n.processes.items trace same s.born;
+  processes = kept_live app w.processes.items n.processes.items trace same s.processes;
+  carrier = carrier ∙ s.carrier;
+}
+
 -- nothing was made, for want of memory
 pub chose_kept : (app : App) (w n : World) (trace : List Entry) (o : Option Entry) (r : Result Bool NoMemory) → IsErr r → WorldStands app w trace
-    → AllStand app n.objects.items trace → n.processes.items ≡ w.processes.items → n.carrier ≡ w.carrier → Chose app trace o r n
-chose_kept app w n trace o (Ok x) err s objects processes carrier = absurd (cc)
-chose_kept app w n trace None (Err x) err s objects processes carrier =
-    record { run = s.run; objects = objects; processes = subst (λ (ps : List Process). AllLive app ps trace) (sym processes) s.processes; carrier = carrier ∙ s.carrier }
-chose_kept app w n trace (Some e) (Err x) err s objects processes carrier =
-    record { run = s.run; objects = objects; processes = subst (λ (ps : List Process). AllLive app ps trace) (sym processes) s.processes; carrier = carrier ∙ s.carrier }
+    → AllStand app n.objects.items trace → SameBorn w.processes.items n.processes.items → n.carrier ≡ w.carrier → Chose app trace o r n
+chose_kept app w n trace o (Ok x) err s objects same carrier = absurd (cc)
+chose_kept app w n trace None (Err x) err s objects same carrier = kept_stands app w n trace s objects same carrier
+chose_kept app w n trace (Some e) (Err x) err s objects same carrier = kept_stands app w n trace s objects same carrier
 
 pub chose_made : (app : App) (n : World) (trace : List Entry) (o : Option Entry) (e : Entry) → o ≡ Some e → WorldStands app n (put e trace) → Chose app trace o (Ok true) n
 chose_made app n trace o e is s = subst (λ (x : Option Entry). Chose app trace x (Ok true) n) (sym is) (refl, s)
@@ -302,10 +327,10 @@ chose_none app w trace o is s = subst (λ (x : Option Entry). Chose app trace x 
 pub take_done : (app : App) (w n : World) (trace : List Entry) (object service nth : ℕ) (e : Entry) (p : Process)
     → WorldStands app w trace → object ≡ inbox_number app service → made_at app trace (taking object nth) ≡ Some e
     → ((before after : List Entry) → AllStand app w.objects.items before → Grows app before after e → AllStand app n.objects.items after)
-    → n.processes.items ≡ w.processes.items ++ p ∷ [] → n.carrier ≡ w.carrier
-    → process_of app p ≡ tree_of app e → standing.clock_of p ≡ e.stamp → birth_of p ≡ birth_at e → full_of p ≡ None
+    → Changes w.processes.items n.processes.items e.object (born_at w.processes.items e.object ++ p ∷ []) → n.carrier ≡ w.carrier
+    → process_of app p ≡ tree_of app e → standing.clock_of p ≡ e.stamp → birth_of p ≡ birth_at e → full_of p ≡ None → IsRunOf app p
     → Chose app trace (made_at app trace (taking (inbox_number app service) nth)) (Ok true) n
-take_done app w n trace object service nth e p s same m objects processes carrier tree clock birth full =
+take_done app w n trace object service nth e p s same m objects processes carrier tree clock birth full runs =
     let st : Stepped app trace (taking object nth) e = step app w trace s (taking object nth) tt tt e m in
     let at : e.actor ≡ Acting (birth_at e) = st.actor in
     let unborn : entries_by (Acting (birth_at e)) trace ≡ [] = s.run.unborn (birth_at e)
@@ -317,15 +342,17 @@ take_done app w n trace object service nth e p s same m objects processes carrie
     (record {
       run = st.run;
       objects = objects trace (put e trace) s.objects st.grows;
-      processes = subst (λ (ps : List Process). AllLive app ps (put e trace)) (sym processes)
-          (live_born app w.processes.items trace s.processes e (goes_on app w trace s (taking object nth) tt tt e m) st.own st.others (birth_at e) at p birth unborn tree clock full);
+      lists = processes.count ∙ s.lists;
+      born = born_more app w.processes.items trace (put e trace) e s.born st.grows n.processes.items p (is_birth_itself e at) birth processes;
+      processes = live_born app w.processes.items trace s.processes e (goes_on app w trace s (taking object nth) tt tt e m) st.own st.others (birth_at e) at p birth unborn tree clock full runs
+          n.processes.items processes;
       carrier = carrier ∙ s.carrier ∙ sym (ap (λ (x : List Entry). last_stamp x) (st.others (Carrier 0) none));
     })
 
 pub carry_done : (app : App) (w n : World) (trace : List Entry) (store : ℕ) (call : Call) (e : Entry)
     → WorldStands app w trace → IsCallOfRun call → made_at app trace (carrying store call) ≡ Some e
     → ((before after : List Entry) → AllStand app w.objects.items before → Grows app before after e → AllStand app n.objects.items after)
-    → n.processes.items ≡ w.processes.items → n.carrier ≡ e.stamp
+    → SameBorn w.processes.items n.processes.items → n.carrier ≡ e.stamp
     → Chose app trace (made_at app trace (carrying store call)) (Ok true) n
 carry_done app w n trace store call e s of_run m objects processes carrier =
     let st : Stepped app trace (carrying store call) e = step app w trace s (carrying store call) tt of_run e m in
@@ -336,7 +363,11 @@ carry_done app w n trace store call e s of_run m objects processes carrier =
     (record {
       run = st.run;
       objects = objects trace (put e trace) s.objects st.grows;
-      processes = subst (λ (ps : List Process). AllLive app ps (put e trace)) (sym processes)
+      lists = processes.count ∙ s.lists;
+      born = born_kept app w.processes.items trace (put e trace) e s.born st.grows n.processes.items
+          (no_birth e (λ is. let both : Acting (birth_at e) ≡ Carrier 0 = sym is ∙ at in absurd (cc)))
+          (λ o. ap (λ (xs : List Process). map birth_of xs) (processes.same o));
+      processes = kept_live app w.processes.items n.processes.items (put e trace) processes
           (live_kept app w.processes.items trace s.processes e (goes_on app w trace s (carrying store call) tt of_run e m) st.own st.others
           (λ b c. (let both : Acting b ≡ Carrier 0 = sym c ∙ at in absurd (cc))));
       carrier = carrier ∙ sym (last_is (entries_by (Carrier 0) trace) e before) ∙ sym (ap (λ (x : List Entry). last_stamp x) own);
@@ -344,9 +375,11 @@ carry_done app w n trace store call e s of_run m objects processes carrier =
 
 -- ---- a process
 
-store_call : (c : Call) → IsStoreCall c → IsCallOfRun c
+pub store_call : (c : Call) → IsStoreCall c → IsCallOfRun c
 store_call (calls.Write key value lineage) is = tt
 store_call (calls.Read region key) is = tt
+store_call (calls.Scan region prefix) is = tt
+store_call (calls.Poll region key) is = tt
 store_call (calls.Look region ids dry) is = tt
 store_call _ is = elim is [ ]
 
@@ -354,27 +387,53 @@ asked_at : (object span : ℕ) (call : Call) (tree : Tree) → want_of tree ≡ 
 asked_at object span call (Asks ask go) is = cc
 asked_at object span call (Ends end) is = absurd (cc)
 
+-- a copy of what was found twice
+pub copy_is : (xs : List Process) (i : ℕ) (p q r : Process) → slice_get xs i ≡ Some p → slice_get xs i ≡ Some q → r ≡ q → r ≡ p
+copy_is xs i p q r one two same = let both : Some q ≡ Some p = sym two ∙ one in cc
+
 -- what is known of the process that goes on: it is the one that was found, and this is its next call
 pub record Goes (app : App) (w : World) (b : Birth) (i : ℕ) (p : Process) (want : Want) (clock : ℕ) : Type 0 where
-  pub found : position (is_named b) w.processes.items ≡ Some i
-  pub is : slice_get w.processes.items i ≡ Some p
+  pub found : position (is_named b) (born_at w.processes.items b.object) ≡ Some i
+  pub is : slice_get (born_at w.processes.items b.object) i ≡ Some p
   pub going : full_of p ≡ None → want ≡ want_of (process_of app p)
   pub full : (at : ℕ) → full_of p ≡ Some at → want ≡ Over (StoreFull at)
   pub is_clock : clock ≡ standing.clock_of p
 
-pub goes_of : (app : App) (w : World) (b : Birth) (i : ℕ) (given : List Process) (at p : Process) (want : Want) (clock : ℕ) → given ≡ w.processes.items → position (is_named b) given ≡ Some i
-    → slice_get w.processes.items i ≡ Some at → p ≡ at → (full_of p ≡ None → want ≡ want_of (process_of app p)) → ((at : ℕ) → full_of p ≡ Some at → want ≡ Over (StoreFull at))
-    → clock ≡ standing.clock_of p → Goes app w b i p want clock
-goes_of app w b i given at p want clock items found there same going full is =
-    record { found = subst (λ (ps : List Process). position (is_named b) ps ≡ Some i) items found; is = there ∙ ap Some (sym same); going = going; full = full; is_clock = is }
+over_end : (tree : Tree) (end : End) → end_of tree ≡ Some end → want_of tree ≡ Over end
+over_end (Asks ask go) end is = absurd (cc)
+over_end (Ends last) end is = let same : last ≡ end = cc in ap Over same
+
+-- it tells that it has ended
+pub ended_goes : (app : App) (w : World) (b : Birth) (i : ℕ) (p : Process) (told : Option End) (end : End) → told ≡ Some end
+    → position (is_named b) (born_at w.processes.items b.object) ≡ Some i → slice_get (born_at w.processes.items b.object) i ≡ Some p
+    → (full_of p ≡ None → told ≡ end_of (process_of app p)) → ((at : ℕ) → full_of p ≡ Some at → told ≡ Some (StoreFull at))
+    → Goes app w b i p (Over end) (standing.clock_of p)
+ended_goes app w b i p told end is found there going full = record {
+  found = found;
+  is = there;
+  going = λ none. sym (over_end (process_of app p) end (sym (going none) ∙ is));
+  full = λ at at_is. let both : Some end ≡ Some (StoreFull at) = sym is ∙ full at at_is in let same : end ≡ StoreFull at = cc in ap Over same;
+  is_clock = refl;
+}
+
+-- which end it tells
+pub which_end : (told : Option End) → is_some told ≡ true → (end : End) × (told ≡ Some end)
+which_end None is = absurd (cc)
+which_end (Some end) is = (end, refl)
 
 module _ (app : App) (w : World) (trace : List Entry) (b : Birth) (i : ℕ) (p : Process) (want : Want) (clock : ℕ) (s : WorldStands app w trace) (g : Goes app w b i p want clock) where
-  at_p : (d : Process) → get_or w.processes.items i d ≡ p
-  at_p d = get_or_from_slice_get w.processes.items i p d g.is
+  abbrev ps : List Process
+  ps = born_at w.processes.items b.object
+
+  at_p : (d : Process) → get_or ps i d ≡ p
+  at_p d = get_or_from_slice_get ps i p d g.is
 
   on_p : LivesOn app trace p (entries_by (Acting b) trace)
   on_p = subst (λ (x : Process). LivesOn app trace x (entries_by (Acting b) trace)) (at_p p)
-      ((subst (λ (o : Option ℕ). Lives app trace w.processes.items o (entries_by (Acting b) trace)) g.found (s.processes b)) p)
+      ((subst (λ (o : Option ℕ). Lives app trace ps o (entries_by (Acting b) trace)) g.found (s.processes b)) p)
+
+  pub goes_run : IsRunOf app p
+  goes_run = on_p.run
 
   pub goes_clock : clock ≡ clock_of (Acting b) trace
   goes_clock = g.is_clock ∙ on_p.clock
@@ -406,13 +465,22 @@ module _ (app : App) (w : World) (trace : List Entry) (b : Birth) (i : ℕ) (p :
     asks_next : option_and_then (made_at app trace) (next_call app trace b) ≡ made_at app trace (going b object span call)
     asks_next = ap (λ (x : Want). option_and_then (made_at app trace) (asked_by b x)) left_is
 
+    -- it was born before
+    was_born : (e : Entry) → e.place ≡ length (entries_on object trace) + 1 → e.object ≡ object → b ≡ birth_at e → ⊥
+    was_born e place at same = goes_born (s.run.unborn b
+        (subst (λ (x : Birth). length (entries_on x.object trace) < x.place) (sym same)
+        (subst (λ (o : ℕ). length (entries_on o trace) < e.place) (sym at) (omega arith))))
+
     -- it made the call
-    pub go_done : (n : World) (e : Entry) (then : Process) → made_at app trace (going b object span call) ≡ Some e
+    pub go_done : (n : World) (e : Entry) (q : Process) (then : Process) → q ≡ p → made_at app trace (going b object span call) ≡ Some e
         → ((before after : List Entry) → AllStand app w.objects.items before → Grows app before after e → AllStand app n.objects.items after)
-        → n.processes.items ≡ slice_set w.processes.items i then → n.carrier ≡ w.carrier
-        → process_of app then ≡ branch (process_of app p) e.reply → standing.clock_of then ≡ e.stamp → birth_of then ≡ birth_of p → full_of then ≡ full_of p
+        → Changes w.processes.items n.processes.items b.object (slice_set ps i then) → n.carrier ≡ w.carrier
+        → process_of app then ≡ branch (process_of app q) e.reply → standing.clock_of then ≡ e.stamp → birth_of then ≡ birth_of q → full_of then ≡ full_of q → IsRunOf app then
         → Chose app trace (option_and_then (made_at app trace) (next_call app trace b)) (Ok true) n
-    go_done n e then m objects processes carrier tree at birth full =
+    go_done n e q then same m objects processes carrier goes at named left_full runs =
+        let tree : process_of app then ≡ branch (process_of app p) e.reply = goes ∙ ap (λ (x : Process). branch (process_of app x) e.reply) same in
+        let birth : birth_of then ≡ birth_of p = named ∙ ap (λ (x : Process). birth_of x) same in
+        let full : full_of then ≡ full_of p = left_full ∙ ap (λ (x : Process). full_of x) same in
         let st : Stepped app trace (going b object span call) e = step app w trace s (going b object span call) goes_born goes_call e m in
         let actor : e.actor ≡ Acting b = st.actor in
         let before : All (λ d. d.stamp < e.stamp) (entries_by (Acting b) trace) = subst (λ (a : Actor). All (λ d. d.stamp < e.stamp) (entries_by a trace)) actor st.before in
@@ -421,10 +489,14 @@ module _ (app : App) (w : World) (trace : List Entry) (b : Birth) (i : ℕ) (p :
         (record {
           run = st.run;
           objects = objects trace (put e trace) s.objects st.grows;
-          processes = subst (λ (ps : List Process). AllLive app ps (put e trace)) (sym processes)
-              (live_went app w.processes.items trace s.processes e (goes_on app w trace s (going b object span call) goes_born goes_call e m) st.own st.others b actor then i g.found
+          lists = processes.count ∙ s.lists;
+          born = born_kept app w.processes.items trace (put e trace) e s.born st.grows n.processes.items
+              (no_birth e (λ is. was_born e st.place st.object (let both : Acting b ≡ Acting (birth_at e) = sym actor ∙ is in cc)))
+              (births_set w.processes.items n.processes.items b i then processes (λ d. birth ∙ ap (λ (x : Process). birth_of x) (sym (at_p d))));
+          processes = live_went app w.processes.items trace s.processes e (goes_on app w trace s (going b object span call) goes_born goes_call e m) st.own st.others b actor then i g.found
               (λ d. birth ∙ ap (λ (x : Process). birth_of x) (sym (at_p d)))
-              (λ d. tree ∙ ap (λ (x : Process). branch (process_of app x) e.reply) (sym (at_p d))) at (full ∙ not_full) before);
+              (λ d. tree ∙ ap (λ (x : Process). branch (process_of app x) e.reply) (sym (at_p d))) at (full ∙ not_full) before runs
+              n.processes.items processes;
           carrier = carrier ∙ s.carrier ∙ sym (ap (λ (x : List Entry). last_stamp x) (st.others (Carrier 0) none));
         })
 
@@ -444,22 +516,28 @@ module _ (app : App) (w : World) (trace : List Entry) (b : Birth) (i : ℕ) (p :
       was_full = full.is_full;
     }
 
-    pub go_ended : (n : World) (then : Process) → (made_at app trace (going b object span call) ≡ None) × IsFull app trace (going b object span call)
-        → n.objects.items ≡ w.objects.items → n.processes.items ≡ slice_set w.processes.items i then → n.carrier ≡ w.carrier
-        → process_of app then ≡ process_of app p → standing.clock_of then ≡ standing.clock_of p → birth_of then ≡ birth_of p → full_of then ≡ Some object
+    pub go_ended : (n : World) (q then : Process) → q ≡ p → (made_at app trace (going b object span call) ≡ None) × IsFull app trace (going b object span call)
+        → n.objects.items ≡ w.objects.items → Changes w.processes.items n.processes.items b.object (slice_set ps i then) → n.carrier ≡ w.carrier
+        → process_of app then ≡ process_of app q → standing.clock_of then ≡ standing.clock_of q → birth_of then ≡ birth_of q → full_of then ≡ Some object → (IsRunOf app q → IsRunOf app then)
         → Chose app trace (option_and_then (made_at app trace) (next_call app trace b)) (Ok false) n
-    go_ended n then full objects processes carrier tree at birth ended =
+    go_ended n q then same full objects processes carrier does stamp named ended runs =
+        let tree : process_of app then ≡ process_of app p = does ∙ ap (process_of app) same in
+        let at : standing.clock_of then ≡ standing.clock_of p = stamp ∙ ap (λ (x : Process). standing.clock_of x) same in
+        let birth : birth_of then ≡ birth_of p = named ∙ ap (λ (x : Process). birth_of x) same in
         chose_none app n trace (option_and_then (made_at app trace) (next_call app trace b)) (asks_next ∙ full.0)
         (record {
           run = s.run;
           objects = subst (λ (os : List Logged). AllStand app os trace) (sym objects) s.objects;
-          processes = subst (λ (ps : List Process). AllLive app ps trace) (sym processes)
-              (live_set app trace trace (no_more trace) w.processes.items s.processes b (λ c off. refl) then i g.found
+          lists = processes.count ∙ s.lists;
+          born = λ o. births_set w.processes.items n.processes.items b i then processes (λ d. birth ∙ ap (λ (x : Process). birth_of x) (sym (at_p d))) o ∙ s.born o;
+          processes = live_with app trace trace (no_more trace) w.processes.items n.processes.items (slice_set ps i then) b s.processes processes (λ c off. refl)
+              (live_set app trace trace (no_more trace) ps b (live_here app w.processes.items trace s.processes b.object) (λ c off. refl) then i g.found
               (λ d. birth ∙ ap (λ (x : Process). birth_of x) (sym (at_p d)))
               (record {
                 birth = on_p.birth;
                 later = on_p.later;
                 entries_are = on_p.entries_are;
+                run = runs (subst (IsRunOf app) (sym same) on_p.run);
                 tree = tree ∙ on_p.tree;
                 clock = at ∙ on_p.clock;
                 full = subst (λ (o : Option ℕ). IfSome o (IsEnded app trace left)) (sym ended)
@@ -472,22 +550,24 @@ module _ (app : App) (w : World) (trace : List Entry) (b : Birth) (i : ℕ) (p :
     is_going : (q : Asked) → next_call app trace b ≡ Some q → q ≡ going b object span call
     is_going q next = let both : Some q ≡ Some (going b object span call) = sym next ∙ ap (asked_by b) left_is in cc
 
-    pub stops_made : (ps : List Process) (e : Entry) → made_at app trace (going b object span call) ≡ Some e → Stops app trace b ps
-    stops_made ps e m q next full =
+    pub stops_made : (ns : List (Listed Process)) (e : Entry) → made_at app trace (going b object span call) ≡ Some e → Stops app trace b ns
+    stops_made ns e m q next full =
         let at : IsFull app trace (going b object span call) = subst (IsFull app trace) (is_going q next) full in
         let none : made_at app trace (going b object span call) ≡ None = none_fits app trace (going b object span call) at.start at.there at.is_full in
         absurd (let both : None ≡ Some e = sym none ∙ m in cc)
 
-    pub stops_waits : (ps : List Process) → (IsFull app trace (going b object span call) → ⊥) → Stops app trace b ps
-    stops_waits ps not q next full = absurd (not (subst (IsFull app trace) (is_going q next) full))
+    pub stops_waits : (ns : List (Listed Process)) → (IsFull app trace (going b object span call) → ⊥) → Stops app trace b ns
+    stops_waits ns not q next full = absurd (not (subst (IsFull app trace) (is_going q next) full))
 
-    pub stops_ended : (ps : List Process) (then : Process) → ps ≡ slice_set w.processes.items i then → birth_of then ≡ birth_of p → full_of then ≡ Some object → Stops app trace b ps
-    stops_ended ps then processes birth ended q next full =
-        let at : position (is_named b) (slice_set w.processes.items i then) ≡ Some i =
-        position_set (is_named b) w.processes.items i then then (ap (λ (x : Birth). same_actor (Acting b) (Acting x)) (birth ∙ ap (λ (x : Process). birth_of x) (sym (at_p then)))) ∙ g.found in
-        let within : i < length w.processes.items = slice_get_within w.processes.items i p g.is in
-        subst (λ (x : List Process). IsStopped x (position (is_named b) x)) (sym processes)
-        (subst (IsStopped (slice_set w.processes.items i then)) (sym at) (λ d. (object, ap full_of (get_or-set_same w.processes.items i then d within) ∙ ended)))
+    pub stops_ended : (ns : List (Listed Process)) (q then : Process) → q ≡ p → Changes w.processes.items ns b.object (slice_set ps i then) → birth_of then ≡ birth_of q → full_of then ≡ Some object
+        → Stops app trace b ns
+    stops_ended ns given then same processes named ended q next full =
+        let birth : birth_of then ≡ birth_of p = named ∙ ap (λ (x : Process). birth_of x) same in
+        let at : position (is_named b) (slice_set ps i then) ≡ Some i =
+        position_set (is_named b) ps i then then (ap (λ (x : Birth). same_actor (Acting b) (Acting x)) (birth ∙ ap (λ (x : Process). birth_of x) (sym (at_p then)))) ∙ g.found in
+        let within : i < length ps = slice_get_within ps i p g.is in
+        subst (λ (x : List Process). IsStopped x (position (is_named b) x)) (sym processes.here_are)
+        (subst (IsStopped (slice_set ps i then)) (sym at) (λ d. (object, ap full_of (get_or-set_same ps i then d within) ∙ ended)))
 
   -- it has ended: there is no further call, or one that did not fit
   none_left : IsTrue (is_sound app) → (x : Want) (at : ℕ) → IsEnded app trace x at → option_and_then (made_at app trace) (asked_by b x) ≡ None
@@ -506,20 +586,33 @@ module _ (app : App) (w : World) (trace : List Entry) (b : Birth) (i : ℕ) (p :
   stops_by end over None is q next full =
       absurd (let none : next_call app trace b ≡ None = ap (asked_by b) (sym (ap want_of on_p.tree) ∙ sym (g.going is) ∙ over) in let both : None ≡ Some q = sym none ∙ next in cc)
   stops_by end over (Some at) is q next full =
-      subst (IsStopped w.processes.items) (sym g.found) (λ d. (at, ap full_of (at_p d) ∙ is))
+      subst (IsStopped ps) (sym g.found) (λ d. (at, ap full_of (at_p d) ∙ is))
 
   pub stops_over : (end : End) → want ≡ Over end → Stops app trace b w.processes.items
   stops_over end over = stops_by end over (full_of p) refl
 
 -- a process that is not there asks for nothing
-pub stops_none : (app : App) (w : World) (trace : List Entry) (b : Birth) (given ps : List Process) → WorldStands app w trace → given ≡ w.processes.items
-    → position (is_named b) given ≡ None → Stops app trace b ps
-stops_none app w trace b given ps s same none q next full =
-    let absent : position (is_named b) w.processes.items ≡ None = subst (λ (xs : List Process). position (is_named b) xs ≡ None) same none in
-    let unborn : entries_by (Acting b) trace ≡ [] = subst (λ (o : Option ℕ). Lives app trace w.processes.items o (entries_by (Acting b) trace)) absent (s.processes b) in
-    absurd (let nothing : next_call app trace b ≡ None = ap (λ (es : List Entry). asked_by b (want_of (process_after app es))) unborn in let both : None ≡ Some q = sym nothing ∙ next in cc)
+module _ (app : App) (w : World) (trace : List Entry) (b : Birth) (s : WorldStands app w trace) (absent : position (is_named b) (born_at w.processes.items b.object) ≡ None) where
+  next_none : next_call app trace b ≡ None
+  next_none =
+      let unborn : entries_by (Acting b) trace ≡ [] = subst (λ (o : Option ℕ). Lives app trace (born_at w.processes.items b.object) o (entries_by (Acting b) trace)) absent (s.processes b) in
+      ap (λ (es : List Entry). asked_by b (want_of (process_after app es))) unborn
+
+  pub none_goes : Chose app trace (option_and_then (made_at app trace) (next_call app trace b)) (Ok false) w
+  none_goes = chose_none app w trace (option_and_then (made_at app trace) (next_call app trace b)) (ap (option_and_then (made_at app trace)) next_none) s
+
+  pub stops_none : Stops app trace b w.processes.items
+  stops_none q next full = absurd (let both : None ≡ Some q = sym next_none ∙ next in cc)
 
 -- a take names a service that is there
+-- reposts and pulls are not built yet
+pub none_such : (app : App) (choice built : Choice) → choice ≡ built
+    → IsTrue (is_sound_choice (length app.regions.items) (length app.stores.items) (length app.services.items) choice)
+    → SoundChoice (length app.regions.items) (length app.stores.items) (length app.services.items) built
+none_such app choice built is sound =
+    subst (SoundChoice (length app.regions.items) (length app.stores.items) (length app.services.items)) is
+    (choice_known (length app.regions.items) (length app.stores.items) (length app.services.items) choice sound)
+
 pub take_named : (app : App) (choice : Choice) (service nth : ℕ) → choice ≡ choices.Take service nth
     → IsTrue (is_sound_choice (length app.regions.items) (length app.stores.items) (length app.services.items) choice) → service < length app.services.items
 take_named app choice service nth is sound =

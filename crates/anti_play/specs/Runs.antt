@@ -1,5 +1,5 @@
 -- What is true of each trace that choices have made.
-use Rattle.std.specs.Prelude.{◌≡◌, ℕ, ◌<◌, ◌≤◌, List, [], length, All, Some}
+use Rattle.std.specs.Prelude.{◌≡◌, ℕ, ◌<◌, ◌≤◌, List, [], ◌++◌, length, All, Some}
 use Rattle.anti_kind.specs.declared.call.Actor.{Actor}
 use Rattle.anti_kind.specs.declared.call.Actor.TheVariants.{Process}
 use Rattle.anti_kind.specs.declared.call.Birth.{Birth}
@@ -24,6 +24,10 @@ pub record IsRun (app : App) (trace : List Entry) : Type 0 where
   pub calls : All (λ e. IsCallOfRun e.call) trace
   pub stamps : All (λ e. e.stamp ≤ length trace) trace
   pub unborn : (b : Birth) → length (entries_on b.object trace) < b.place → entries_by (Process b) trace ≡ []
+
+-- the history of each object goes on from what it was
+abbrev pub GoesOn : List Entry → List Entry → Type 0
+GoesOn before after = (o : ℕ) → (rest : List Entry) × (entries_on o after ≡ entries_on o before ++ rest)
 
 -- a process that acts is born already; a carrier is always there, and a newborn process is yet to be born
 abbrev pub IsBorn : Actor → List Entry → Type 0

@@ -1,5 +1,11 @@
--- The run that an application's choices make: each makes one entry or none.
-use Rattle.std.specs.Prelude.{ℕ, ◌+◌, max, suc, ◌&&◌, List, [], ◌∷◌, ◌++◌, length, Option, None, Some, option_and_then, unwrap_or, if◌then◌else◌}
+-- The run that an application's choices make: each makes one entry or none, but `finish` makes all that can still be made.
+use Rattle.std.specs.Prelude.{ℕ, ◌≡◌, ◌+◌, ◌*◌, max, suc, zero, ◌&&◌, List, [], ◌∷◌, ◌++◌, length, map, flat_map, All, Option, None, Some, option_and_then, unwrap_or, if◌then◌else◌}
+use Rattle.std.specs.List.{range_with_len}
+use Rattle.std.specs.Option.{option_or, option_map_or}
+use Rattle.anti_kind.specs.declared.limits.TheConstants.{MOST_UNITS}
+use Rattle.anti_kind.specs.declared.call.Row.{Row}
+use Rattle.anti_kind.specs.declared.call.StoreKind.{StoreKind}
+use Rattle.anti_kind.specs.Stored.{rows, parts}
 use Rattle.anti_kind.specs.declared.call.Actor.{Actor}
 use Rattle.anti_kind.specs.declared.call.Actor.TheVariants.{Carrier, Process, Newborn}
 use Rattle.anti_kind.specs.declared.call.Birth.{Birth}
@@ -7,18 +13,19 @@ use Rattle.anti_kind.specs.declared.call.Call.{Call}
 use Rattle.anti_kind.specs.declared.call.Call.TheVariants as calls
 use Rattle.anti_kind.specs.declared.call.Entry.{Entry}
 use Rattle.anti_kind.specs.declared.call.Reply.{Reply}
-use Rattle.anti_kind.specs.Objects.{Start, ready, due, fits, last_stamp}
+use Rattle.anti_kind.specs.Objects.{Start, store, inbox, ready, due, fits, last_stamp}
 use Rattle.anti_kind.specs.Ports.{named}
 use Rattle.anti_app.specs.declared.app.App.{App}
 use Rattle.anti_app.specs.declared.app.Choice.{Choice}
-use Rattle.anti_app.specs.declared.app.Choice.TheVariants.{Take, Ship, Again, Go}
+use Rattle.anti_app.specs.declared.app.Choice.TheVariants.{Take, Repost, Pull, Repull, Ship, Again, Go, Finish}
 use Rattle.anti_object.specs.Starts.{start_of}
 use Rattle.anti_play.specs.declared.asked.Asked.{Asked}
 use Rattle.anti_trace.specs.Traces.{entries_on, entries_by, put}
 use Rattle.anti_proc.specs.declared.want.Want.{Want}
 use Rattle.anti_proc.specs.declared.want.Want.TheVariants.{Make, Over}
 use Rattle.anti_proc.specs.Trees.{want_of}
-use Rattle.anti_proc.specs.Numbers.{inbox_number}
+use Rattle.anti_proc.specs.Births.{births}
+use Rattle.anti_proc.specs.Numbers.{inbox_number, object_count}
 use Rattle.anti_proc.specs.Meaning.{process_after}
 
 -- What a choice asks for.
@@ -42,6 +49,11 @@ asked app trace (Take service nth) =
 asked app trace (Ship store_number region version part) = Some (carrying store_number (calls.Ship region version (unwrap_or part 1)))
 asked app trace (Again store_number region version part) = Some (carrying store_number (calls.Again region version (unwrap_or part 1)))
 asked app trace (Go object place) = next_call app trace (record { object = object; place = place })
+asked app trace Finish = None
+-- these are not built yet, and no application has one
+asked app trace (Repost service number) = None
+asked app trace (Pull sub) = None
+asked app trace (Repull sub version) = None
 
 -- The entry that it makes.
 
@@ -79,7 +91,74 @@ made_at app trace q = option_and_then (λ start. made start (entries_on q.object
 abbrev pub chosen : App → List Entry → Choice → Option Entry
 chosen app trace choice = option_and_then (made_at app trace) (asked app trace choice)
 
--- The run of all choices: what each makes is put into the trace at its place, and one that makes nothing is a wait.
+-- What `finish` tries, in this order.
+
+-- the numbers of the objects: first the stores, then the inboxes of the services
+abbrev pub objects : App → List ℕ
+objects app = range_with_len 0 (object_count app)
+
+-- the next call of the process that an entry started
+abbrev pub go_of : Entry → Choice
+go_of birth = Go birth.object birth.place
+
+-- of each process, ascending by the object and the place of its birth
+abbrev pub goes : App → List Entry → List Choice
+goes app trace = flat_map (λ o. map go_of (births (entries_on o trace))) (objects app)
+
+-- the first free delivery of a service
+abbrev pub take_of : ℕ → Choice
+take_of service = Take service 1
+
+-- of each service, in their order
+abbrev pub takes : App → List Choice
+takes app = map take_of (range_with_len 0 (length app.services.items))
+
+-- the shipments of a row to a region: one for each of its parts
+abbrev pub ships_of : StoreKind → ℕ → ℕ → Row → List Choice
+ships_of kind o region r = map (λ part. Ship o region r.version (Some part)) (parts kind r)
+
+-- of all that was written, ascending by version and part
+abbrev pub ships_to : StoreKind → ℕ → List Entry → ℕ → List Choice
+ships_to kind o history region = flat_map (ships_of kind o region) (rows history)
+
+-- to each replica of a store, in their order
+abbrev pub ships_at : ℕ → List Entry → Start → List Choice
+ships_at o history (store s) = flat_map (ships_to s.kind o history) s.regions
+ships_at o history (inbox requests) = []
+
+-- of each store, in their order
+abbrev pub ships : App → List Entry → List Choice
+ships app trace = flat_map (λ o. option_map_or (ships_at o (entries_on o trace)) (start_of app o) []) (range_with_len 0 (length app.stores.items))
+
+-- all of them
+abbrev pub offers : App → List Entry → List Choice
+offers app trace = goes app trace ++ (takes app ++ ships app trace)
+
+-- What `finish` makes: the first of them that makes an entry makes it, again and again, until none makes one.
+
+-- the first entry that there is for one of some items
+abbrev pub first_of : {T : Type 0} → (T → Option Entry) → List T → Option Entry
+first_of entry [] = None
+first_of entry (x ∷ later) = option_or (entry x) (first_of entry later)
+
+abbrev pub first_made : App → List Entry → Option Entry
+first_made app trace = first_of (chosen app trace) (offers app trace)
+
+-- the trace after so many turns, or after fewer, where then none is left to make
+unfoldable pub after_turns : ℕ → App → List Entry → List Entry
+after_turns zero app trace = trace
+after_turns (suc more) app trace = option_map_or (λ e. after_turns more app (put e trace)) (first_made app trace) trace
+
+-- Each turn adds an entry, and no object has more entries than units. So that many turns are enough.
+unfoldable pub finished : App → List Entry → List Entry
+finished app trace = after_turns (object_count app * MOST_UNITS) app trace
+
+-- nothing is left to make
+abbrev pub IsComplete : App → List Entry → Type 0
+IsComplete app trace = All (λ choice. chosen app trace choice ≡ None) (offers app trace)
+
+-- The run of all choices: what each makes is put into the trace at its place, and one that makes nothing is a wait. The choice
+-- `finish` is never a wait.
 
 -- a trace, and the numbers of the choices that were waits
 pub record Run : Type 0 where
@@ -90,10 +169,14 @@ abbrev pub turned : Run → ℕ → Option Entry → Run
 turned run number None = record { trace = run.trace; waits = run.waits ++ number ∷ [] }
 turned run number (Some e) = record { trace = put e run.trace; waits = run.waits }
 
+abbrev pub stepped : App → Run → ℕ → Choice → Run
+stepped app run number Finish = record { trace = finished app run.trace; waits = run.waits }
+stepped app run number choice = turned run number (chosen app run.trace choice)
+
 -- the choices from a number on
 abbrev pub run_from : App → Run → ℕ → List Choice → Run
 run_from app run number [] = run
-run_from app run number (choice ∷ choices) = run_from app (turned run number (chosen app run.trace choice)) (suc number) choices
+run_from app run number (choice ∷ choices) = run_from app (stepped app run number choice) (suc number) choices
 
 -- choices are counted from 1
 abbrev pub played : App → Run

@@ -1,5 +1,5 @@
 -- How the objects and the processes of a world stand for a trace.
-use Rattle.std.specs.Prelude.{◌≡◌, ℕ, ◌+◌, ◌^◌, ◌<◌, max, Bool, true, false, List, [], ◌∷◌, length, slice_index_or, Option, None, Some, IfSome, position, Result, MatchResult, ◌++◌}
+use Rattle.std.specs.Prelude.{◌≡◌, ℕ, ◌+◌, ◌^◌, ◌<◌, max, Bool, true, false, List, [], ◌∷◌, length, map, slice_index_or, Option, None, Some, IfSome, position, Result, MatchResult, ◌++◌}
 use Rattle.anti_kind.specs.declared.call.Actor.{Actor}
 use Rattle.anti_kind.specs.declared.call.Actor.TheVariants.{Carrier, Process as Acting}
 use Rattle.anti_kind.specs.declared.call.Birth.{Birth}
@@ -15,7 +15,10 @@ use Rattle.anti_proc.specs.Meaning.{process_after}
 use Rattle.anti_proc.specs.declared.want.Want.{Want}
 use Rattle.anti_proc.specs.declared.want.Want.TheVariants.{Make, Over}
 use Rattle.anti_proc.specs.Trees.{want_of}
+use Rattle.anti_proc.specs.Running.{IsRunOf}
 use Rattle.anti_proc.specs.Standing as standing
+use Rattle.anti_proc.specs.Births.{birth_at, births}
+use Rattle.anti_ids.specs.List.{Listed, empty}
 use Rattle.anti_ids.specs.declared.memory.NoMemory.{NoMemory}
 use Rattle.anti_object.specs.Starts.{start_of}
 use Rattle.anti_object.specs.Standing.{object_start, ObjectAt}
@@ -73,6 +76,7 @@ pub record LivesOn (app : App) (trace : List Entry) (p : Process) (entries : Lis
   pub birth : Entry
   pub later : List Entry
   pub entries_are : entries ≡ birth ∷ later
+  pub run : IsRunOf app p
   pub tree : standing.process_of app p ≡ process_after app entries
   pub clock : standing.clock_of p ≡ last_stamp entries
   pub full : IfSome (standing.full_of p) (IsEnded app trace (want_of (process_after app entries)))
@@ -82,8 +86,26 @@ abbrev pub Lives : App → List Entry → List Process → Option ℕ → List E
 Lives app trace ps None entries = entries ≡ []
 Lives app trace ps (Some i) entries = (d : Process) → LivesOn app trace (slice_index_or ps i d) entries
 
-abbrev pub AllLive : App → List Process → List Entry → Type 0
-AllLive app ps trace = (b : Birth) → Lives app trace ps (position (is_named b) ps) (entries_by (Acting b) trace)
+-- the processes that were born at an object, of those of all objects
+abbrev pub born_at : List (Listed Process) → ℕ → List Process
+born_at ps o = (slice_index_or ps o empty).items
+
+abbrev pub AllLive : App → List (Listed Process) → List Entry → Type 0
+AllLive app ps trace = (b : Birth) → Lives app trace (born_at ps b.object) (position (is_named b) (born_at ps b.object)) (entries_by (Acting b) trace)
+
+-- those of each object are named by the births of its history, in their order
+abbrev pub AreBorn : List (Listed Process) → List Entry → Type 0
+AreBorn ps trace = (o : ℕ) → map standing.birth_of (born_at ps o) ≡ map birth_at (births (entries_on o trace))
+
+-- there is room for one more at an object
+abbrev pub HasSpare : List (Listed Process) → ℕ → Type 0
+HasSpare ps o = 0 < (slice_index_or ps o empty).spare
+
+-- the processes of one object have changed to these
+pub record Changes (before after : List (Listed Process)) (o : ℕ) (here : List Process) : Type 0 where
+  pub count : length after ≡ length before
+  pub here_are : born_at after o ≡ here
+  pub others : (k : ℕ) → (o ≡ k → ⊥) → born_at after k ≡ born_at before k
 
 -- ---- worlds
 
@@ -100,6 +122,8 @@ pub record AllStand (app : App) (objects : List Logged) (trace : List Entry) : T
 pub record WorldStands (app : App) (w : World) (trace : List Entry) : Type 0 where
   pub run : IsRun app trace
   pub objects : AllStand app w.objects.items trace
+  pub lists : length w.processes.items ≡ object_count app
+  pub born : AreBorn w.processes.items trace
   pub processes : AllLive app w.processes.items trace
   pub carrier : w.carrier ≡ last_stamp (entries_by (Carrier 0) trace)
 
@@ -132,11 +156,12 @@ IsStopped ps None = ⊥
 IsStopped ps (Some i) = (d : Process) → (at : ℕ) × (standing.full_of (slice_index_or ps i d) ≡ Some at)
 
 -- A process whose next call is ready and does not fit is ended.
-abbrev pub Stops : App → List Entry → Birth → List Process → Type 0
-Stops app trace b ps = (q : Asked) → next_call app trace b ≡ Some q → IsFull app trace q → IsStopped ps (position (is_named b) ps)
+abbrev pub Stops : App → List Entry → Birth → List (Listed Process) → Type 0
+Stops app trace b ps =
+    (q : Asked) → next_call app trace b ≡ Some q → IsFull app trace q → IsStopped (born_at ps b.object) (position (is_named b) (born_at ps b.object))
 
 -- the process that a choice names, where it names one
-abbrev pub StopsBy : App → List Entry → Choice → List Process → Type 0
+abbrev pub StopsBy : App → List Entry → Choice → List (Listed Process) → Type 0
 StopsBy app trace (Go object place) ps = Stops app trace (record { object = object; place = place }) ps
 StopsBy app trace _ ps = Unit {0}
 

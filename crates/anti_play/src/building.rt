@@ -2,10 +2,10 @@ ghost use Rattle.std.specs.Prelude.{◌≡◌, ◌++◌, ◌∷◌, [], IfOk, On
 ghost use Rattle.anti_app.specs.Sound.{is_sound};
 ghost use Rattle.anti_proc.specs.Numbers.{object_count};
 ghost use Rattle.anti_play.specs.Standing.{WorldStands};
-ghost use Rattle.anti_play.specs.Closing.{AreFirst};
+ghost use Rattle.anti_play.specs.Closing.{AreFirst, NoneBorn};
 
 use crate::logged::Logged;
-use crate::world::World;
+use crate::world::{Processes, World};
 use anti_app::App;
 use anti_ids::{List, NoMemory};
 use anti_object::Object;
@@ -17,9 +17,11 @@ impl World {
         requires { IsTrue (is_sound app.now) }
         ensures { IfOk result (λ w. WorldStands app.now w []) }
     {
+        let objects = objects(alloc, app)?;
+        let processes = no_processes(alloc, objects.len())?;
         Ok(World {
-            objects: objects(alloc, app)?,
-            processes: List::new(alloc),
+            objects,
+            processes,
             carrier: 0,
             alloc,
         })
@@ -36,6 +38,20 @@ fn objects(alloc: Global, app: &App) -> Result<Vec<Logged>, NoMemory>
         keep(&mut objects, Logged::new(alloc, object))?;
     }
     Ok(objects)
+}
+
+// For each of so many objects the processes that were born at it: none.
+fn no_processes(alloc: Global, count: usize) -> Result<Vec<Processes>, NoMemory>
+    ensures { IfOk result (λ v. NoneBorn count v.items) }
+{
+    let mut processes = Vec::new(alloc);
+    for _ in 0..count {
+        match processes.push(List::new(alloc)) {
+            Ok(()) => {}
+            Err(_) => return Err(NoMemory),
+        }
+    }
+    Ok(processes)
 }
 
 // One object more at the end.

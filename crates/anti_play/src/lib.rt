@@ -3,11 +3,15 @@
 
 mod asked;
 mod building;
+mod finish;
+mod laws;
 mod logged;
 mod outcome;
 mod player;
+mod route;
 mod tracing;
 mod world;
 
+pub use laws::finish_completes;
 pub use player::{Played, Waits, play};
 pub use world::World;

@@ -1,11 +1,13 @@
-ghost use Rattle.std.specs.Prelude.{◌≡◌, IfOk, IsTrue};
+ghost use Rattle.std.specs.Prelude.{◌≡◌, ℕ, length, IfOk, IsTrue};
 ghost use Rattle.anti_ids.specs.List.{plain};
-ghost use Rattle.anti_app.specs.Sound.{is_sound};
-ghost use Rattle.anti_play.specs.Schedule.{trace_of, waits_of};
+ghost use Rattle.anti_app.specs.Sound.{is_sound, is_sound_choice};
+ghost use Rattle.anti_play.specs.Schedule.{Run, trace_of, waits_of};
 ghost use Rattle.anti_play.specs.Runs.{IsRun};
+ghost use Rattle.anti_play.specs.Standing.{IsWorldOf, WorldStands};
+ghost use Rattle.anti_play.specs.Closing.{Steps};
 
 use crate::world::World;
-use anti_app::App;
+use anti_app::{App, Choice};
 use anti_ids::{List, NoMemory};
 use anti_trace::Trace;
 use std::alloc::Global;
@@ -22,6 +24,25 @@ pub struct Played {
     pub waits: Waits,
 }
 
+impl World {
+    // Makes a choice, and tells whether it was no wait.
+    fn make(&mut self, app: &App, choice: &Choice) -> Result<bool, NoMemory>
+        requires sound { IsTrue (is_sound app.now) }
+        requires named { IsTrue (is_sound_choice (length app.now.regions.items) (length app.now.stores.items) (length app.now.services.items) choice.now) }
+        requires world { IsWorldOf app.now self.old }
+        ensures { (run : Run) (number : ℕ) → WorldStands app.now self.old run.trace
+            → IfOk result (λ made. Steps app.now run number choice.now made self.new) }
+    {
+        match choice {
+            Choice::Finish => {
+                self.finish(app)?;
+                Ok(true)
+            }
+            _ => self.choose(app, choice),
+        }
+    }
+}
+
 /// Makes all choices of a sound application, in their order.
 pub fn play(alloc: Global, app: &App) -> Result<Played, NoMemory>
     requires { IsTrue (is_sound app.now) }
@@ -32,7 +53,7 @@ pub fn play(alloc: Global, app: &App) -> Result<Played, NoMemory>
     let mut world = World::new(alloc, app)?;
     let mut waits = List::new(alloc);
     for (before, choice) in app.choices.as_slice().iter().enumerate() {
-        if !world.choose(app, choice)? {
+        if !world.make(app, choice)? {
             waits.reserve(1)?;
             waits.put(before as u32 + 1);
         }

@@ -1,10 +1,10 @@
-ghost use Rattle.std.specs.Prelude.{◌≡◌, ◌+◌, ◌<◌, ◌^◌, true, length, vec_len, slice_index_or, position, [], ◌∷◌, Option, Some, IfOk, OnOk, OnErr, IsTrue};
+ghost use Rattle.std.specs.Prelude.{◌≡◌, ◌+◌, ◌<◌, ◌^◌, ◌++◌, true, length, vec_len, slice_get, slice_set, slice_index_or, position, [], ◌∷◌, Option, Some, IfOk, OnOk, OnErr, IsTrue};
 ghost use Rattle.anti_app.specs.declared.app.App.{App};
 ghost use Rattle.anti_app.specs.Sound.{is_sound, is_sound_choice};
 ghost use Rattle.anti_object.specs.Standing.{IsCallOfRun};
 ghost use Rattle.anti_play.specs.Schedule.{asked, carrying, chosen, clock_of, made_at};
 ghost use Rattle.anti_play.specs.Runs.{Entries};
-ghost use Rattle.anti_play.specs.Standing.{AllStand, Chose, Grows, HasClock, IsOutcome, IsWorldOf, MayGrow, Stops, StopsBy, WorldStands, is_named};
+ghost use Rattle.anti_play.specs.Standing.{AllStand, Changes, Chose, Grows, HasClock, HasSpare, IsOutcome, IsWorldOf, MayGrow, Stops, StopsBy, WorldStands, born_at, is_named};
 
 use crate::asked::Asked;
 use crate::logged::Logged;
@@ -15,11 +15,15 @@ use anti_kind::{Actor, Birth, Call, Entry};
 use anti_proc::{Process, Want};
 use std::alloc::Global;
 
+/// Processes, in the order of their births.
+pub(crate) type Processes = List<Process>;
+
 /// The objects of an application with their histories, and its processes: one moment of a run.
 #[derive(Drop)]
 pub struct World {
     pub(crate) objects: Vec<Logged>,
-    pub(crate) processes: List<Process>,
+    // of each object, the processes that were born at it, in the order of their births
+    pub(crate) processes: Vec<Processes>,
     // the last stamp of the carrier
     pub(crate) carrier: u64,
     pub(crate) alloc: Global,
@@ -46,6 +50,33 @@ fn add(objects: &mut Vec<Logged>, entry: Entry) -> Result<(), NoMemory>
     objects[at].add(entry)
 }
 
+// Makes room for one process more at an object.
+fn make_room(processes: &mut Vec<Processes>, object: u32) -> Result<(), NoMemory>
+    requires { object < vec_len processes.old }
+    ensures changes { Changes processes.old.items processes.new.items object (born_at processes.old.items object) }
+    ensures room { OnOk result (HasSpare processes.new.items object) }
+{
+    processes[object as usize].reserve(1)
+}
+
+// Adds a process to those that were born at an object, where there is room.
+fn put_process(processes: &mut Vec<Processes>, object: u32, process: Process)
+    requires object { object < vec_len processes.old }
+    requires room { HasSpare processes.old.items object }
+    ensures { Changes processes.old.items processes.new.items object (born_at processes.old.items object ++ process ∷ []) }
+{
+    processes[object as usize].put(process);
+}
+
+// Puts a process in place of one that was born at an object.
+fn set_process(processes: &mut Vec<Processes>, object: u32, at: usize, process: Process)
+    requires object { object < vec_len processes.old }
+    requires at { at < length (born_at processes.old.items object) }
+    ensures { Changes processes.old.items processes.new.items object (slice_set (born_at processes.old.items object) at process) }
+{
+    processes[object as usize].set(at, process);
+}
+
 impl World {
     // What comes of a call that is asked for.
     fn outcome(&self, app: &App, asked: Asked, clock: u64) -> Result<Outcome, NoMemory>
@@ -69,7 +100,7 @@ impl World {
     }
 
     // Takes a delivery of a service's inbox. A process is born.
-    fn take(&mut self, app: &App, service: u32, nth: u32) -> Result<bool, NoMemory>
+    pub(crate) fn take(&mut self, app: &App, service: u32, nth: u32) -> Result<bool, NoMemory>
         requires sound { IsTrue (is_sound app.now) }
         requires named { service < length app.now.services.items }
         requires world { IsWorldOf app.now self.old }
@@ -85,14 +116,15 @@ impl World {
             return Ok(false);
         };
         let process = Process::born(self.alloc, app, &entry)?;
-        self.processes.reserve(1)?;
+        let object = entry.object;
+        make_room(&mut self.processes, object)?;
         add(&mut self.objects, entry)?;
-        self.processes.put(process);
+        put_process(&mut self.processes, object, process);
         Ok(true)
     }
 
     // Makes a call of the carrier at a store.
-    fn carry(&mut self, app: &App, store: u32, call: Call) -> Result<bool, NoMemory>
+    pub(crate) fn carry(&mut self, app: &App, store: u32, call: Call) -> Result<bool, NoMemory>
         requires call { IsCallOfRun call }
         requires sound { IsTrue (is_sound app.now) }
         requires world { IsWorldOf app.now self.old }
@@ -113,47 +145,87 @@ impl World {
         Ok(true)
     }
 
-    // Makes the next call of a process. Where it is ready and does not fit the process ends.
-    fn go(&mut self, app: &App, birth: Birth) -> Result<bool, NoMemory>
+    // How many processes were born at an object.
+    pub(crate) fn born_count(&self, object: u32) -> usize
+        requires { object < vec_len self.now.processes }
+        ensures { result ≡ length (born_at self.now.processes.items object) }
+    {
+        self.processes[object as usize].len()
+    }
+
+    // The process at a place among those that were born at an object.
+    pub(crate) fn process(&self, object: u32, at: usize) -> &Process
+        requires object { object < vec_len self.now.processes }
+        requires at { at < length (born_at self.now.processes.items object) }
+        ensures { slice_get (born_at self.now.processes.items object) at ≡ Some result.now }
+    {
+        self.processes[object as usize].at(at)
+    }
+
+    // Makes the next call of a process, which stands at a place among those that were born at its object. Where the call is ready
+    // and does not fit the process ends. A process that has ended is not copied, nor is one whose call is not ready.
+    pub(crate) fn go_on(&mut self, app: &App, birth: Birth, at: usize) -> Result<bool, NoMemory>
         requires sound { IsTrue (is_sound app.now) }
         requires world { IsWorldOf app.now self.old }
+        requires object { birth.object < vec_len self.old.processes }
+        requires found { position (is_named birth) (born_at self.old.processes.items birth.object) ≡ Some at }
         ensures chose { (trace : Entries) → WorldStands app.now self.old trace → Chose app.now trace (chosen app.now trace (Choice.Go birth.object birth.place)) result self.new }
         ensures ended { (trace : Entries) → WorldStands app.now self.old trace → OnOk result (Stops app.now trace birth self.new.processes.items) }
     {
-        let Some(at) = position(self.processes.as_slice(), birth) else {
+        let process = self.process(birth.object, at);
+        if process.ended().is_some() {
             return Ok(false);
-        };
-        let mut process = self.processes.at(at).copy(self.alloc)?;
+        }
         let Want::Make { object, span, call } = process.next(app)? else {
             return Ok(false);
         };
+        let clock = process.clock();
         let asked = Asked {
             object,
             actor: Actor::Process(birth),
             span,
             call,
         };
-        match self.outcome(app, asked, process.clock())? {
+        match self.outcome(app, asked, clock)? {
             Outcome::Makes(entry) => {
+                let mut process = self.process(birth.object, at).copy(self.alloc)?;
                 process.feed(app, entry.stamp, &entry.reply)?;
                 add(&mut self.objects, entry)?;
-                self.processes.set(at, process);
+                set_process(&mut self.processes, birth.object, at, process);
                 Ok(true)
             }
             Outcome::NotYet => Ok(false),
             Outcome::Full => {
+                let mut process = self.process(birth.object, at).copy(self.alloc)?;
                 process.full(object);
-                self.processes.set(at, process);
+                set_process(&mut self.processes, birth.object, at, process);
                 Ok(false)
             }
         }
     }
 
-    /// Makes the entry that a choice asks for, and tells whether there was one. A choice that makes none is a wait. A process ends
+    // Makes the next call of the process that was born by an entry.
+    fn go(&mut self, app: &App, birth: Birth) -> Result<bool, NoMemory>
+        requires sound { IsTrue (is_sound app.now) }
+        requires world { IsWorldOf app.now self.old }
+        ensures chose { (trace : Entries) → WorldStands app.now self.old trace → Chose app.now trace (chosen app.now trace (Choice.Go birth.object birth.place)) result self.new }
+        ensures ended { (trace : Entries) → WorldStands app.now self.old trace → OnOk result (Stops app.now trace birth self.new.processes.items) }
+    {
+        let Some(processes) = self.processes.get(birth.object as usize) else {
+            return Ok(false);
+        };
+        match position(processes.as_slice(), birth) {
+            Some(at) => self.go_on(app, birth, at),
+            None => Ok(false),
+        }
+    }
+
+    /// Makes the entry that a choice other than `finish` asks for, and tells whether there was one. A choice that makes none is a wait. A process ends
     /// where it goes on with a call that is ready and does not fit. Where there is no memory the world stands for what it stood for.
     pub fn choose(&mut self, app: &App, choice: &Choice) -> Result<bool, NoMemory>
         requires sound { IsTrue (is_sound app.now) }
         requires named { IsTrue (is_sound_choice (length app.now.regions.items) (length app.now.stores.items) (length app.now.services.items) choice.now) }
+        requires one { choice.now ≡ Choice.Finish → ⊥ }
         requires world { IsWorldOf app.now self.old }
         ensures chose { (trace : Entries) → WorldStands app.now self.old trace → Chose app.now trace (chosen app.now trace choice.now) result self.new }
         ensures ended { (trace : Entries) → WorldStands app.now self.old trace → OnOk result (StopsBy app.now trace choice.now self.new.processes.items) }
@@ -195,6 +267,11 @@ impl World {
                 )
             }
             Choice::Go { object, place } => self.go(app, Birth { object, place }),
+            Choice::Finish => unreachable!(),
+            // no application has one of these yet
+            Choice::Repost { .. } => unreachable!(),
+            Choice::Pull { .. } => unreachable!(),
+            Choice::Repull { .. } => unreachable!(),
         }
     }
 }

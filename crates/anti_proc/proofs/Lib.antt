@@ -1,6 +1,15 @@
+pub mod Bringing
+pub mod Decimals
+pub mod Keeping
+pub mod Lineages
 pub mod Looking
+pub mod Placing
 pub mod Plans
+pub mod Runnable
+pub mod Running
 pub mod Runs
+pub mod Setting
 pub mod Settling
 pub mod StoreCalls
+pub mod Unions
 pub mod Worked

@@ -8,7 +8,8 @@ use Rattle.anti_kind.specs.declared.call.Reply.{Reply}
 use Rattle.anti_shim.specs.declared.looks.PlannedLook.{PlannedLook}
 use Rattle.anti_proc.specs.declared.want.Want.TheVariants.{Make}
 use Rattle.anti_proc.specs.Barriers.{LooksOnceAt, AsksFor, GoesOver}
-use Rattle.anti_proc.specs.Meaning.{Setting, Local, Go, looks, planned}
+use Rattle.anti_proc.specs.Local.{Setting, Local}
+use Rattle.anti_proc.specs.Meaning.{Go, looks, planned}
 use Rattle.anti_proc.specs.Numbers.{stores_here}
 use Rattle.anti_proc.specs.Trees.{after, next_of}
 use Rattle.anti_proc.proofs.Plans.{among_here, its_look, one_look, asked_of}

@@ -4,15 +4,14 @@ use Rattle.std.specs.Prelude.{slice_get}
 use Rattle.std.specs.List.{list_any, list_all}
 use Rattle.std.proofs.lemmas.Bool.{eqb-true, ne_eqb, eq-eqb, or_left, or_right, or_from}
 use Rattle.std.proofs.lemmas.Bool.Decides.{nat_tests}
-use Rattle.std.proofs.lemmas.Map.Views.{any-filter_same}
 use Rattle.anti_ids.specs.Each.{Each}
-use Rattle.anti_ids.specs.Ids.{is_id, has_id, ids_of}
+use Rattle.anti_ids.specs.Ids.{has_id, ids_of}
 use Rattle.anti_ids.specs.declared.id.WriteId.{WriteId}
-use Rattle.anti_ids.proofs.IdLemmas.{same_id}
+use Rattle.anti_ids.proofs.IdLemmas.{has_id-ids_of}
 use Rattle.anti_app.specs.declared.app.StoreDef.{StoreDef}
 use Rattle.anti_shim.specs.declared.looks.PlannedLook.{PlannedLook}
 use Rattle.anti_shim.specs.Plans.{with_look, plan}
-use Rattle.anti_proc.specs.Barriers.{looks_at, is_asked}
+use Rattle.anti_proc.specs.Barriers.{made_at, is_asked}
 use Rattle.anti_proc.specs.Numbers.{is_here, here_in, if_here, here_from}
 
 -- whether a number is among these
@@ -53,8 +52,8 @@ same_either true x = refl
 same_either false x = refl
 
 at_with_look : (o store : ℕ) (ids : List WriteId) (further : List PlannedLook)
-    → looks_at o (with_look store ids further) ≡ cond (store == o) (with_look store ids (looks_at o further)) (looks_at o further)
-at_with_look o store [] further = same_either (store == o) (looks_at o further)
+    → made_at o (with_look store ids further) ≡ cond (store == o) (with_look store ids (made_at o further)) (made_at o further)
+at_with_look o store [] further = same_either (store == o) (made_at o further)
 at_with_look o store (i ∷ is) further = refl
 
 -- the look at a store, where it is among the stores that are looked at
@@ -62,36 +61,40 @@ abbrev pub its_look : Bool → ℕ → List WriteId → List PlannedLook
 its_look here store lineage = cond here (with_look store (ids_of store lineage) []) []
 
 module _ (n o : ℕ) (further : List ℕ) (lineage : List WriteId) (behind : n ≡ o → is_among o further ≡ false)
-    (rest : looks_at o (plan further lineage) ≡ its_look (is_among o further) o lineage) where
+    (rest : made_at o (plan further lineage) ≡ its_look (is_among o further) o lineage) where
   by_test : (t : Bool) → t ≡ (n == o)
-      → cond t (with_look n (ids_of n lineage) (looks_at o (plan further lineage))) (looks_at o (plan further lineage)) ≡ its_look (t || is_among o further) o lineage
+      → cond t (with_look n (ids_of n lineage) (made_at o (plan further lineage))) (made_at o (plan further lineage)) ≡ its_look (t || is_among o further) o lineage
   by_test true t =
       let same : n ≡ o = eqb-true n o (sym t) in
-      let none : looks_at o (plan further lineage) ≡ [] = rest ∙ ap (λ (b : Bool). its_look b o lineage) (behind same) in
+      let none : made_at o (plan further lineage) ≡ [] = rest ∙ ap (λ (b : Bool). its_look b o lineage) (behind same) in
       ap (λ (x : List PlannedLook). with_look n (ids_of n lineage) x) none ∙ ap (λ (m : ℕ). with_look m (ids_of m lineage) []) same
   by_test false t = rest
 
-  at_store : (here : Bool) → looks_at o (plan (if_here here n further) lineage) ≡ its_look (is_among o (if_here here n further)) o lineage
+  at_store : (here : Bool) → made_at o (plan (if_here here n further) lineage) ≡ its_look (is_among o (if_here here n further)) o lineage
   at_store true = at_with_look o n (ids_of n lineage) (plan further lineage) ∙ by_test (n == o) refl
   at_store false = rest
 
 pub one_look : (region n o : ℕ) (stores : List StoreDef) (lineage : List WriteId)
-    → looks_at o (plan (here_from region n stores) lineage) ≡ its_look (is_among o (here_from region n stores)) o lineage
+    → made_at o (plan (here_from region n stores) lineage) ≡ its_look (is_among o (here_from region n stores)) o lineage
 one_look region n o [] lineage = refl
 one_look region n o (s ∷ ss) lineage =
     at_store n o (here_from region (suc n) ss) lineage (λ e. not_before region (suc n) o ss (omega arith)) (one_look region (suc n) o ss lineage) (is_here region s)
 
 -- ---- the ids that are asked for
 
-same_store : (i j : WriteId) → is_id i j ≡ true → i.store ≡ j.store
-same_store i j e = ap (λ (k : WriteId). k.store) (same_id i j e)
+turned : (m n : ℕ) → (m == n) ≡ (n == m)
+turned m n = grind (arith, nat_tests)
 
-turned : (m n o : ℕ) → m ≡ n → (n == o) ≡ (o == m)
-turned m n o e = grind (arith, nat_tests)
+swapped : (a b : Bool) → (a && b) ≡ (b && a)
+swapped true true = refl
+swapped true false = refl
+swapped false true = refl
+swapped false false = refl
 
 -- an id among those of one store
 has_of : (i : WriteId) (store : ℕ) (lineage : List WriteId) → has_id i (ids_of store lineage) ≡ ((store == i.store) && has_id i lineage)
-has_of i store lineage = any-filter_same (λ j. is_id i j) (λ j. j.store == store) (store == i.store) (λ j same. turned i.store j.store store (same_store i j same)) lineage
+has_of i store lineage =
+    has_id-ids_of i store lineage ∙ swapped (has_id i lineage) (i.store == store) ∙ ap (λ (b : Bool). b && has_id i lineage) (turned i.store store)
 
 asked_with : (i : WriteId) (store : ℕ) (ids : List WriteId) (further : List PlannedLook) → is_asked i (with_look store ids further) ≡ (has_id i ids || is_asked i further)
 asked_with i store [] further = refl

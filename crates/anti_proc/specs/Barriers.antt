@@ -8,19 +8,20 @@ use Rattle.anti_kind.specs.declared.call.Reply.{Reply}
 use Rattle.anti_shim.specs.declared.looks.PlannedLook.{PlannedLook}
 use Rattle.anti_shim.specs.Plans.{with_look}
 use Rattle.anti_proc.specs.declared.want.Want.TheVariants.{Make}
-use Rattle.anti_proc.specs.Meaning.{Setting, Local, Go, planned}
+use Rattle.anti_proc.specs.Local.{Setting, Local}
+use Rattle.anti_proc.specs.Meaning.{Go, planned}
 use Rattle.anti_proc.specs.Numbers.{is_store_here}
 use Rattle.anti_proc.specs.Trees.{Tree, after, next_of}
 
 -- those of these looks that are made at a store
-abbrev pub looks_at : ℕ → List PlannedLook → List PlannedLook
-looks_at store looks = filter (λ look. look.store == store) looks
+abbrev pub made_at : ℕ → List PlannedLook → List PlannedLook
+made_at store looks = filter (λ look. look.store == store) looks
 
 -- At a store with a replica in the region it makes one look, for just the ids of the store that the process carries, and none where
 -- there are no such ids. At another store it makes none.
 abbrev pub LooksOnceAt : Setting → Local → ℕ → Type 0
 LooksOnceAt s l store =
-    looks_at store (planned s l) ≡ (if is_store_here s.app s.region store then with_look store (ids_of store l.carried) [] else [])
+    made_at store (planned s l) ≡ (if is_store_here s.app s.region store then with_look store (ids_of store l.carried) [] else [])
 
 -- whether one of these looks asks for an id
 abbrev pub is_asked : WriteId → List PlannedLook → Bool

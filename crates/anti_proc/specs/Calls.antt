@@ -10,10 +10,12 @@ use Rattle.anti_proc.specs.declared.want.Want.TheVariants.{Make, Over}
 use Rattle.anti_proc.specs.Numbers.{is_store_here}
 use Rattle.anti_proc.specs.Trees.{Tree, Asks, Ends}
 
--- a write, a read or a look
+-- a write, a read, a scan, a poll or a look
 abbrev pub IsStoreCall : Call → Type 0
 IsStoreCall (calls.Write key value lineage) = Unit {0}
 IsStoreCall (calls.Read region key) = Unit {0}
+IsStoreCall (calls.Scan region prefix) = Unit {0}
+IsStoreCall (calls.Poll region key) = Unit {0}
 IsStoreCall (calls.Look region ids dry) = Unit {0}
 IsStoreCall _ = ⊥
 
@@ -22,10 +24,10 @@ abbrev pub LooksWhereItMay : App → ℕ → Call → Type 0
 LooksWhereItMay app o (calls.Look region ids dry) = (is_store_here app region o ≡ true) × (list_all (λ id. id.store == o) ids ≡ true)
 LooksWhereItMay app o _ = Unit {0}
 
--- a call of a store of the application, in the first span; the number past the stores stands for a store that is not there
+-- a call of a store of the application, in a span; the number past the stores stands for a store that is not there
 pub record IsOfStores (app : App) (o n : ℕ) (c : Call) : Type 0 where
   pub object : o ≤ length app.stores.items
-  pub span : n ≡ 1
+  pub span : 1 ≤ n
   pub call : IsStoreCall c
   pub look : LooksWhereItMay app o c
 

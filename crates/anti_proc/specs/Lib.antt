@@ -1,7 +1,13 @@
+pub mod Adding
 pub mod Barriers
 pub mod Births
+pub mod Brought
 pub mod Calls
+pub mod Local
 pub mod Meaning
 pub mod Numbers
+pub mod Places
+pub mod Running
 pub mod Standing
 pub mod Trees
+pub mod Variables

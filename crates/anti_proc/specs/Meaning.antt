@@ -1,6 +1,6 @@
 -- What a handler does.
-use Rattle.std.specs.Prelude.{ℕ, ◌-◌, Bool, true, false, List, [], ◌∷◌, length, map, if◌then◌else◌, nat_lt}
-use Rattle.anti_ids.specs.Ids.{with_id}
+use Rattle.std.specs.Prelude.{ℕ, zero, suc, ◌-◌, Bool, true, false, List, [], ◌∷◌, Option, Some, None, length, map, if◌then◌else◌, nat_lt}
+use Rattle.anti_ids.specs.Ids.{with_ids}
 use Rattle.anti_ids.specs.declared.lineage.TheConstants.{MOST_IDS}
 use Rattle.anti_ids.specs.declared.id.WriteId.{WriteId}
 use Rattle.anti_kind.specs.declared.call.Call.{Call}
@@ -8,27 +8,18 @@ use Rattle.anti_kind.specs.declared.call.Call.TheVariants as calls
 use Rattle.anti_kind.specs.declared.call.Entry.{Entry}
 use Rattle.anti_kind.specs.declared.call.Reply.{Reply}
 use Rattle.anti_kind.specs.declared.call.Reply.TheVariants as replies
-use Rattle.anti_lang.specs.declared.statement.Statement.{Statement}
-use Rattle.anti_lang.specs.declared.statement.Statement.TheVariants as statements
-use Rattle.anti_lang.specs.declared.statement.ValueWord.{ValueWord}
-use Rattle.anti_lang.specs.declared.statement.ValueWord.TheVariants.{Input, Literal}
+use Rattle.anti_lang.specs.Program as program
+use Rattle.anti_lang.specs.Program.{Step, Block}
+use Rattle.anti_lang.specs.Texts.{plain_name}
 use Rattle.anti_app.specs.declared.app.App.{App}
 use Rattle.anti_shim.specs.declared.looks.PlannedLook.{PlannedLook}
 use Rattle.anti_shim.specs.Plans.{plan}
-use Rattle.anti_proc.specs.declared.want.End.TheVariants.{Fine, LineageFull}
+use Rattle.anti_proc.specs.declared.variables.Held.{Held}
+use Rattle.anti_proc.specs.declared.variables.Held.TheVariants.{Wrote, Saw}
+use Rattle.anti_proc.specs.declared.want.End.TheVariants.{Fine, BadKey, LineageFull}
+use Rattle.anti_proc.specs.Local.{Setting, Local, first_local, new_span, rooted, held, set, set_or, held_ids, removed, is_absent, text_of, any_name, key_of}
 use Rattle.anti_proc.specs.Numbers.{store_number, handler_number, body_of, region_of, stores_here}
 use Rattle.anti_proc.specs.Trees.{Tree, Asks, Ends, after}
-
--- what does not change in a process: its application, the region of its service, and the value of its message
-pub record Setting : Type 0 where
-  pub app : App
-  pub region : ℕ
-  pub input : List ℕ
-
--- what changes: the span, counted from 1, and the lineage that the process carries
-pub record Local : Type 0 where
-  pub span : ℕ
-  pub carried : List WriteId
 
 -- what comes next
 abbrev pub Go : Type 0
@@ -42,27 +33,39 @@ asks object call l go = Asks (record { object = object; span = l.span; call = ca
 abbrev pub carry : List WriteId → Local → Go → Tree
 carry ids l go = if nat_lt MOST_IDS (length ids) then Ends LineageFull else go (record l { carried = ids })
 
--- the text of the word of a value
-abbrev pub text_of : Setting → ValueWord → List ℕ
-text_of s Input = s.input
-text_of s (Literal value) = value
+-- goes on with the ids of what a variable holds added to the lineage
+abbrev pub add : Option Held → Local → Go → Tree
+add held l go = carry (with_ids (held_ids held) l.carried) l go
 
--- On the reply to a write the process carries the write's id too. A reply of another form brings nothing, nor does version 0,
--- which no write has.
-abbrev pub after_write : ℕ → Local → Go → Reply → Tree
-after_write store l go (replies.Written key version) =
-    if nat_lt 0 version then carry (with_id (record { store = store; key = key; version = version }) l.carried) l go else go l
-after_write store l go _ = go l
+-- On the reply to a write its variable holds the write, and the process carries the write's id, unless the write is untracked. A reply of
+-- another form brings nothing.
+abbrev pub wrote : Bool → Held → Local → Go → Tree
+wrote true held l go = go l
+wrote false held l go = add (Some held) l go
 
--- What a read shows is not carried.
-abbrev pub after_read : Local → Go → Reply → Tree
-after_read l go reply = go l
+abbrev pub after_write : ℕ → Option (List ℕ) → Bool → Local → Go → Reply → Tree
+after_write store variable untracked l go (replies.Written key version) =
+    let held = Wrote (record { store = store; key = key; version = version }) in
+    wrote untracked held (set_or variable held l) go
+after_write store variable untracked l go _ = go l
 
-abbrev pub write_call : ℕ → List ℕ → List ℕ → Local → Go → Tree
-write_call store key value l go = asks store (calls.Write key value l.carried) l (after_write store l go)
+-- What a read shows is held by its variable, and not carried.
+abbrev pub after_read : ℕ → List ℕ → Local → Go → Reply → Tree
+after_read store variable l go (replies.Shown rows) = go (set variable (Saw store rows) l)
+after_read store variable l go _ = go l
 
-abbrev pub read_call : ℕ → ℕ → List ℕ → Local → Go → Tree
-read_call store region key l go = asks store (calls.Read region key) l (after_read l go)
+abbrev pub write_call : ℕ → List ℕ → Option (List ℕ) → Bool → Local → Go → List ℕ → Tree
+write_call store value variable untracked l go key =
+    asks store (calls.Write key value l.carried) l (after_write store variable untracked l go)
+
+-- a read of the key of a store, a scan or a poll
+abbrev pub read_call : ℕ → (List ℕ → Call) → List ℕ → Local → Go → List ℕ → Tree
+read_call store call variable l go key = asks store (call key) l (after_read store variable l go)
+
+-- goes on with a key, where there is one
+abbrev pub with_key : Option (List ℕ) → (List ℕ → Tree) → Tree
+with_key None go = Ends BadKey
+with_key (Some key) go = go key
 
 -- the looks of a barrier: one at each store with a replica in the region of which the process carries ids
 abbrev pub planned : Setting → Local → List PlannedLook
@@ -73,25 +76,48 @@ abbrev pub looks : ℕ → Bool → List PlannedLook → Local → Go → Tree
 looks region dry [] l go = go l
 looks region dry (look ∷ later) l go = asks look.store (calls.Look region look.ids dry) l (λ reply. looks region dry later l go)
 
--- what a statement does, and then what follows it
-abbrev pub step_tree : Statement → Setting → Local → Go → Tree
-step_tree (statements.Write store key word) s l go = write_call (store_number s.app store) key (text_of s word) l go
-step_tree (statements.Read store key variable) s l go = read_call (store_number s.app store) s.region key l go
-step_tree statements.Barrier s l go = looks s.region false (planned s l) l go
-step_tree statements.DryRun s l go = looks s.region true (planned s l) l go
+-- so many turns of a block
+abbrev pub turns : ℕ → (Local → Go → Tree) → Local → Go → Tree
+turns zero block l go = go l
+turns (suc n) block l go = block l (λ l. turns n block l go)
 
--- what the lines of a body do, and then what follows them
-abbrev pub block_tree : List Statement → Setting → Local → Go → Tree
-block_tree [] s l go = go l
-block_tree (first ∷ rest) s l go = step_tree first s l (λ l. block_tree rest s l go)
+abbrev mutual
+  -- what a statement does, and then what follows it
+  pub step_tree : Step → Setting → Local → Go → Tree
+  step_tree (program.Write store key value variable untracked) s l go =
+      with_key (key_of plain_name s.input l.variables key) (write_call (store_number s.app store) (text_of s.input l.variables value) variable untracked l go)
+  step_tree (program.Append variable) s l go = add (held l variable) l go
+  step_tree (program.Remove variable) s l go = go (record l { carried = removed (held l variable) l.carried })
+  step_tree (program.Transfer variable) s l go = add (held l variable) l go
+  step_tree program.Barrier s l go = looks s.region false (planned s l) l go
+  step_tree program.DryRun s l go = looks s.region true (planned s l) l go
+  step_tree (program.Read store key variable) s l go =
+      with_key (key_of plain_name s.input l.variables key) (read_call (store_number s.app store) (calls.Read s.region) variable l go)
+  step_tree (program.Scan store prefix variable) s l go = read_call (store_number s.app store) (calls.Scan s.region) variable l go prefix
+  step_tree (program.Poll store key variable) s l go =
+      with_key (key_of any_name s.input l.variables key) (read_call (store_number s.app store) (calls.Poll s.region) variable l go)
+  -- calls and sends are not built yet, and no application has one: they are passed over
+  step_tree (program.Call service handler value variable) s l go = go l
+  step_tree (program.Send service handler value) s l go = go l
+  step_tree (program.Reply value) s l go = go (record l { reply = text_of s.input l.variables value })
+  step_tree program.Nack s l go = Ends Fine
+  step_tree program.Root s l go = go (rooted l.stopped l)
+  step_tree program.Stop s l go = go (new_span true l)
+  step_tree (program.Repeat count block) s l go = turns count (block_tree block s) l go
+  step_tree (program.IfAbsent variable block) s l go = if is_absent (held l variable) then block_tree block s l go else go l
 
--- a process at its birth carries nothing
-abbrev pub first_local : Local
-first_local = record { span = 1; carried = [] }
+  -- what the lines of a block do, and then what follows them
+  pub block_tree : Block → Setting → Local → Go → Tree
+  block_tree program.End s l go = go l
+  block_tree (program.Then first rest) s l go = step_tree first s l (λ l. block_tree rest s l go)
+
+-- the end of a process that a request started
+abbrev pub ends : Go
+ends l = Ends Fine
 
 -- a body, run to its end
-abbrev pub body_tree : List Statement → Setting → Go
-body_tree body s l = block_tree body s l (λ l. Ends Fine)
+abbrev pub body_tree : Block → Setting → Go
+body_tree body s l = block_tree body s l ends
 
 -- the body of a handler of a service, run on a value
 abbrev pub process_tree : App → ℕ → ℕ → List ℕ → Tree

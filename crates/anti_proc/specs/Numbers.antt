@@ -3,7 +3,8 @@
 use Rattle.std.specs.Prelude.{ℕ, ◌+◌, suc, ◌==◌, Bool, true, false, List, [], ◌∷◌, Option, Some, None, length, slice_get, if◌then◌else◌}
 use Rattle.std.specs.List.{list_any}
 use Rattle.std.specs.Str.{bytes_eq}
-use Rattle.anti_lang.specs.declared.statement.Statement.{Statement}
+use Rattle.anti_lang.specs.Bodies.{block_of}
+use Rattle.anti_lang.specs.Program.{Block, End}
 use Rattle.anti_app.specs.declared.app.App.{App}
 use Rattle.anti_app.specs.declared.app.HandlerDef.{HandlerDef}
 use Rattle.anti_app.specs.declared.app.ServiceDef.{ServiceDef}
@@ -40,15 +41,15 @@ abbrev pub handler_number : App → ℕ → List ℕ → ℕ
 handler_number app service name = handler_in (slice_get app.services.items service) name
 
 -- the body of a handler by its number; the empty one, where there is no such handler
-abbrev pub body_in : Option HandlerDef → List Statement
-body_in None = []
-body_in (Some h) = h.body.items
+abbrev pub body_in : Option HandlerDef → Block
+body_in None = End
+body_in (Some h) = block_of h.body
 
-abbrev pub body_among : Option ServiceDef → ℕ → List Statement
-body_among None handler = []
+abbrev pub body_among : Option ServiceDef → ℕ → Block
+body_among None handler = End
 body_among (Some s) handler = body_in (slice_get s.handlers.items handler)
 
-abbrev pub body_of : App → ℕ → ℕ → List Statement
+abbrev pub body_of : App → ℕ → ℕ → Block
 body_of app service handler = body_among (slice_get app.services.items service) handler
 
 -- the region of a service

@@ -1,10 +1,20 @@
-ghost use Rattle.std.specs.Prelude.{◌≡◌, ◌^◌, ◌<◌, ◌≤◌, length, IfOk};
-ghost use Rattle.anti_proc.specs.Numbers.{body_of, handler_among, handler_number, is_here, region_of, store_among, store_number, stores_here};
+ghost use Rattle.std.specs.Prelude.{◌≡◌, ◌≤◌, Some, length, option_map, slice_get, IfOk};
+ghost use Rattle.anti_lang.specs.Bodies.{list_of};
+ghost use Rattle.anti_proc.specs.Running.{CanRun};
+ghost use Rattle.anti_proc.specs.Places.{steps_of};
+ghost use Rattle.anti_proc.specs.Numbers.{body_among, body_of, handler_among, handler_number, is_here, region_of, store_among, store_number, stores_here};
 
-use anti_app::{App, HandlerDef, StoreDef};
+use anti_app::{App, HandlerDef, ServiceDef, StoreDef};
 use anti_ids::{Name, NoMemory};
 use anti_lang::Statement;
 use std::alloc::Global;
+
+// The item of a list at an index, where it is within.
+pub fn item_at<T>(items: &[T], index: usize) -> Option<&T>
+    ensures { option_map (λ item. item.now) result ≡ slice_get items.now index }
+{
+    items.get(index)
+}
 
 // The place of the store with a name among these, or how many they are.
 fn store_among(stores: &[StoreDef], name: &Name) -> usize
@@ -31,19 +41,25 @@ fn handler_among(handlers: &[HandlerDef], name: &Name) -> usize
     handlers.len()
 }
 
+// The body of a handler of a service by its number; the empty one, where there is no such handler.
+#[tactic(auto, using(crate::proofs::Placing::list_again))]
+fn body_among(service: &ServiceDef, handler: usize) -> &[Statement]
+    ensures { steps_of result.now ≡ list_of (body_among (Some service.now) handler) }
+{
+    match item_at(service.handlers.as_slice(), handler) {
+        Some(handler) => handler.body.as_slice(),
+        None => &[],
+    }
+}
+
 // The body of a handler by its number; the empty one, where there is no such handler.
 pub fn body_of(app: &App, service: usize, handler: usize) -> &[Statement]
-    ensures { result.now ≡ body_of app.now service handler }
+    ensures { steps_of result.now ≡ list_of (body_of app.now service handler) }
 {
-    let services = app.services.as_slice();
-    if service >= services.len() {
-        return &[];
+    match item_at(app.services.as_slice(), service) {
+        Some(service) => body_among(service, handler),
+        None => &[],
     }
-    let handlers = services[service].handlers.as_slice();
-    if handler >= handlers.len() {
-        return &[];
-    }
-    handlers[handler].body.as_slice()
 }
 
 // The region of a service.
@@ -68,7 +84,7 @@ pub fn handler_number(app: &App, service: usize, name: &Name) -> usize
 
 // The number of the store with a name.
 pub fn store_number(app: &App, name: &Name) -> u32
-    requires { length app.now.stores.items < 2 ^ 32 }
+    requires { CanRun app.now }
     ensures { result ≡ store_number app.now name.now }
 {
     store_among(app.stores.as_slice(), name) as u32
@@ -87,7 +103,7 @@ fn is_here(region: u32, store: &StoreDef) -> bool
 
 // The numbers of the stores with a replica in a region, ascending.
 pub fn stores_here(alloc: Global, app: &App, region: u32) -> Result<Vec<u32>, NoMemory>
-    requires { length app.now.stores.items < 2 ^ 32 }
+    requires { CanRun app.now }
     ensures { IfOk result (λ here. here.items ≡ stores_here app.now region) }
 {
     let mut here = Vec::new(alloc);

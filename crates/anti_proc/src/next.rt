@@ -1,5 +1,6 @@
 ghost use Rattle.std.specs.Prelude.{◌≡◌, reverse, IfOk};
-ghost use Rattle.anti_proc.specs.Meaning.{Setting, Local, Go, looks};
+ghost use Rattle.anti_proc.specs.Local.{Setting, Local};
+ghost use Rattle.anti_proc.specs.Meaning.{Go, looks};
 ghost use Rattle.anti_proc.specs.Standing.{next_or};
 
 use crate::want::End;
@@ -15,11 +16,26 @@ pub enum Next {
         store: u32,
         key: Name,
         value: Value,
+        variable: Option<Name>,
+        untracked: bool,
     },
     /// Reads a key of a store.
     Read {
         store: u32,
         key: Name,
+        variable: Name,
+    },
+    /// Reads all keys of a store that begin with a prefix.
+    Scan {
+        store: u32,
+        prefix: Name,
+        variable: Name,
+    },
+    /// Reads a cell of a topic.
+    Poll {
+        store: u32,
+        key: Name,
+        variable: Name,
     },
     /// Makes a look. Those that the barrier makes after it stand in `later`, the last first.
     Look {
@@ -34,17 +50,48 @@ pub enum Next {
 impl Copies for Next {
     fn copy(&self, alloc: Global) -> Result<Next, NoMemory> {
         match self {
-            Next::Write { store, key, value } => {
+            Next::Write {
+                store,
+                key,
+                value,
+                variable,
+                untracked,
+            } => {
                 let value = value.copy(alloc)?;
                 Ok(Next::Write {
                     store: *store,
                     key: *key,
                     value,
+                    variable: *variable,
+                    untracked: *untracked,
                 })
             }
-            Next::Read { store, key } => Ok(Next::Read {
+            Next::Read {
+                store,
+                key,
+                variable,
+            } => Ok(Next::Read {
                 store: *store,
                 key: *key,
+                variable: *variable,
+            }),
+            Next::Scan {
+                store,
+                prefix,
+                variable,
+            } => Ok(Next::Scan {
+                store: *store,
+                prefix: *prefix,
+                variable: *variable,
+            }),
+            Next::Poll {
+                store,
+                key,
+                variable,
+            } => Ok(Next::Poll {
+                store: *store,
+                key: *key,
+                variable: *variable,
             }),
             Next::Look { look, later, dry } => {
                 let look = look.copy(alloc)?;

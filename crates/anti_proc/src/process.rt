@@ -1,7 +1,8 @@
-ghost use Rattle.std.specs.Prelude.{◌≡◌, ◌^◌, ◌<◌, ℕ, length, Some, None, IfOk, OnOk, OnErr};
+ghost use Rattle.std.specs.Prelude.{◌≡◌, ℕ, Some, None, IfOk, OnOk, OnErr};
 ghost use Rattle.anti_app.specs.declared.app.App.{App};
 ghost use Rattle.anti_proc.specs.Births.{birth_at};
 ghost use Rattle.anti_proc.specs.Meaning.{tree_of};
+ghost use Rattle.anti_proc.specs.Running.{CanRun, IsRunOf};
 ghost use Rattle.anti_proc.specs.Standing.{birth_of, clock_of, full_of, process_of};
 ghost use Rattle.anti_proc.specs.Trees.{IsAskedAt, branch, want_of, end_of};
 
@@ -25,7 +26,8 @@ pub struct Process {
 impl Process {
     /// The process that an entry of the application starts. One that starts none gives a process with nothing to do.
     pub fn born(alloc: Global, app: &App, entry: &Entry) -> Result<Process, NoMemory>
-        requires { length app.now.stores.items < 2 ^ 32 }
+        requires { CanRun app.now }
+        ensures run { IfOk result (λ p. IsRunOf app.now p) }
         ensures stands { IfOk result (λ p. process_of app.now p ≡ tree_of app.now entry.now) }
         ensures clock { IfOk result (λ p. clock_of p ≡ entry.now.stamp) }
         ensures birth { IfOk result (λ p. birth_of p ≡ birth_at entry.now) }
@@ -45,13 +47,13 @@ impl Process {
     }
 
     /// The next call, or the end.
-    pub fn next(&self, app: &App) -> Result<Want, NoMemory>
-        ensures going { full_of self.now ≡ None → IfOk result (λ w. w ≡ want_of (process_of app.now self.now)) }
+    pub fn next(&self, _app: &App) -> Result<Want, NoMemory>
+        ensures going { full_of self.now ≡ None → IfOk result (λ w. w ≡ want_of (process_of _app.now self.now)) }
         ensures full { (object : ℕ) → full_of self.now ≡ Some object → IfOk result (λ w. w ≡ Want.Over (End.StoreFull object)) }
     {
         match self.full {
             Some(object) => Ok(Want::Over(End::StoreFull(object))),
-            None => self.run.next(app),
+            None => self.run.next(),
         }
     }
 
@@ -68,7 +70,9 @@ impl Process {
 
     /// Takes the reply to its next call, with the stamp of the entry. Where memory is wanting the process is as it was.
     pub fn feed(&mut self, app: &App, stamp: u64, reply: &Reply) -> Result<(), NoMemory>
-        requires stores { length app.now.stores.items < 2 ^ 32 }
+        requires app { CanRun app.now }
+        requires run { IsRunOf app.now self.old }
+        ensures run { IsRunOf app.now self.new }
         ensures goes { OnOk result (process_of app.now self.new ≡ branch (process_of app.now self.old) reply.now) }
         ensures clock { OnOk result (clock_of self.new ≡ stamp) }
         ensures birth { birth_of self.new ≡ birth_of self.old }
@@ -84,6 +88,7 @@ impl Process {
     pub fn full(&mut self, object: u32)
         requires first { full_of self.old ≡ None }
         requires asks { (app : App) × IsAskedAt object (process_of app self.old) }
+        ensures run { (app : App) → IsRunOf app self.old → IsRunOf app self.new }
         ensures full { full_of self.new ≡ Some object }
         ensures stands { (app : App) → process_of app self.new ≡ process_of app self.old }
         ensures clock { clock_of self.new ≡ clock_of self.old }

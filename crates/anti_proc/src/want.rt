@@ -3,8 +3,10 @@ use anti_kind::Call;
 /// How a process ends.
 #[derive(Clone, Copy, Debug, PartialEq, Eq)]
 pub enum End {
-    /// The body was run to its end.
+    /// The body was run to its end, or `nack` was run.
     Fine,
+    /// What stands for a key was no key.
+    BadKey,
     /// An id was to enter a lineage that has as many as a lineage may have.
     LineageFull,
     /// Its next call did not fit on the object of this number.

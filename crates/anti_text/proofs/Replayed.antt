@@ -1,5 +1,5 @@
 -- An object is replayed through one more entry of its history.
-use Rattle.std.proofs.Common.{◌≡◌, ℕ, ◌+◌, ◌<◌, ◌≤◌, Bool, true, false, cond, List, [], ◌∷◌, ◌++◌, length, take, drop, get_or, refl, ap, sym, subst, ◌∙◌, append-nil, append_assoc, arith}
+use Rattle.std.proofs.Common.{Option, Some, None, MatchOption, ◌≡◌, ℕ, ◌+◌, ◌<◌, ◌≤◌, Bool, true, false, cond, List, [], ◌∷◌, ◌++◌, length, take, drop, get_or, refl, ap, sym, subst, ◌∙◌, append-nil, append_assoc, arith}
 use Rattle.std.proofs.lemmas.List.{take-append-drop}
 use Rattle.std.proofs.lemmas.List.Elements.{filter_more, filter-append}
 use Rattle.anti_kind.specs.declared.call.Call.{Call}
@@ -8,9 +8,9 @@ use Rattle.anti_kind.specs.Objects.{Start, Follows, IsLegal}
 use Rattle.anti_kind.proofs.Histories.{legal_more, follows_in}
 use Rattle.anti_app.specs.declared.app.App.{App}
 use Rattle.anti_object.specs.declared.object.Object.{Object}
-use Rattle.anti_object.specs.Standing.{object_start, ObjectStands, ObjectAt, MayMake}
+use Rattle.anti_object.specs.Standing.{object_start, ObjectStands, ObjectAt, MayMake, IsNew}
 use Rattle.anti_object.specs.Starts.{start_of}
-use Rattle.anti_object.proofs.Starts.{start_past}
+use Rattle.anti_object.proofs.Starts.{start_past, start_there}
 use Rattle.anti_proc.specs.Numbers.{object_count}
 use Rattle.anti_trace.specs.Traces.{is_on, entries_on}
 use Rattle.anti_text.specs.Processes.{is_full_after}
@@ -66,3 +66,8 @@ pub none_full : (app : App) (trace : List Entry) (count o : ℕ) (objects : List
     → false ≡ is_full_after (entries_on o trace) call (start_of app o)
 none_full app trace count o objects call all is past =
     sym (ap (is_full_after (entries_on o trace) call) (start_past app o (omega (arith, all.many, is, past))))
+
+-- each number of an object has one
+pub no_object : (app : App) (o : ℕ) (x : Option Object) → x ≡ None → MatchOption x (start_of app o ≡ None) (IsNew app o) → o < object_count app → ⊥
+no_object app o None is none lt = let there = start_there app o lt in let start : start_of app o ≡ Some there.0 = there.1 in cc
+no_object app o (Some y) is new lt = cc

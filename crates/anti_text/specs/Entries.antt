@@ -6,8 +6,8 @@ use Rattle.anti_kind.specs.declared.call.Actor.TheVariants.{Carrier, Process, Ne
 use Rattle.anti_kind.specs.declared.call.Entry.{Entry}
 use Rattle.anti_app.specs.declared.app.App.{App}
 use Rattle.anti_app.specs.declared.app.Choice.{Choice}
-use Rattle.anti_app.specs.declared.app.Choice.TheVariants.{Take, Ship, Again, Go}
-use Rattle.anti_text.specs.Words.{store_name, service_name, region_name, mark_text}
+use Rattle.anti_app.specs.declared.app.Choice.TheVariants.{Take, Repost, Pull, Repull, Ship, Again, Go, Finish}
+use Rattle.anti_text.specs.Words.{sub_name, store_name, service_name, region_name, mark_text}
 use Rattle.anti_text.specs.Calls.{call_text, reply_text}
 
 -- who made a call: carrier 0 as `~0`, a process by its birth and the span, as `w.1/1`; no entry is a newborn's
@@ -34,9 +34,13 @@ shipment_text app store region version part =
 
 abbrev pub choice_text : App → Choice → List ℕ
 choice_text app (Take service nth) = codes "take " ++ service_name app service ++ codes " " ++ decimal nth
+choice_text app (Repost service number) = codes "repost " ++ service_name app service ++ codes " " ++ decimal number
+choice_text app (Pull sub) = codes "pull " ++ sub_name app sub
+choice_text app (Repull sub version) = codes "repull " ++ sub_name app sub ++ codes " " ++ decimal version
 choice_text app (Ship store region version part) = codes "ship " ++ shipment_text app store region version part
 choice_text app (Again store region version part) = codes "again " ++ shipment_text app store region version part
 choice_text app (Go object place) = codes "go " ++ mark_text app object place
+choice_text app Finish = codes "finish"
 
 -- the choice with a number, counted from 1; no text where there is none
 abbrev pub choice_numbered : App → ℕ → List ℕ

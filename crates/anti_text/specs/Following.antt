@@ -4,6 +4,7 @@ use Rattle.anti_kind.specs.declared.call.Actor.TheVariants as actors
 use Rattle.anti_kind.specs.declared.call.Birth.{Birth}
 use Rattle.anti_kind.specs.declared.call.Entry.{Entry}
 use Rattle.anti_app.specs.declared.app.App.{App}
+use Rattle.anti_proc.specs.Running.{IsRunOf}
 use Rattle.anti_proc.specs.declared.process.Process.{Process}
 use Rattle.anti_proc.specs.Meaning.{reply_of, tree_of}
 use Rattle.anti_proc.specs.Standing.{full_of, process_of}
@@ -23,7 +24,7 @@ left_after_one_more app (Some tree) e = branch tree e.reply
 -- a process, where there is one, that is left after these entries, and did not end as full
 abbrev pub Stands : App → List Entry → Option Process → Type 0
 Stands app entries None = left_after app entries ≡ None
-Stands app entries (Some process) = (left_after app entries ≡ Some (process_of app process)) × (full_of process ≡ None)
+Stands app entries (Some process) = (left_after app entries ≡ Some (process_of app process)) × (full_of process ≡ None) × IsRunOf app process
 
 -- the process with a birth, after all that it did in a trace
 abbrev pub IsLeftAfter : App → List Entry → Birth → Option Process → Type 0

@@ -1,5 +1,6 @@
 pub mod Calls
 pub mod Entries
+pub mod Escapes
 pub mod Following
 pub mod Processes
 pub mod Record

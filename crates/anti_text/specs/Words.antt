@@ -4,13 +4,17 @@ use Rattle.std.specs.List.{join_by}
 use Rattle.std.specs.Option.{option_map_or}
 use Rattle.anti_ids.specs.declared.id.WriteId.{WriteId}
 use Rattle.anti_app.specs.declared.app.App.{App}
+use Rattle.anti_text.specs.Escapes.{escaped}
 
--- the name of a store and of a service by its number, and of a region; no text where there is none
+-- the name of a store, of a service, of a sub and of a region by its number; no text where there is none
 abbrev pub store_name : App → ℕ → List ℕ
 store_name app store = option_map_or (λ s. s.name) (slice_get app.stores.items store) []
 
 abbrev pub service_name : App → ℕ → List ℕ
 service_name app service = option_map_or (λ s. s.name) (slice_get app.services.items service) []
+
+abbrev pub sub_name : App → ℕ → List ℕ
+sub_name app sub = option_map_or (λ s. s.name) (slice_get app.subs.items sub) []
 
 abbrev pub region_name : App → ℕ → List ℕ
 region_name app region = option_map_or (λ name. name) (slice_get app.regions.items region) []
@@ -24,9 +28,9 @@ object_name app object =
 abbrev pub mark_text : App → ℕ → ℕ → List ℕ
 mark_text app object place = object_name app object ++ codes "." ++ decimal place
 
--- A value in quotation marks. The values that an application may have today need no escape.
+-- a value in quotation marks
 abbrev pub quoted : List ℕ → List ℕ
-quoted value = codes "\"" ++ value ++ codes "\""
+quoted value = codes "\"" ++ escaped value ++ codes "\""
 
 -- an id, as `posts/p1@3`; the names that an application may have today need no escape
 abbrev pub id_text : App → WriteId → List ℕ

@@ -1,4 +1,4 @@
-ghost use Rattle.std.specs.Prelude.{◌≡◌, ◌<◌, ◌^◌, List, IfOk, length};
+ghost use Rattle.std.specs.Prelude.{◌≡◌, List, IfOk, IfSome};
 ghost use Rattle.std.specs.Option.{option_map};
 ghost use Rattle.anti_kind.specs.declared.call.Entry.{Entry};
 ghost use Rattle.anti_app.specs.declared.app.App.{App};
@@ -6,6 +6,7 @@ ghost use Rattle.anti_object.specs.Starts.{start_of};
 ghost use Rattle.anti_object.specs.Standing.{IsCallOfRun};
 ghost use Rattle.anti_trace.specs.Traces.{entries_on};
 ghost use Rattle.anti_proc.specs.Numbers.{object_count};
+ghost use Rattle.anti_proc.specs.Running.{CanRun, IsRunOf};
 ghost use Rattle.anti_text.specs.Following.{IsLeftAfter, IsFollowed};
 ghost use Rattle.anti_text.specs.Processes.{end_in, is_full_after};
 ghost use Rattle.anti_text.specs.Replays.{AreAfter};
@@ -25,7 +26,8 @@ fn followed(
     process: Option<Process>,
     entry: &Entry,
 ) -> Result<Process, NoMemory>
-    requires { length app.now.stores.items < 2 ^ 32 }
+    requires app { CanRun app.now }
+    requires process { IfSome process (IsRunOf app.now) }
     ensures { IfOk result (IsFollowed app.now process entry.now) }
 {
     match process {
@@ -44,7 +46,7 @@ fn process_in(
     trace: &[Entry],
     birth: Birth,
 ) -> Result<Option<Process>, NoMemory>
-    requires { length app.now.stores.items < 2 ^ 32 }
+    requires { CanRun app.now }
     ensures { IfOk result (IsLeftAfter app.now trace.now birth) }
 {
     let mut process = None;
@@ -77,7 +79,7 @@ pub fn end_in(
     trace: &[Entry],
     birth: Birth,
 ) -> Result<Option<End>, NoMemory>
-    requires stores { length app.now.stores.items < 2 ^ 32 }
+    requires runs { CanRun app.now }
     requires objects { AreAfter app.now trace.now (object_count app.now) objects.now }
     ensures { IfOk result (λ end. end ≡ end_in app.now trace.now birth) }
 {

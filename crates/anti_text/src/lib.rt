@@ -4,6 +4,7 @@
 mod call_words;
 mod ends;
 mod entry_lines;
+mod escape;
 mod output;
 mod printed;
 mod process_lines;
@@ -12,4 +13,4 @@ mod reply_words;
 mod wait_lines;
 mod words;
 
-pub use printed::{Waits, text};
+pub use printed::text;

@@ -9,14 +9,11 @@ use crate::entry_lines::entry_line;
 use crate::output::Output;
 use crate::process_lines::process_lines;
 use crate::wait_lines::wait_line;
-use anti_app::App;
-use anti_ids::{Bytes, List, NoMemory};
+use anti_app::{App, Waits};
+use anti_ids::{Bytes, NoMemory};
 use anti_kind::Entry;
 use anti_trace::Trace;
 use std::alloc::Global;
-
-/// The numbers of the choices that made no entry, counted from 1, ascending.
-pub type Waits = List<u32>;
 
 // Writes the lines of the entries.
 fn entry_lines(out: &mut Output, app: &App, trace: &[Entry]) -> Result<(), NoMemory>

@@ -1,7 +1,8 @@
-ghost use Rattle.std.specs.Prelude.{◌≡◌, ◌++◌, ◌<◌, ◌^◌, OnOk, length};
+ghost use Rattle.std.specs.Prelude.{◌≡◌, ◌++◌, OnOk};
 ghost use Rattle.std.specs.List.{flat_map};
 ghost use Rattle.anti_proc.specs.Births.{birth_at, is_birth};
 ghost use Rattle.anti_proc.specs.Numbers.{object_count};
+ghost use Rattle.anti_proc.specs.Running.{CanRun};
 ghost use Rattle.anti_text.specs.Processes.{end_text, handler_text, service_text, birth_text, process_line, birth_line, process_lines};
 ghost use Rattle.anti_text.specs.Replays.{AreAfter, IsReplayable};
 
@@ -43,6 +44,7 @@ fn end_text(out: &mut Output, app: &App, end: Option<End>) -> Result<(), NoMemor
 {
     match end {
         Some(End::Fine) => out.put(b"fine"),
+        Some(End::BadKey) => out.put(b"badkey"),
         Some(End::LineageFull) => out.put(b"lineage"),
         Some(End::StoreFull(object)) => {
             out.put(b"store ")?;
@@ -106,7 +108,7 @@ fn birth_line(
     object: u32,
     entry: &Entry,
 ) -> Result<(), NoMemory>
-    requires stores { length app.now.stores.items < 2 ^ 32 }
+    requires runs { CanRun app.now }
     requires objects { AreAfter app.now trace.now (object_count app.now) objects.now }
     ensures { OnOk result (out.new ≡ out.old ++ birth_line app.now trace.now object entry.now) }
 {
@@ -127,7 +129,7 @@ fn lines_on(
     trace: &[Entry],
     object: u32,
 ) -> Result<(), NoMemory>
-    requires stores { length app.now.stores.items < 2 ^ 32 }
+    requires runs { CanRun app.now }
     requires objects { AreAfter app.now trace.now (object_count app.now) objects.now }
     ensures { OnOk result (out.new ≡ out.old ++ flat_map (birth_line app.now trace.now object) trace.now) }
 {

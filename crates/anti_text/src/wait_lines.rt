@@ -2,7 +2,7 @@ ghost use Rattle.std.specs.Prelude.{◌≡◌, ◌++◌, OnOk};
 ghost use Rattle.anti_text.specs.Entries.{part_text, shipment_text, choice_text, choice_numbered, wait_line};
 
 use crate::output::Output;
-use crate::words::{mark_text, region_name, service_name, store_name};
+use crate::words::{mark_text, region_name, service_name, store_name, sub_name};
 use anti_app::{App, Choice};
 use anti_ids::NoMemory;
 
@@ -49,6 +49,22 @@ fn choice_text(out: &mut Output, app: &App, choice: &Choice) -> Result<(), NoMem
             out.put(b" ")?;
             out.number(u64::from(*nth))
         }
+        Choice::Repost { service, number } => {
+            out.put(b"repost ")?;
+            service_name(out, app, *service as usize)?;
+            out.put(b" ")?;
+            out.number(u64::from(*number))
+        }
+        Choice::Pull { sub } => {
+            out.put(b"pull ")?;
+            sub_name(out, app, *sub)
+        }
+        Choice::Repull { sub, version } => {
+            out.put(b"repull ")?;
+            sub_name(out, app, *sub)?;
+            out.put(b" ")?;
+            out.number(*version)
+        }
         Choice::Ship {
             store,
             region,
@@ -71,6 +87,7 @@ fn choice_text(out: &mut Output, app: &App, choice: &Choice) -> Result<(), NoMem
             out.put(b"go ")?;
             mark_text(out, app, *object, *place)
         }
+        Choice::Finish => out.put(b"finish"),
     }
 }
 

@@ -1,6 +1,7 @@
 ghost use Rattle.std.specs.Prelude.{◌≡◌, ◌++◌, OnOk};
-ghost use Rattle.anti_text.specs.Words.{store_name, service_name, region_name, object_name, mark_text, quoted, id_text, lineage_text};
+ghost use Rattle.anti_text.specs.Words.{store_name, service_name, sub_name, region_name, object_name, mark_text, quoted, id_text, lineage_text};
 
+use crate::escape::escaped;
 use crate::output::Output;
 use anti_app::App;
 use anti_ids::{Lineage, NoMemory, WriteId};
@@ -20,6 +21,16 @@ pub fn service_name(out: &mut Output, app: &App, service: usize) -> Result<(), N
     ensures { OnOk result (out.new ≡ out.old ++ service_name app.now service) }
 {
     match app.services.as_slice().get(service) {
+        Some(found) => out.put(found.name.bytes()),
+        None => Ok(()),
+    }
+}
+
+/// Writes the name of a sub, by its number.
+pub fn sub_name(out: &mut Output, app: &App, sub: u32) -> Result<(), NoMemory>
+    ensures { OnOk result (out.new ≡ out.old ++ sub_name app.now sub) }
+{
+    match app.subs.as_slice().get(sub as usize) {
         Some(found) => out.put(found.name.bytes()),
         None => Ok(()),
     }
@@ -62,7 +73,7 @@ pub fn quoted(out: &mut Output, value: &[u8]) -> Result<(), NoMemory>
     ensures { OnOk result (out.new ≡ out.old ++ quoted value.now) }
 {
     out.put(b"\"")?;
-    out.put(value)?;
+    escaped(out, value)?;
     out.put(b"\"")
 }
 

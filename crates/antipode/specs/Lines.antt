@@ -1,7 +1,7 @@
 -- The line that tells a fault.
 use Rattle.std.specs.Prelude.{ℕ, List, ◌++◌, codes, decimal}
-use Rattle.anti_app.specs.declared.app.Part.{Part}
-use Rattle.anti_app.specs.declared.app.Part.TheVariants as parts
+use Rattle.anti_rules.specs.declared.place.Part.{Part}
+use Rattle.anti_rules.specs.declared.place.Part.TheVariants as parts
 use Rattle.antipode.specs.declared.fault.TopFault.{TopFault}
 use Rattle.antipode.specs.declared.fault.TopFault.TheVariants.{Usage, ReadFault, WriteFault, TooLong, NotToml, BadApp, BadChoice, NoMemory}
 

@@ -9,6 +9,8 @@ mod fault;
 mod outcome;
 mod preparing;
 #[cfg(test)]
+mod rule_tests;
+#[cfg(test)]
 mod shim_tests;
 mod telling;
 #[cfg(test)]

@@ -1,6 +1,5 @@
 use crate::fault::TopFault;
-use anti_app::App;
-use anti_play::Waits;
+use anti_app::{App, Waits};
 use anti_trace::Trace;
 
 /// A run of an application.

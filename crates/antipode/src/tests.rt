@@ -11,7 +11,7 @@ const STORE_ALONE: &[u8] =
 
 const NOTHING_HAPPENED: &[u8] = b"record 1\nend 0\n";
 
-// What a document is refused with that breaks a rule, or has something that is not built yet.
+// What a document is refused with that has something that is not built yet.
 const NOT_BUILT: &[u8] = b"app 25 top 0 0\n";
 
 // The choices and the first body of a process that writes, waits, and reads what it wrote once that is shipped; and the record.
@@ -98,10 +98,150 @@ process w.8 w b store s
 end 4088
 ";
 
+// A read before anything is shipped shows nothing.
+const READ_TOO_EARLY: &[u8] = b"record 1
+1 w.1 w.1/1 take 1 = got 1 request one 0 \"\" 1;
+2 s.1 w.1/1 write k \"a\" 1; = k@1
+3 s.2 w.1/1 read eu k = k@0
+process w.1 w one fine
+end 3
+";
+
+// Two processes, of which the second reads what the first wrote. A read alone adds nothing to what the next write carries.
+const TWO_CHOICES: &[u8] =
+    b"\"take w 1\", \"go w.1\", \"ship s eu 1\", \"take w 1\", \"go w.2\", \"go w.2\"";
+
+const READ_AND_WRITTEN: &[u8] = b"record 1
+1 w.1 w.1/1 take 1 = got 1 request one 0 \"\" 1;
+2 s.1 w.1/1 write k \"a\" 1; = k@1
+2 w.2 w.2/1 take 1 = got 2 request two 0 \"\" 1;
+3 s.2 ~0 ship eu 1 1 = moved
+4 s.3 w.2/1 read eu k = k@1 \"a\" 1;
+5 s.4 w.2/1 write j \"b\" 1; = j@2
+process w.1 w one fine
+process w.2 w two fine
+end 6
+";
+
+// The same where the second transfers what it read, takes it out again, and writes each time.
+const TRANSFERRED: &[u8] = b"record 1
+1 w.1 w.1/1 take 1 = got 1 request one 0 \"\" 1;
+2 s.1 w.1/1 write k \"a\" 1; = k@1
+2 w.2 w.2/1 take 1 = got 2 request two 0 \"\" 1;
+3 s.2 ~0 ship eu 1 1 = moved
+4 s.3 w.2/1 read eu k = k@1 \"a\" 1;
+5 s.4 w.2/1 write j \"b\" 1;s/k@1 = j@2
+process w.1 w one fine
+process w.2 w two fine
+end 6
+";
+
+// Writes that are untracked, appended and taken out, and what each later write carries; then two spans, and a read whose block runs.
+const LINEAGES: &[u8] =
+    b"\"write s a 1 as x untracked\", \"write s b 2 as y\", \"append x\", \"write s c $y\", \"remove y\", \"write s d $x\", \"stop\", \"root\", \"write s $in 3 as z\", \"root\", \"read s e as r\", \"if r absent\", \"write s f 4\", \"end\", \"nack\", \"write s g 5\"";
+
+const LINEAGES_WRITTEN: &[u8] = b"record 1
+1 w.1 w.1/1 take 1 = got 1 request one 0 \"key\" 1;
+2 s.1 w.1/1 write a \"1\" 1; = a@1
+3 s.2 w.1/1 write b \"2\" 1; = b@2
+4 s.3 w.1/1 write c \"2\" 1;s/a@1,s/b@2 = c@3
+5 s.4 w.1/1 write d \"1\" 1;s/a@1,s/c@3 = d@4
+6 s.5 w.1/2 write key \"3\" 1; = key@5
+7 s.6 w.1/3 read eu e = e@0
+8 s.7 w.1/3 write f \"4\" 1; = f@6
+process w.1 w one fine
+end 8
+";
+
+// A percent sign is escaped.
+const ESCAPED: &[u8] = b"record 1
+1 w.1 w.1/1 take 1 = got 1 request one 0 \"\" 1;
+2 s.1 w.1/1 write k \"a%25b\" 1; = k@1
+process w.1 w one fine
+end 2
+";
+
+// The value of the request is empty and gives no key.
+const NO_KEY: &[u8] = b"record 1
+1 w.1 w.1/1 take 1 = got 1 request one 0 \"\" 1;
+wait 2 go w.1
+process w.1 w one badkey
+end 1
+";
+
+// A block that runs 256 times, and a write more.
+const MANY_WRITES: &[u8] =
+    b"\"repeat 16\", \"repeat 16\", \"write s k v\", \"end\", \"end\", \"write s k v\"";
+
+const ONE_ID_TOO_MANY: &[u8] = b"process w.1 w one lineage\nprocess w.2 w two fine\nend 516\n";
+
+// The notification that comes before its post: the document of `examples/notification.toml`, and its record.
+const NOTIFICATION: &[u8] =
+    b"# A poster in us writes a post and then a note on it. The note reaches eu first. The reader there takes the lineage of the note in, and its
+# barrier waits for the post.
+regions = [\"us\", \"eu\"]
+choices = [
+  \"take poster 1\", \"go poster.1\", \"go poster.1\",
+  \"ship notes eu 1\",
+  \"take reader 1\", \"go reader.1\",
+  \"go reader.1\", # the barrier has to wait: the post is not in eu yet
+  \"finish\",
+]
+store = [
+  { name = \"posts\", kind = \"kv\", replicas = [\"us\", \"eu\"] },
+  { name = \"notes\", kind = \"kv\", replicas = [\"eu\"] },
+]
+request = [
+  { service = \"poster\", handler = \"post\", value = \"hello\" },
+  { service = \"reader\", handler = \"note\" },
+]
+
+[[service]]
+name = \"poster\"
+region = \"us\"
+handler = [{ name = \"post\", body = [\"write posts p1 $in\", \"write notes n1 p1\"] }]
+
+[[service]]
+name = \"reader\"
+region = \"eu\"
+handler = [{ name = \"note\", body = [\"read notes n1 as n\", \"transfer n\", \"barrier\", \"read posts $n as p\"] }]
+";
+
+const NOTIFIED: &[u8] = b"record 1
+1 poster.1 poster.1/1 take 1 = got 1 request post 0 \"hello\" 1;
+1 reader.1 reader.1/1 take 1 = got 1 request note 0 \"\" 1;
+2 posts.1 poster.1/1 write p1 \"hello\" 1; = p1@1
+3 notes.1 poster.1/1 write n1 \"p1\" 1;posts/p1@1 = n1@1
+4 notes.2 ~0 ship eu 1 1 = moved
+5 posts.2 ~0 ship us 1 1 = moved
+5 notes.3 reader.1/1 read eu n1 = n1@1 \"p1\" 1;posts/p1@1
+6 posts.3 ~0 ship eu 1 1 = moved
+7 posts.4 reader.1/1 look eu 1;posts/p1@1 = clear
+8 notes.4 reader.1/1 look eu 1;notes/n1@1 = clear
+9 posts.5 reader.1/1 read eu p1 = p1@1 \"hello\" 1;
+wait 7 go reader.1
+process poster.1 poster post fine
+process reader.1 reader note fine
+end 11
+";
+
+// The end of the record of a store that is full before the ninth process has written.
+const NINTH_FINDS_NO_ROOM: &[u8] = b"process w.1 w one fine
+process w.2 w one fine
+process w.3 w one fine
+process w.4 w one fine
+process w.5 w one fine
+process w.6 w one fine
+process w.7 w one fine
+process w.8 w one fine
+process w.9 w one store s
+end 4105
+";
+
 // A call, and what it has to come to. The source and the sinks move at most `most` bytes in one call. The calls of these
 // numbers fail, and none where the number is 0.
 #[derive(Clone, Copy)]
-struct Row<'a> {
+pub struct Row<'a> {
     word: &'a [u8],
     document: &'a [u8],
     most: u32,
@@ -116,7 +256,7 @@ struct Row<'a> {
 }
 
 // A call with the word `step`, of whose reads and writes none fails.
-fn step<'a>(document: &'a [u8], status: u8, out: &'a [u8], err: &'a [u8]) -> Row<'a> {
+pub fn step<'a>(document: &'a [u8], status: u8, out: &'a [u8], err: &'a [u8]) -> Row<'a> {
     Row {
         word: b"step",
         document,
@@ -132,11 +272,11 @@ fn step<'a>(document: &'a [u8], status: u8, out: &'a [u8], err: &'a [u8]) -> Row
 }
 
 // Whether the call comes to what the row wants. `None` where memory runs out.
-fn ends_as(alloc: Global, row: &Row) -> Option<bool> {
+pub fn ends_as(alloc: Global, row: &Row) -> Option<bool> {
     let word = Value::new(alloc, row.word).ok()?;
     let most = row.most.max(1);
     let mut src = MemorySource::new(alloc, row.document, most, &[row.read_fails]).ok()?;
-    let mut out = MemorySink::new(alloc, 1_000_000, most, &[row.write_fails]).ok()?;
+    let mut out = MemorySink::new(alloc, 4_000_000, most, &[row.write_fails]).ok()?;
     let mut err = MemorySink::new(alloc, 1000, most, &[row.line_fails]).ok()?;
     let outcome = antipode_plain(alloc, &[word], &mut src, &mut out, &mut err);
     let written = if row.more {
@@ -147,13 +287,20 @@ fn ends_as(alloc: Global, row: &Row) -> Option<bool> {
     Some(outcome.status == row.status && written && err.bytes() == row.err)
 }
 
-// A document with one store, and a service with the handlers `one` and `two`. `None` where memory runs out.
-fn served(alloc: Global, choices: &[u8], one: &[u8], two: &[u8]) -> Option<Bytes> {
+// Two requests, one to each handler, and one with a value.
+const TWO_REQUESTS: &[u8] =
+    b"{service = \"w\", handler = \"one\"}, {service = \"w\", handler = \"two\"}";
+
+const WITH_KEY: &[u8] = b"{service = \"w\", handler = \"one\", value = \"key\"}";
+
+// A document with one store, these requests, and a service with the handlers `one` and `two`. `None` where memory runs out.
+fn served(alloc: Global, requests: &[u8], choices: &[u8], one: &[u8], two: &[u8]) -> Option<Bytes> {
     let pieces = [
         b"choices = [".as_slice(),
         choices,
-        b"]\nregions = [\"eu\"]\nstore = [{name = \"s\", kind = \"kv\", replicas = [\"eu\"]}]\n",
-        b"request = [{service = \"w\", handler = \"one\"}, {service = \"w\", handler = \"two\"}]\n",
+        b"]\nregions = [\"eu\"]\nstore = [{name = \"s\", kind = \"kv\", replicas = [\"eu\"]}]\nrequest = [",
+        requests,
+        b"]\n",
         b"[[service]]\nname = \"w\"\nregion = \"eu\"\n[[service.handler]]\nname = \"one\"\nbody = [",
         one,
         b"]\n[[service.handler]]\nname = \"two\"\nbody = [",
@@ -289,53 +436,21 @@ fn runs_are_written_and_refusals_are_told(rt: HostRuntime) {
         },
         Row {
             line_fails: 2,
-            ..step(b"", 5, b"", b"app 25 top")
+            ..step(b"", 5, b"", b"app 2 top ")
         },
         step(b"regions = [", 5, b"", b"not toml\n"),
         step(b"regions = [\"us\"] # \xff", 5, b"", b"not toml\n"),
-        step(b"", 5, b"", NOT_BUILT),
         step(b"regions = [\"us\"]\n", 0, NOTHING_HAPPENED, b""),
-        step(b"regions = []\n", 5, b"", NOT_BUILT),
-        step(b"regions = [\"us\", \"us\"]\n", 5, b"", NOT_BUILT),
-        step(b"regions = [\"u s\"]\n", 5, b"", NOT_BUILT),
-        step(b"regions = \"us\"\n", 5, b"", NOT_BUILT),
-        step(b"regions = [\"us\"]\nother = 1\n", 5, b"", NOT_BUILT),
         step(
             b"regions = [\"us\"]\nchoices = [\"finish\"]\n",
-            5,
+            0,
+            NOTHING_HAPPENED,
             b"",
-            NOT_BUILT,
         ),
-        step(
-            b"regions = [\"us\"]\nstore = [{name = \"s\", kind = \"file\", replicas = [\"us\"]}]\n",
-            5,
-            b"",
-            NOT_BUILT,
-        ),
-        step(
-            b"regions = [\"us\"]\nstore = [{name = \"s\", kind = \"kv\", replicas = [\"eu\"]}]\n",
-            5,
-            b"",
-            NOT_BUILT,
-        ),
-        step(
-            b"regions = [\"us\"]\nstore = [{name = \"s\", kind = \"kv\", replicas = [\"us\", \"us\"]}]\n",
-            5,
-            b"",
-            NOT_BUILT,
-        ),
-        step(
-            b"regions = [\"us\"]\nstore = [{name = \"s\", kind = \"kv\", replicas = [\"us\"], tries = 3}]\n",
-            5,
-            b"",
-            NOT_BUILT,
-        ),
-        step(
-            b"regions = [\"us\"]\nrequest = [{service = \"w\", handler = \"one\"}]\n",
-            5,
-            b"",
-            NOT_BUILT,
-        ),
+        Row {
+            most: 5000,
+            ..step(NOTIFICATION, 0, NOTIFIED, b"")
+        },
     ];
     for (i, row) in rows.iter().enumerate() {
         assert_eq!(rt; ends_as(rt.alloc(), row), Some(true), "row {i}");
@@ -343,43 +458,271 @@ fn runs_are_written_and_refusals_are_told(rt: HostRuntime) {
 }
 
 #[test]
-fn statements_and_choices_are_played_or_refused(rt: HostRuntime) -> Result<(), Fail> {
+fn statements_and_choices_are_played(rt: HostRuntime) -> Result<(), Fail> {
     let rows = [
-        (CHOICES, WRITE_AND_READ, b"".as_slice(), WRITTEN_AND_READ),
-        (BARRIER_CHOICES, WRITE_BARRIER_READ, b"", BARRIER_WAITED),
-        (DRY_CHOICES, WRITE_AND_DRY_RUNS, b"", DRY_RUNS_MADE),
-        (CHOICES, WRITE_AND_READ, b"\"nack\"", NOT_BUILT),
-        (CHOICES, b"\"barrier now\"", b"", NOT_BUILT),
-        (CHOICES, b"\"dry run\"", b"", NOT_BUILT),
-        (b"\"again s eu\"", WRITE_AND_READ, b"", NOT_BUILT),
-        (b"\"again w eu 1\"", WRITE_AND_READ, b"", NOT_BUILT),
-        (CHOICES, b"\"reed s k as x\"", b"", NOT_BUILT),
-        (CHOICES, b"\"write t k a\"", b"", NOT_BUILT),
-        (CHOICES, b"\"write s k a,b\"", b"", NOT_BUILT),
-        (CHOICES, b"\"write s $k a\"", b"", NOT_BUILT),
         (
+            TWO_REQUESTS,
             CHOICES,
-            b"\"read s k as x\", \"read s k as x\"",
-            b"",
-            NOT_BUILT,
+            WRITE_AND_READ,
+            b"".as_slice(),
+            WRITTEN_AND_READ,
         ),
-        (b"\"go s\"", WRITE_AND_READ, b"", NOT_BUILT),
-        (b"\"go w.01\"", WRITE_AND_READ, b"", NOT_BUILT),
-        (b"\"take w 0\"", WRITE_AND_READ, b"", NOT_BUILT),
-        (b"\"take s 1\"", WRITE_AND_READ, b"", NOT_BUILT),
-        (b"\"take w 4097\"", WRITE_AND_READ, b"", NOT_BUILT),
-        (b"\"ship s us 1\"", WRITE_AND_READ, b"", NOT_BUILT),
-        (b"\"ship s eu 1 1 1\"", WRITE_AND_READ, b"", NOT_BUILT),
+        (
+            TWO_REQUESTS,
+            BARRIER_CHOICES,
+            WRITE_BARRIER_READ,
+            b"",
+            BARRIER_WAITED,
+        ),
+        (
+            TWO_REQUESTS,
+            DRY_CHOICES,
+            WRITE_AND_DRY_RUNS,
+            b"",
+            DRY_RUNS_MADE,
+        ),
+        (
+            TWO_REQUESTS,
+            b"\"take w 1\", \"go w.1\", \"go w.1\"",
+            WRITE_AND_READ,
+            b"\"nack\"",
+            READ_TOO_EARLY,
+        ),
+        (
+            TWO_REQUESTS,
+            TWO_CHOICES,
+            b"\"write s k a\"",
+            b"\"read s k as p\", \"write s j b\"",
+            READ_AND_WRITTEN,
+        ),
+        (
+            TWO_REQUESTS,
+            TWO_CHOICES,
+            b"\"write s k a\"",
+            b"\"read s k as p\", \"transfer p\", \"write s j b\"",
+            TRANSFERRED,
+        ),
+        (
+            WITH_KEY,
+            b"\"take w 1\", \"go w.1\", \"go w.1\", \"go w.1\", \"go w.1\", \"go w.1\", \"go w.1\", \"go w.1\"",
+            LINEAGES,
+            b"",
+            LINEAGES_WRITTEN,
+        ),
+        (
+            TWO_REQUESTS,
+            b"\"take w 1\", \"go w.1\"",
+            b"\"write s k a%b\"",
+            b"",
+            ESCAPED,
+        ),
+        (
+            TWO_REQUESTS,
+            b"\"take w 1\", \"go w.1\"",
+            b"\"write s $in a\"",
+            b"",
+            NO_KEY,
+        ),
     ];
-    for (i, (choices, one, two, text)) in rows.iter().enumerate() {
-        let document = served(rt.alloc(), choices, one, two).ok_or("no memory")?;
-        let row = if i < 3 {
-            step(document.bytes(), 0, text, b"")
-        } else {
-            step(document.bytes(), 5, b"", text)
-        };
+    for (i, (requests, choices, one, two, text)) in rows.iter().enumerate() {
+        let document = served(rt.alloc(), requests, choices, one, two).ok_or("no memory")?;
+        let row = step(document.bytes(), 0, text, b"");
         assert_eq!(rt; ends_as(rt.alloc(), &row), Some(true), "row {i}");
     }
+    Ok(())
+}
+
+#[test]
+fn each_fault_of_a_body_is_told(rt: HostRuntime) -> Result<(), Fail> {
+    let bodies = [
+        (
+            b"\"barrier\", \"reed s k as x\"".as_slice(),
+            b"app 20 handler 1 2\n".as_slice(),
+        ),
+        (b"\"\"".as_slice(), b"app 20 handler 1 1\n".as_slice()),
+        (
+            b"\"barrier now\"".as_slice(),
+            b"app 20 handler 1 1\n".as_slice(),
+        ),
+        (
+            b"\"dry run\"".as_slice(),
+            b"app 20 handler 1 1\n".as_slice(),
+        ),
+        (
+            b"\"repeat 17\", \"end\"".as_slice(),
+            b"app 20 handler 1 1\n".as_slice(),
+        ),
+        (
+            b"\"repeat 2\", \"barrier\"".as_slice(),
+            b"app 21 handler 1 1\n".as_slice(),
+        ),
+        (
+            b"\"barrier\", \"end\"".as_slice(),
+            b"app 21 handler 1 2\n".as_slice(),
+        ),
+        (
+            b"\"stop\", \"barrier\"".as_slice(),
+            b"app 21 handler 1 1\n".as_slice(),
+        ),
+        (
+            b"\"repeat 16\", \"repeat 16\", \"repeat 2\", \"end\", \"end\", \"end\"".as_slice(),
+            b"app 21 handler 1 3\n".as_slice(),
+        ),
+        (
+            b"\"read s k as x\", \"read s k as x\"".as_slice(),
+            b"app 22 handler 1 2\n".as_slice(),
+        ),
+        (
+            b"\"write s k $x\"".as_slice(),
+            b"app 22 handler 1 1\n".as_slice(),
+        ),
+        (
+            b"\"write s k a as x\", \"root\", \"append x\"".as_slice(),
+            b"app 22 handler 1 3\n".as_slice(),
+        ),
+        (
+            b"\"write t k a\"".as_slice(),
+            b"app 23 handler 1 1\n".as_slice(),
+        ),
+        (
+            b"\"barrier\", \"scan s k as x\"".as_slice(),
+            b"app 23 handler 1 2\n".as_slice(),
+        ),
+        (
+            b"\"poll s k as x\"".as_slice(),
+            b"app 23 handler 1 1\n".as_slice(),
+        ),
+        (
+            b"\"call w three v as x\"".as_slice(),
+            b"app 24 handler 1 1\n".as_slice(),
+        ),
+        (
+            b"\"send v one v\"".as_slice(),
+            b"app 24 handler 1 1\n".as_slice(),
+        ),
+        (
+            b"\"send w two v\"".as_slice(),
+            b"app 25 top 0 0\n".as_slice(),
+        ),
+        (
+            b"\"call w two v as x\"".as_slice(),
+            b"app 25 top 0 0\n".as_slice(),
+        ),
+    ];
+    for (i, (body, line)) in bodies.iter().enumerate() {
+        let document = served(rt.alloc(), TWO_REQUESTS, b"\"no choice\"", body, b"").ok_or(
+            "no memory",
+        )?;
+        let row = step(document.bytes(), 5, b"", line);
+        assert_eq!(rt; ends_as(rt.alloc(), &row), Some(true), "body {i}");
+    }
+    Ok(())
+}
+
+#[test]
+fn choices_without_a_form_are_told(rt: HostRuntime) -> Result<(), Fail> {
+    let choices = [
+        b"\"finish\", \"go s\"".as_slice(),
+        b"\"finish\", \"go w\"".as_slice(),
+        b"\"finish\", \"go w.01\"".as_slice(),
+        b"\"finish\", \"go w.1.1\"".as_slice(),
+        b"\"finish\", \"go .1\"".as_slice(),
+        b"\"finish\", \"take w 0\"".as_slice(),
+        b"\"finish\", \"take w 4097\"".as_slice(),
+        b"\"finish\", \"take w 01\"".as_slice(),
+        b"\"finish\", \"take w +1\"".as_slice(),
+        b"\"finish\", \"take s 1\"".as_slice(),
+        b"\"finish\", \"take w\"".as_slice(),
+        b"\"finish\", \"pull w\"".as_slice(),
+        b"\"finish\", \"repull w 1\"".as_slice(),
+        b"\"finish\", \"ship s us 1\"".as_slice(),
+        b"\"finish\", \"ship w eu 1\"".as_slice(),
+        b"\"finish\", \"ship s eu\"".as_slice(),
+        b"\"finish\", \"ship s eu 1 1 1\"".as_slice(),
+        b"\"finish\", \"ship s eu 1 0\"".as_slice(),
+        b"\"finish\", \"again s eu\"".as_slice(),
+        b"\"finish\", \"again w eu 1\"".as_slice(),
+        b"\"finish\", \"finish now\"".as_slice(),
+        b"\"finish\", \"stop\"".as_slice(),
+        b"\"finish\", \"\"".as_slice(),
+    ];
+    for (i, choice) in choices.iter().enumerate() {
+        let document = served(rt.alloc(), TWO_REQUESTS, choice, b"", b"").ok_or("no memory")?;
+        let row = step(document.bytes(), 5, b"", b"choice 2\n");
+        assert_eq!(rt; ends_as(rt.alloc(), &row), Some(true), "choice {i}");
+    }
+    let document = served(rt.alloc(), TWO_REQUESTS, b"\"go s\"", b"", b"").ok_or("no memory")?;
+    let row = step(document.bytes(), 5, b"", b"choice 1\n");
+    assert_eq!(rt; ends_as(rt.alloc(), &row), Some(true));
+    let document = served(
+        rt.alloc(),
+        TWO_REQUESTS,
+        b"\"go s\", \"repost w 1\"",
+        b"",
+        b"",
+    )
+    .ok_or("no memory")?;
+    let row = step(document.bytes(), 5, b"", NOT_BUILT);
+    assert_eq!(rt; ends_as(rt.alloc(), &row), Some(true));
+    Ok(())
+}
+
+#[test]
+fn a_value_of_257_bytes_is_refused(rt: HostRuntime) -> Result<(), Fail> {
+    for (length, status, line) in [
+        (256_usize, 0, b"".as_slice()),
+        (257, 5, b"app 19 request 1 0\n"),
+    ] {
+        let mut requests = Bytes::new(rt.alloc());
+        requests
+            .append(b"{service = \"w\", handler = \"one\", value = \"")
+            .ok()
+            .ok_or("no memory")?;
+        for _ in 0..length {
+            requests.append(b"v").ok().ok_or("no memory")?;
+        }
+        requests.append(b"\"}").ok().ok_or("no memory")?;
+        let document = served(rt.alloc(), requests.bytes(), b"", b"", b"").ok_or("no memory")?;
+        let text = if status == 0 { NOTHING_HAPPENED } else { b"" };
+        let row = step(document.bytes(), status, text, line);
+        assert_eq!(rt; ends_as(rt.alloc(), &row), Some(true), "{length}");
+    }
+    Ok(())
+}
+
+#[test]
+fn a_run_is_finished_on_a_full_store(rt: HostRuntime) -> Result<(), Fail> {
+    let document = served(
+        rt.alloc(),
+        TWO_REQUESTS,
+        b"\"finish\"",
+        MANY_WRITES,
+        b"\"nack\"",
+    )
+    .ok_or("no memory")?;
+    let row = Row {
+        most: 5000,
+        more: true,
+        ..step(document.bytes(), 0, ONE_ID_TOO_MANY, b"")
+    };
+    assert_eq!(rt; ends_as(rt.alloc(), &row), Some(true));
+    let mut requests = Bytes::new(rt.alloc());
+    for number in 1..=9_u32 {
+        let request = format!(in rt.alloc();
+            "{{service = \"w\", handler = \"one\", value = \"k{number}\"}}, "
+        )?;
+        requests.append(request.as_bytes()).ok().ok_or("no memory")?;
+    }
+    let writes = b"\"repeat 16\", \"repeat 16\", \"write s $in v\", \"end\", \"end\"";
+    let document = served(rt.alloc(), requests.bytes(), b"\"finish\"", writes, b"").ok_or(
+        "no memory",
+    )?;
+    let row = Row {
+        most: 5000,
+        more: true,
+        ..step(document.bytes(), 0, NINTH_FINDS_NO_ROOM, b"")
+    };
+    assert_eq!(rt; ends_as(rt.alloc(), &row), Some(true));
     Ok(())
 }
 
@@ -402,7 +745,7 @@ fn a_full_store_still_takes_each_shipment(rt: HostRuntime) -> Result<(), Fail> {
     let document = filled(rt.alloc(), 454, 1).ok_or("no memory")?;
     let row = Row {
         most: 5000,
-        ..step(document.bytes(), 5, b"", NOT_BUILT)
+        ..step(document.bytes(), 5, b"", b"app 4 top 0 0\n")
     };
     assert_eq!(rt; ends_as(rt.alloc(), &row), Some(true));
     Ok(())
@@ -428,7 +771,9 @@ fn a_longer_document_is_too_long(rt: HostRuntime) -> Result<(), Fail> {
 
 #[test]
 fn each_failing_read_and_write_is_told(rt: HostRuntime) -> Result<(), Fail> {
-    let document = served(rt.alloc(), CHOICES, WRITE_AND_READ, b"").ok_or("no memory")?;
+    let document = served(rt.alloc(), TWO_REQUESTS, CHOICES, WRITE_AND_READ, b"").ok_or(
+        "no memory",
+    )?;
     let runs = [
         (STORE_ALONE, NOTHING_HAPPENED),
         (document.bytes(), WRITTEN_AND_READ),

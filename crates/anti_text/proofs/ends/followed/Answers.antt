@@ -6,5 +6,5 @@ use Rattle.anti_text.proofs.ends.followed.Goals as goal
 
 pub returns-in_ok-feed-in-Some : goal.returns-in_ok-feed-in-Some
 returns-in_ok-feed-in-Some c = λ entries s.
-    followed_more c.args.app.now c.in-Some.process c.feed.new.self c.args.entry.now c.in_ok-feed-in-Some.ensures.goes c.in_ok-feed-in-Some.ensures.full
+    followed_more c.args.app.now c.in-Some.process c.feed.new.self c.args.entry.now c.in_ok-feed-in-Some.ensures.goes c.in_ok-feed-in-Some.ensures.full c.feed.ensures.run
     entries (subst (λ (o : Option Process). Stands c.args.app.now entries o) c.in-Some.is s)

@@ -1,0 +1,96 @@
+-- What no failed rule says of the things of a part, and of what is made of them.
+use Rattle.std.proofs.Common.{◌≡◌, ℕ, ℤ, pos, negsuc, List, [], ◌∷◌, ◌++◌, Bool, true, false, not, ◌||◌, length, map, Option, None, Some, is_some, if◌then◌else◌, refl, sym, ap, ◌∙◌}
+use Rattle.std.specs.List.{list_all}
+use Rattle.std.specs.Option.{option_map_or}
+use Rattle.std.specs.Str.{bytes_eq}
+use Rattle.std.proofs.lemmas.Bool.{and_parts, and_from}
+use Rattle.std.proofs.lemmas.List.{length-map}
+use Rattle.anti_ids.specs.Names.{is_plain}
+use Rattle.toml.specs.Data.{Data, Members, get_member}
+use Rattle.anti_rules.specs.Trees.{text_of, is_among, are_distinct as texts_differ}
+use Rattle.anti_rules.specs.Keys.{Key, has_count, has_range}
+use Rattle.anti_rules.specs.Rules.{rule_line}
+use Rattle.anti_rules.specs.declared.rule.Rule.{Rule}
+use Rattle.anti_rules.specs.declared.place.Part.{Part}
+use Rattle.anti_rules.proofs.Holds.{NoneFails, are_apart, shaped}
+use Rattle.anti_app.specs.Parts.{name_or_a, few_or}
+use Rattle.anti_app.specs.Sound.{is_few}
+use Rattle.anti_app.proofs.Lookups.{name_stays}
+
+-- A thing of a part that fails no rule, behind earlier ones.
+abbrev pub FailsNone : Members → List ℕ → Part → List Data → Data → Type 0
+FailsNone doc home part earlier d = (rule : Rule) → rule_line rule doc home part earlier d ≡ None
+
+-- Some things of a part that fail no rule.
+abbrev pub FailNone : Members → List ℕ → Part → List Data → List Data → Type 0
+FailNone doc home part earlier ds = (rule : Rule) → NoneFails (rule_line rule doc home part) earlier ds
+
+-- what is made of things that fail no rule is sound
+pub each_sound : {Y : Type 0} (doc : Members) (home : List ℕ) (part : Part) (f : Data → Y) (sound : Y → Bool)
+    → ((earlier : List Data) (d : Data) → FailsNone doc home part earlier d → sound (f d) ≡ true)
+    → (earlier ds : List Data) → FailNone doc home part earlier ds → list_all sound (map f ds) ≡ true
+each_sound doc home part f sound is earlier [] none = refl
+each_sound doc home part f sound is earlier (d ∷ ds) none =
+    and_from (sound (f d)) (list_all sound (map f ds)) (is earlier d (λ rule. (none rule).0))
+    (each_sound doc home part f sound is (earlier ++ d ∷ []) ds (λ rule. (none rule).1))
+
+-- what each thing of a list passes, one by one
+abbrev pub AllTrue : {T : Type 0} → (T → Bool) → List T → Type 0
+AllTrue test [] = Unit {0}
+AllTrue test (x ∷ xs) = (test x ≡ true) × AllTrue test xs
+
+pub each_true : {T : Type 0} (test : T → Bool) (xs : List T) → list_all test xs ≡ true → AllTrue test xs
+each_true test [] h = tt
+each_true test (x ∷ xs) h = let parts = and_parts (test x) (list_all test xs) h in (parts.0, each_true test xs parts.1)
+
+-- what the rules on counts, on keys without a default and on ranges ask of each key of a table
+abbrev pub counts_at : Members → Key → Bool
+counts_at ms key = option_map_or (has_count key.kind) (get_member key.name ms) true
+
+abbrev pub is_there : Members → Key → Bool
+is_there ms key = not key.is_needed || is_some (get_member key.name ms)
+
+abbrev pub ranges_at : Members → Key → Bool
+ranges_at ms key = option_map_or (has_range key.kind) (get_member key.name ms) true
+
+-- what a rule on tables asks of a thing that is one
+pub table_kept : (line : Members → Option ℕ) (o : Option Members) (ms : Members) → o ≡ Some ms → option_map_or line o None ≡ None → line ms ≡ None
+table_kept line o ms there kept = shaped line o None ms kept there
+
+-- texts that differ, in the two forms
+pub texts_apart : (ds : List Data) → texts_differ ds ≡ true → are_apart (λ e d. bytes_eq (text_of d) (text_of e)) ds ≡ true
+texts_apart [] h = refl
+texts_apart (d ∷ ds) h =
+    let parts = and_parts (not (is_among (text_of d) ds)) (texts_differ ds) h in
+    and_from (not (is_among (text_of d) ds)) (are_apart (λ e d. bytes_eq (text_of d) (text_of e)) ds) parts.0 (texts_apart ds parts.1)
+
+-- a test of a length, of what is made
+pub length_made : {X Y : Type 0} (f : X → Y) (test : ℕ → Bool) (xs : List X) → test (length xs) ≡ true → test (length (map f xs)) ≡ true
+length_made f test xs h = ap test (length-map xs f) ∙ h
+
+-- names that stay
+pub names_back : (a b : List ℕ) → is_plain a ≡ true → is_plain b ≡ true → bytes_eq (name_or_a a) (name_or_a b) ≡ true → bytes_eq a b ≡ true
+names_back a b plain also same =
+    ap (λ (x : List ℕ). bytes_eq x b) (sym (name_stays a plain)) ∙ (ap (λ (x : List ℕ). bytes_eq (name_or_a a) x) (sym (name_stays b also)) ∙ same)
+
+few_cond : (b : Bool) (n default : ℕ) → is_few n ≡ b → is_few default ≡ true → is_few (if b then n else default) ≡ true
+few_cond true n default few h = few
+few_cond false n default few h = h
+
+-- a number from 1 to 8 is one
+pub few_is_few : (default : ℕ) (found : Option ℤ) → is_few default ≡ true → is_few (few_or default found) ≡ true
+few_is_few default (Some (pos n)) h = few_cond (is_few n) n default refl h
+few_is_few default (Some (negsuc n)) h = h
+few_is_few default None h = h
+
+-- what is wanted of something that is there
+pub some_passes : {T : Type 0} (p : T → Bool) (o : Option T) → option_map_or p o false ≡ true → (x : T) × (o ≡ Some x) × (p x ≡ true)
+some_passes p None h = cc
+some_passes p (Some x) h = (x, refl, h)
+
+-- what two tests say together
+pub both_pass : {T : Type 0} (p q r : T → Bool) → ((x : T) → p x ≡ true → q x ≡ true → r x ≡ true) → (xs : List T) → list_all p xs ≡ true → list_all q xs ≡ true → list_all r xs ≡ true
+both_pass p q r more [] one other = refl
+both_pass p q r more (x ∷ xs) one other =
+    let first = and_parts (p x) (list_all p xs) one in let second = and_parts (q x) (list_all q xs) other in
+    and_from (r x) (list_all r xs) (more x first.0 second.0) (both_pass p q r more xs first.1 second.1)

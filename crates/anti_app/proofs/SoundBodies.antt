@@ -1,0 +1,129 @@
+-- What a document without a breach says of the bodies of its handlers.
+use Rattle.std.proofs.Common.{◌≡◌, ℕ, suc, ◌+◌, ◌≤◌, codes, List, [], ◌∷◌, Bool, true, false, ◌||◌, nat_le, length, Option, None, Some, is_none, Result, Ok, Err, if◌then◌else◌, refl, sym, ap, ◌∙◌, arith}
+use Rattle.std.specs.List.{list_all}
+use Rattle.std.specs.Option.{option_map_or}
+use Rattle.std.specs.Str.{bytes_eq}
+use Rattle.std.proofs.lemmas.Bool.{and_from, leb-true, le-leb}
+use Rattle.anti_ids.specs.List.{empty}
+use Rattle.anti_kind.specs.declared.call.StoreKind.{StoreKind}
+use Rattle.anti_lang.specs.Words.{words}
+use Rattle.anti_lang.specs.Program.{Block, Write, Read, Scan, Poll, Call, Send}
+use Rattle.anti_lang.specs.Bodies.{block_of}
+use Rattle.anti_lang.specs.Lines.{Line, Does, read_line}
+use Rattle.anti_lang.specs.Blocks.{lines_of}
+use Rattle.anti_lang.specs.Spans.{spans_of}
+use Rattle.anti_lang.specs.Faults.{block_fault, variable_fault}
+use Rattle.anti_lang.specs.Parsing.{parsed, parsed_or, body_or, lines_from, read_or}
+use Rattle.anti_lang.proofs.BodyLaws.{lines_stated as lines_read, few_spans}
+use Rattle.anti_lang.proofs.PlainLemmas.{block_again}
+use Rattle.toml.specs.Data.{Data, Members, get_member, as_table}
+use Rattle.anti_rules.specs.Trees.{text_of, things_at, is_one_of}
+use Rattle.anti_rules.specs.Keys.{keys_of, all_fit, has_count}
+use Rattle.anti_rules.specs.Statements.{body_in as lines_stated, store_fits, is_built}
+use Rattle.anti_rules.specs.Rules.{table_line}
+use Rattle.anti_rules.specs.Order.{first_breach}
+use Rattle.anti_rules.specs.declared.rule.Rule.TheVariants.{Typed, Counted, Statements, Blocks, Variables, StatementStores, Built}
+use Rattle.anti_rules.specs.declared.place.Part.TheVariants.{Handler}
+use Rattle.anti_rules.proofs.Holds.{wanted, tabled, few_things, states_block, lines_pass}
+use Rattle.anti_app.specs.Parts.{number_or_0, regions_of, region_number, kind_of, stores_of, body_in, body_or_empty, lines_in}
+use Rattle.anti_app.specs.Sound.{is_read_by_key, is_scanned, is_polled, fits_stores, is_sound_body}
+use Rattle.anti_app.proofs.Lookups.{same_text}
+use Rattle.anti_app.proofs.Kept.{FailsNone, each_true, counts_at, table_kept, length_made, both_pass}
+use Rattle.anti_app.proofs.SoundStores.{stored_is, read_near}
+
+-- ---- kinds that words name
+kv_or : (text : List ℕ) (P : StoreKind → Bool) → P (kind_of (codes "kv")) ≡ true → bytes_eq text (codes "kv") ≡ true → P (kind_of text) ≡ true
+kv_or text P h same = ap (λ (t : List ℕ). P (kind_of t)) (same_text text (codes "kv") same) ∙ h
+
+word_or : (word text : List ℕ) (P : StoreKind → Bool) (others : Bool) → P (kind_of word) ≡ true → (others ≡ true → P (kind_of text) ≡ true) → (bytes_eq text word || others) ≡ true → P (kind_of text) ≡ true
+word_or word text P others here more h = by_first (bytes_eq text word) refl h
+  where
+    by_first : (b : Bool) → bytes_eq text word ≡ b → (b || others) ≡ true → P (kind_of text) ≡ true
+    by_first true same h = ap (λ (t : List ℕ). P (kind_of t)) (same_text text word same) ∙ here
+    by_first false same h = more h
+
+none_left : (b : Bool) → false ≡ true → b ≡ true
+none_left b h = cc
+
+read_kinds : (text : List ℕ) → is_one_of (codes "kv" ∷ codes "table" ∷ codes "blob" ∷ []) text ≡ true → is_read_by_key (kind_of text) ≡ true
+read_kinds text h =
+    word_or (codes "kv") text is_read_by_key _ refl
+    (word_or (codes "table") text is_read_by_key _ refl (word_or (codes "blob") text is_read_by_key _ refl (none_left _))) h
+
+scanned_kinds : (text : List ℕ) → is_one_of (codes "table" ∷ []) text ≡ true → is_scanned (kind_of text) ≡ true
+scanned_kinds text h = word_or (codes "table") text is_scanned _ refl (none_left _) h
+
+polled_kinds : (text : List ℕ) → is_one_of (codes "topic" ∷ []) text ≡ true → is_polled (kind_of text) ≡ true
+polled_kinds text h = word_or (codes "topic") text is_polled _ refl (none_left _) h
+
+-- ---- lines
+-- as many lines are read as there are texts
+lines_length : (before : ℕ) (texts : List (List ℕ)) (lines : List Line) → lines_from before texts ≡ Ok lines → length lines ≡ length texts
+lines_length before [] lines h = let none : [] ≡ lines = cc in ap length (sym none)
+lines_length before (text ∷ texts) lines h =
+    length_or (before + 1) (read_line (words text)) (lines_from (before + 1) texts) lines (length texts) (λ others rest. lines_length (before + 1) texts others rest) h
+  where
+    length_or : (number : ℕ) (line : Option Line) (rest : Result (List Line) ℕ) (lines : List Line) (count : ℕ) → ((others : List Line) → rest ≡ Ok others → length others ≡ count)
+        → read_or number line rest ≡ Ok lines → length lines ≡ suc count
+    length_or number None rest lines count more h = cc
+    length_or number (Some line) (Err at) lines count more h = cc
+    length_or number (Some line) (Ok others) lines count more h =
+        let same : line ∷ others ≡ lines = cc in ap length (sym same) ∙ ap suc (more others refl)
+
+-- lines that state a body have no fault
+faults_none : (lines : List Line) (blocks variables : Option ℕ) (block : Block) → body_or lines blocks variables ≡ Ok block → (is_none blocks ≡ true) × (is_none variables ≡ true)
+faults_none lines (Some number) variables block h = cc
+faults_none lines None (Some number) block h = cc
+faults_none lines None None block h = (refl, refl)
+
+-- the body that is read of lines that state one
+pub body_is : (texts : List (List ℕ)) (block : Block) → nat_le (length texts) 64 ≡ true → parsed texts ≡ Ok block → block_of (body_in texts) ≡ block
+body_is texts block few stated =
+    ap block_of (ap (λ (b : Bool). if b then body_or_empty (parsed texts) else empty) few ∙ ap body_or_empty stated) ∙ block_again block
+
+module _ (doc : Members) (fine : first_breach doc ≡ None) (home : List ℕ) where
+  abbrev region : ℕ
+  region = number_or_0 (region_number (regions_of doc) home)
+
+  -- a line that the rules pass finds its store
+  line_fits : (line : Line) → store_fits doc home line ≡ true → is_built line ≡ true → fits_stores (stores_of doc) region line ≡ true
+  unfolding fits_stores
+  line_fits (Does (Write store key value variable untracked)) fits built = stored_is doc fine store ∙ fits
+  line_fits (Does (Read store key variable)) fits built = read_near doc fine home store (codes "kv" ∷ codes "table" ∷ codes "blob" ∷ []) is_read_by_key read_kinds fits
+  line_fits (Does (Scan store prefix variable)) fits built = read_near doc fine home store (codes "table" ∷ []) is_scanned scanned_kinds fits
+  line_fits (Does (Poll store key variable)) fits built = read_near doc fine home store (codes "topic" ∷ []) is_polled polled_kinds fits
+  line_fits (Does (Call service handler value variable)) fits built = built
+  line_fits (Does (Send service handler value)) fits built = built
+  line_fits line fits built = refl
+
+  few_lines : (earlier : List Data) (d : Data) → FailsNone doc home Handler earlier d → nat_le (length (lines_stated d)) 64 ≡ true
+  few_lines earlier d none =
+      let table = tabled (table_line Typed Handler) (as_table d) (none Typed) in
+      let ms : Members = table.0 in
+      let counts = each_true (counts_at ms) (keys_of Handler) (wanted (all_fit has_count (keys_of Handler) ms) (table_kept (table_line Counted Handler) (as_table d) ms table.1 (none Counted))) in
+      ap (λ (o : Option Members). nat_le (length (option_map_or (λ found. things_at (codes "body") found) o [])) 64) table.1
+      ∙ few_things 0 64 (get_member (codes "body") ms) counts.1.0
+
+  -- the body of a handler is sound
+  pub body_sound : (earlier : List Data) (d : Data) → FailsNone doc home Handler earlier d → is_sound_body (stores_of doc) region (block_of (body_in (lines_in d))) ≡ true
+  unfolding is_sound_body
+  body_sound earlier d none =
+      let few = few_lines earlier d none in
+      let stated = states_block d few (none Statements) (none Blocks) (none Variables) in
+      let block : Block = stated.0 in
+      let texts : List (List ℕ) = lines_in d in
+      let short : nat_le (length texts) 64 ≡ true = length_made text_of (λ n. nat_le n 64) (lines_stated d) few in
+      let most : length texts ≤ 64 = leb-true _ _ short in
+      let read : lines_from 0 texts ≡ Ok (lines_of block) = lines_read texts block stated.1 in
+      let count : length (lines_of block) ≡ length texts = lines_length 0 texts (lines_of block) read in
+      let spans : spans_of block ≤ length texts = few_spans texts block stated.1 in
+      let faults = faults_none (lines_of block) (block_fault (lines_of block)) (variable_fault (lines_of block)) block (ap parsed_or (sym read) ∙ stated.1) in
+      let stores : list_all (store_fits doc home) (lines_of block) ≡ true = lines_pass (store_fits doc home) 0 0 (lines_stated d) (lines_of block) read (none StatementStores) in
+      let built : list_all is_built (lines_of block) ≡ true = lines_pass is_built 0 0 (lines_stated d) (lines_of block) read (none Built) in
+      let whole : length (lines_of block) ≤ 64 = omega arith in
+      let begun : spans_of block ≤ 64 = omega arith in
+      ap (λ (b : Block). is_sound_body (stores_of doc) region b) (body_is texts block short stated.1)
+      ∙ and_from _ _ (le-leb _ _ whole)
+      (and_from _ _ (le-leb _ _ begun)
+      (and_from _ _ faults.0
+      (and_from _ _ faults.1 (both_pass (store_fits doc home) is_built (fits_stores (stores_of doc) region) line_fits (lines_of block) stores built))))

@@ -1,0 +1,87 @@
+-- An application that a document states is sound.
+use Rattle.std.proofs.Common.{◌≡◌, ℕ, codes, ℤ, pos, negsuc, List, [], ◌∷◌, true, ◌&&◌, ◌==◌, nat_le, length, map, Option, None, Some, Result, Ok, Err, IsTrue, IfOk, refl, sym, ap, ◌∙◌}
+use Rattle.std.specs.Prelude.{int_le}
+use Rattle.std.specs.Option.{option_and_then, option_map_or}
+use Rattle.std.proofs.lemmas.Bool.{and_parts, and_from}
+use Rattle.std.proofs.Math.Dec.{leb-zero}
+use Rattle.toml.specs.Data.{Data, Members, get_member, as_integer}
+use Rattle.anti_rules.specs.Trees.{things_at}
+use Rattle.anti_rules.specs.Keys.{keys_of, all_fit, has_range}
+use Rattle.anti_rules.specs.Rules.{rule_line}
+use Rattle.anti_rules.specs.Order.{first_breach}
+use Rattle.anti_rules.specs.declared.breach.Breach.{Breach}
+use Rattle.anti_rules.specs.declared.keys.Kind.TheVariants.{Number}
+use Rattle.anti_rules.specs.declared.rule.Rule.TheVariants.{Ranged, Built}
+use Rattle.anti_rules.specs.declared.place.Part.TheVariants.{Top, Sub}
+use Rattle.anti_rules.specs.declared.limits.TheConstants.{MOST_CHOICES}
+use Rattle.anti_rules.proofs.Holds.{NoneFails, each_kept, wanted, few_things}
+use Rattle.anti_app.specs.declared.app.App.{App}
+use Rattle.anti_app.specs.declared.app.AppFault.{AppFault}
+use Rattle.anti_app.specs.declared.app.Choice.{Choice}
+use Rattle.anti_app.specs.Parts.{whole_or_0, seed_of, stores_of, services_of, subs_of, sub_of}
+use Rattle.anti_app.specs.Chosen.{app_with, choices_of}
+use Rattle.anti_app.specs.Stated.{app_or, app_unless, Reads}
+use Rattle.anti_app.specs.Sound.{are_sound_numbers, is_sound}
+use Rattle.anti_app.proofs.Kept.{each_true, ranges_at, few_is_few}
+use Rattle.anti_app.proofs.SoundRegions.{counted, regions_sound}
+use Rattle.anti_app.proofs.SoundStores.{stores_sound}
+use Rattle.anti_app.proofs.SoundServices.{services_sound, requests_sound}
+use Rattle.anti_app.proofs.SoundChoices.{choices_known}
+
+-- what never holds of a thing holds of none
+no_things : (line : List Data → Data → Option ℕ) (earlier ds : List Data) → ((before : List Data) (d : Data) → line before d ≡ None → ⊥) → NoneFails line earlier ds → ds ≡ []
+no_things line earlier [] never h = refl
+no_things line earlier (d ∷ ds) never h = absurd (never earlier d h.0)
+
+-- an integer in a range from 0
+whole_within : (most : ℕ) (o : Option Data) → option_map_or (has_range (Number (pos 0) (pos most))) o true ≡ true → nat_le (whole_or_0 (option_and_then as_integer o)) most ≡ true
+whole_within most None h = leb-zero most
+whole_within most (Some d) h = in_range (as_integer d) h
+  where
+    in_range : (found : Option ℤ) → option_map_or (λ number. int_le (pos 0) number && int_le number (pos most)) found true ≡ true → nat_le (whole_or_0 found) most ≡ true
+    in_range None h = leb-zero most
+    in_range (Some (pos n)) h = (and_parts (int_le (pos 0) (pos n)) (int_le (pos n) (pos most)) h).1
+    in_range (Some (negsuc n)) h = leb-zero most
+
+module _ (doc : Members) (fine : first_breach doc ≡ None) where
+  seed_within : nat_le (seed_of doc) 9223372036854775807 ≡ true
+  seed_within =
+      whole_within 9223372036854775807 (get_member (codes "seed") doc)
+      (each_true (ranges_at doc) (keys_of Top) (wanted (all_fit has_range (keys_of Top) doc) (each_kept Ranged doc fine).top)).1.0
+
+  no_sub : things_at (codes "sub") doc ≡ []
+  no_sub = no_things (rule_line Built doc [] Sub) [] (things_at (codes "sub") doc) (λ before d h. cc) (each_kept Built doc fine).subs
+
+  no_subs : subs_of doc ≡ []
+  no_subs = ap (map (sub_of (stores_of doc) (services_of doc))) no_sub
+
+  numbers_sound : (choices : List Choice) → are_sound_numbers (app_with doc choices) ≡ true
+  numbers_sound choices =
+      and_from _ _ seed_within
+      (and_from _ _ (few_is_few 2 (option_and_then as_integer (get_member (codes "workers") doc)) refl) (ap (λ subs. length subs == 0) no_subs))
+
+  -- An application of a document that fails no rule, with the choices that it states, is sound.
+  pub sound_of : (choices : List Choice) → choices_of doc ≡ Ok choices → is_sound (app_with doc choices) ≡ true
+  sound_of choices stated =
+      let known = choices_known (app_with doc []) no_subs doc [] 0 (things_at (codes "choices") doc) choices (each_kept Built doc fine).choices stated in
+      and_from _ _ (regions_sound doc fine)
+      (and_from _ _ (stores_sound doc fine)
+      (and_from _ _ (services_sound doc fine)
+      (and_from _ _ (requests_sound doc fine)
+      (and_from _ _
+      (and_from _ _ (ap (λ (n : ℕ). nat_le n MOST_CHOICES) known.1 ∙ few_things 0 4096 (get_member (codes "choices") doc) (counted doc fine).1.1.1.0) known.0)
+      (numbers_sound choices)))))
+
+-- What is read of a document is sound.
+or_sound : (doc : Members) → first_breach doc ≡ None → (choices : Result (List Choice) ℕ) → choices_of doc ≡ choices → (app : App) → app_or doc choices ≡ Ok app → IsTrue (is_sound app)
+or_sound doc fine (Err number) stated app h = absurd (cc)
+or_sound doc fine (Ok choices) stated app h =
+    let same : app_with doc choices ≡ app = cc in ap is_sound (sym same) ∙ sound_of doc fine choices stated
+
+unless_sound : (doc : Members) (breach : Option Breach) → first_breach doc ≡ breach → (app : App) → app_unless doc breach ≡ Ok app → IsTrue (is_sound app)
+unless_sound doc (Some breach) stated app h = absurd (cc)
+unless_sound doc None fine app h = or_sound doc fine (choices_of doc) refl app h
+
+pub read_sound : (doc : Members) (result : Result App AppFault) → Reads result (app_unless doc (first_breach doc)) → IfOk result (λ app. IsTrue (is_sound app))
+read_sound doc (Ok app) h = unless_sound doc (first_breach doc) refl app h
+read_sound doc (Err fault) h = tt

@@ -1,0 +1,15 @@
+pub mod Worked
+pub mod BodyLemmas
+pub mod PlainLemmas
+pub mod PlainNames
+pub mod TurnLemmas
+pub mod ReadLemmas
+pub mod LoneLines
+pub mod WordLemmas
+pub mod LineLemmas
+pub mod SpacedLemmas
+pub mod BuildLemmas
+pub mod VariableLemmas
+pub mod ParseLemmas
+pub mod SpanLemmas
+pub mod BodyLaws

@@ -1,0 +1,193 @@
+-- What stands for a variable, a key, a value and a count is spelled so that it is found again.
+use Rattle.std.proofs.Common.{◌≡◌, ℕ, zero, suc, ◌+◌, ◌-◌, ◌<◌, ◌≤◌, List, [], ◌∷◌, Bool, true, false, not, cond, ◌&&◌, Some, None, nat_eq, nat_lt, nat_le, length, refl, sym, ap, subst, ◌∙◌, arith}
+use Rattle.std.specs.Prelude.{codes, decimal}
+use Rattle.std.specs.Fmt.{digits}
+use Rattle.std.specs.Bool.{then_some}
+use Rattle.std.specs.List.{list_all}
+use Rattle.std.specs.Str.{bytes_eq, is_utf8}
+use Rattle.std.specs.Cmp.Lexicographic.{same_text}
+use Rattle.std.proofs.lemmas.Bool.Decides.{nat_tests}
+use Rattle.std.proofs.lemmas.Fmt.{decimal_digit}
+use Rattle.anti_ids.specs.Names.{is_name_byte, is_plain_byte, is_name, is_plain}
+use Rattle.anti_lang.specs.Texts.{is_variable, is_literal, is_literal_byte, has_dollar}
+use Rattle.anti_lang.specs.Vocabulary.{key_text, value_text, key_fits, value_fits, key_behind, value_behind, key_of, value_of, count_of}
+use Rattle.anti_lang.specs.declared.statement.KeyWord.{KeyWord}
+use Rattle.anti_lang.specs.declared.statement.KeyWord.TheVariants as keys
+use Rattle.anti_lang.specs.declared.statement.ValueWord.{ValueWord}
+use Rattle.anti_lang.specs.declared.statement.ValueWord.TheVariants as values
+
+pub both : (a b : Bool) → (a && b) ≡ true → (a ≡ true) × (b ≡ true)
+both true true h = (refl, refl)
+both true false h = absurd (cc)
+both false b h = absurd (cc)
+
+pub not_true : (b : Bool) → not b ≡ true → b ≡ false
+not_true true h = absurd (cc)
+not_true false h = refl
+
+pub found : {X : Type 0} (b : Bool) (x y : X) → then_some b x ≡ Some y → (b ≡ true) × (x ≡ y)
+found true x y h = (refl, cc)
+found false x y h = absurd (cc)
+
+pub found_if : (b : Bool) (x y : ℕ) → cond b (Some x) None ≡ Some y → (b ≡ true) × (x ≡ y)
+found_if true x y h = (refl, cc)
+found_if false x y h = absurd (cc)
+
+pub same : (xs ys : List ℕ) → bytes_eq xs ys ≡ true → xs ≡ ys
+same xs ys h = same_text xs ys (sym h)
+
+is_36 : (b : ℕ) → nat_eq b 36 ≡ true → b ≡ 36
+is_36 b h = grind (arith, nat_tests)
+
+dollar_in : (name : List ℕ) → name ≡ codes "in" → codes "$in" ≡ 36 ∷ name
+dollar_in name e = rw e refl
+
+-- the text of what a word is as a key
+key_in : (test : Bool) (name : List ℕ) → (test ≡ true → name ≡ codes "in") → key_text (cond test keys.Input (keys.Of name)) ≡ 36 ∷ name
+key_in true name h = dollar_in name (h refl)
+key_in false name h = refl
+
+key_first : (test : Bool) (first : ℕ) (rest : List ℕ) → (test ≡ true → first ≡ 36) → key_text (cond test (key_behind rest) (keys.Plain (first ∷ rest))) ≡ first ∷ rest
+key_first true first rest h = rw (h refl) (key_in (bytes_eq rest (codes "in")) rest (same rest (codes "in")))
+key_first false first rest h = refl
+
+pub key_found : (word : List ℕ) → key_text (key_of word) ≡ word
+key_found [] = refl
+key_found (first ∷ rest) = key_first (nat_eq first 36) first rest (is_36 first)
+
+-- the text of what a word is as a value
+value_in : (test : Bool) (name : List ℕ) → (test ≡ true → name ≡ codes "in") → value_text (cond test values.Input (values.Of name)) ≡ 36 ∷ name
+value_in true name h = dollar_in name (h refl)
+value_in false name h = refl
+
+value_first : (test : Bool) (first : ℕ) (rest : List ℕ) → (test ≡ true → first ≡ 36)
+    → value_text (cond test (value_behind rest) (values.Literal (first ∷ rest))) ≡ first ∷ rest
+value_first true first rest h = rw (h refl) (value_in (bytes_eq rest (codes "in")) rest (same rest (codes "in")))
+value_first false first rest h = refl
+
+pub value_found : (word : List ℕ) → value_text (value_of word) ≡ word
+value_found [] = refl
+value_found (first ∷ rest) = value_first (nat_eq first 36) first rest (is_36 first)
+
+-- a variable is not called `in`
+not_in : (name : List ℕ) → is_variable name ≡ true → bytes_eq name (codes "in") ≡ false
+not_in name h = let parts = both (is_plain name) (not (bytes_eq name (codes "in"))) h in not_true _ parts.1
+
+dollar_case : (test : Bool) (b : ℕ) → is_name_byte b ≡ true → (test ≡ true → b ≡ 36) → test ≡ false
+dollar_case true b h e = absurd (let w : false ≡ true = subst (λ (x : ℕ). is_name_byte x ≡ true) (e refl) h in cc)
+dollar_case false b h e = refl
+
+-- no name begins with `$`
+no_dollar : (b : ℕ) → is_name_byte b ≡ true → nat_eq b 36 ≡ false
+no_dollar b h = dollar_case (nat_eq b 36) b h (is_36 b)
+
+pub name_no_dollar : (name : List ℕ) → is_name name ≡ true → has_dollar name ≡ false
+name_no_dollar [] h = refl
+name_no_dollar (first ∷ rest) h =
+    let some = both (nat_lt 0 (length (first ∷ rest))) (nat_le (length (first ∷ rest)) 32 && list_all is_name_byte (first ∷ rest)) h in
+    let short = both (nat_le (length (first ∷ rest)) 32) (is_name_byte first && list_all is_name_byte rest) some.1 in
+    no_dollar first (both (is_name_byte first) (list_all is_name_byte rest) short.1).0
+
+plain_byte : (b : ℕ) → is_plain_byte b ≡ true → is_name_byte b ≡ true
+plain_byte b h = rw h refl
+
+pub plain_no_dollar : (name : List ℕ) → is_plain name ≡ true → has_dollar name ≡ false
+plain_no_dollar [] h = refl
+plain_no_dollar (first ∷ rest) h =
+    let some = both (nat_lt 0 (length (first ∷ rest))) (nat_le (length (first ∷ rest)) 24 && list_all is_plain_byte (first ∷ rest)) h in
+    let short = both (nat_le (length (first ∷ rest)) 24) (is_plain_byte first && list_all is_plain_byte rest) some.1 in
+    no_dollar first (plain_byte first (both (is_plain_byte first) (list_all is_plain_byte rest) short.1).0)
+
+-- a key is found again by its text
+pub key_again : (good : List ℕ → Bool) → ((name : List ℕ) → good name ≡ true → has_dollar name ≡ false) → (key : KeyWord) → key_fits good key ≡ true
+    → key_of (key_text key) ≡ key
+key_again good none keys.Input h = refl
+key_again good none (keys.Of variable) h = rw (not_in variable h) refl
+key_again good none (keys.Plain []) h = refl
+key_again good none (keys.Plain (first ∷ rest)) h = let e : nat_eq first 36 ≡ false = none (first ∷ rest) h in rw e refl
+
+pub literal_no_dollar : (text : List ℕ) → is_literal text ≡ true → has_dollar text ≡ false
+literal_no_dollar text h =
+    let some = both (nat_lt 0 (length text)) (nat_le (length text) 256 && (not (has_dollar text) && (list_all is_literal_byte text && is_utf8 text))) h in
+    let short = both (nat_le (length text) 256) (not (has_dollar text) && (list_all is_literal_byte text && is_utf8 text)) some.1 in
+    not_true _ (both (not (has_dollar text)) (list_all is_literal_byte text && is_utf8 text) short.1).0
+
+-- a value is found again by its text
+pub value_again : (value : ValueWord) → value_fits value ≡ true → value_of (value_text value) ≡ value
+value_again values.Input h = refl
+value_again (values.Of variable) h = rw (not_in variable h) refl
+value_again (values.Literal []) h = refl
+value_again (values.Literal (first ∷ rest)) h = let e : nat_eq first 36 ≡ false = literal_no_dollar (first ∷ rest) h in rw e refl
+
+-- the numbers from 10 to 16 in decimal
+pub ten_more : (digit : ℕ) → digit < 7 → decimal (10 + digit) ≡ 49 ∷ (48 + digit) ∷ []
+unfolding digits
+ten_more zero h = refl
+ten_more (suc zero) h = refl
+ten_more (suc (suc zero)) h = refl
+ten_more (suc (suc (suc zero))) h = refl
+ten_more (suc (suc (suc (suc zero)))) h = refl
+ten_more (suc (suc (suc (suc (suc zero))))) h = refl
+ten_more (suc (suc (suc (suc (suc (suc zero)))))) h = refl
+ten_more (suc (suc (suc (suc (suc (suc (suc digit))))))) h = absurd (omega arith)
+
+one_digit : (digit n : ℕ) → 49 ≤ digit → digit ≤ 57 → digit - 48 ≡ n → decimal n ≡ digit ∷ []
+one_digit digit n least most e =
+    let f : 48 + n ≡ digit = omega arith in
+    let small : n < 10 = omega arith in
+    decimal_digit n small ∙ ap (λ d. d ∷ []) f
+
+two_digits : (ten digit n : ℕ) → ten ≡ 49 → 48 ≤ digit → digit ≤ 54 → 10 + (digit - 48) ≡ n → decimal n ≡ ten ∷ digit ∷ []
+two_digits ten digit n one least most e =
+    let g : 48 + (digit - 48) ≡ digit = omega arith in
+    let small : digit - 48 < 7 = omega arith in
+    rw (← e, one) (ten_more (digit - 48) small ∙ ap (λ d. 49 ∷ d ∷ []) g)
+
+pub at_most : (a b : ℕ) → nat_le a b ≡ true → a ≤ b
+at_most a b h = grind (arith, nat_tests)
+
+equal : (a b : ℕ) → nat_eq a b ≡ true → a ≡ b
+equal a b h = grind (arith, nat_tests)
+
+-- a count is spelled as it is found
+pub count_found : (word : List ℕ) (n : ℕ) → count_of word ≡ Some n → decimal n ≡ word
+count_found [] n h = absurd (cc)
+count_found (digit ∷ []) n h =
+    let here = found_if (nat_le 49 digit && nat_le digit 57) (digit - 48) n h in
+    let range = both (nat_le 49 digit) (nat_le digit 57) here.0 in
+    one_digit digit n (at_most _ _ range.0) (at_most _ _ range.1) here.1
+count_found (ten ∷ digit ∷ []) n h =
+    let here = found_if (nat_eq ten 49 && (nat_le 48 digit && nat_le digit 54)) (10 + (digit - 48)) n h in
+    let one = both (nat_eq ten 49) (nat_le 48 digit && nat_le digit 54) here.0 in
+    let range = both (nat_le 48 digit) (nat_le digit 54) one.1 in
+    two_digits ten digit n (equal _ _ one.0) (at_most _ _ range.0) (at_most _ _ range.1) here.1
+count_found (ten ∷ digit ∷ more ∷ rest) n h = absurd (cc)
+
+small_again : (n : ℕ) → 1 ≤ n → n < 10 → count_of ((48 + n) ∷ []) ≡ Some n
+small_again n least most =
+    let p : nat_le 49 (48 + n) ≡ true = grind (arith, nat_tests) in
+    let q : nat_le (48 + n) 57 ≡ true = grind (arith, nat_tests) in
+    let e : (48 + n) - 48 ≡ n = omega arith in
+    rw (p, q) (ap Some e)
+
+large_again : (k : ℕ) → k < 7 → count_of (49 ∷ (48 + k) ∷ []) ≡ Some (10 + k)
+large_again k most =
+    let p : nat_le 48 (48 + k) ≡ true = grind (arith, nat_tests) in
+    let q : nat_le (48 + k) 54 ≡ true = grind (arith, nat_tests) in
+    let e : 10 + ((48 + k) - 48) ≡ 10 + k = omega arith in
+    rw (p, q) (ap Some e)
+
+count_case : (small : Bool) (n : ℕ) → 1 ≤ n → n ≤ 16 → small ≡ nat_lt n 10 → count_of (decimal n) ≡ Some n
+count_case true n least most e =
+    let below : n < 10 = grind (arith, nat_tests) in
+    rw (decimal_digit n below) (small_again n least below)
+count_case false n least most e =
+    let above : 10 ≤ n = grind (arith, nat_tests) in
+    let f : 10 + (n - 10) ≡ n = omega arith in
+    let below : n - 10 < 7 = omega arith in
+    let g : decimal n ≡ 49 ∷ (48 + (n - 10)) ∷ [] = ap decimal (sym f) ∙ ten_more (n - 10) below in
+    rw g (large_again (n - 10) below ∙ ap Some f)
+
+-- a count is found again by its text
+pub count_again : (n : ℕ) → (nat_le 1 n && nat_le n 16) ≡ true → count_of (decimal n) ≡ Some n
+count_again n h = let range = both (nat_le 1 n) (nat_le n 16) h in count_case (nat_lt n 10) n (at_most _ _ range.0) (at_most _ _ range.1) refl

@@ -1,0 +1,84 @@
+-- The body that lines of bytes state, and the lines of bytes of a body.
+use Rattle.std.specs.Prelude.{◌≡◌, ℕ, List, [], ◌∷◌, ◌++◌, Option, Some, None, Result, Ok, Err, map, ◌+◌}
+use Rattle.anti_ids.specs.List.{Listed, plain}
+use Rattle.anti_lang.specs.Words.{words}
+use Rattle.anti_lang.specs.Program.{Block, End}
+use Rattle.anti_lang.specs.Bodies.{body_of}
+use Rattle.anti_lang.specs.Lines.{Line, read_line, spelling, line_of}
+use Rattle.anti_lang.specs.declared.line.Line as code
+use Rattle.anti_lang.specs.Blocks.{up, lines_of}
+use Rattle.anti_lang.specs.Faults.{block_fault, variable_fault}
+use Rattle.anti_lang.specs.declared.statement.Statement.{Statement}
+use Rattle.anti_lang.specs.declared.fault.LangCode.{LangCode}
+use Rattle.anti_lang.specs.declared.fault.LangCode.TheVariants as codes
+use Rattle.anti_lang.specs.declared.fault.LangFault.{LangFault}
+use Rattle.anti_lang.specs.declared.fault.LangFault.TheVariants as faults
+
+abbrev pub LineTexts : Type 0
+LineTexts = List (List ℕ)
+
+-- the texts of some lines of the code
+abbrev pub texts_of : Listed (Listed ℕ) → List (List ℕ)
+texts_of lines = map (λ line. line.items) lines.items
+
+-- What lines may be read as: all of them, or the first that states nothing, counted from the one behind so many.
+abbrev pub and_line : Line → Result (List Line) ℕ → Result (List Line) ℕ
+and_line line (Ok lines) = Ok (line ∷ lines)
+and_line line (Err number) = Err number
+
+abbrev pub read_or : ℕ → Option Line → Result (List Line) ℕ → Result (List Line) ℕ
+read_or number (Some line) rest = and_line line rest
+read_or number None rest = Err number
+
+abbrev pub lines_from : ℕ → List (List ℕ) → Result (List Line) ℕ
+lines_from before [] = Ok []
+lines_from before (text ∷ texts) = read_or (before + 1) (read_line (words text)) (lines_from (before + 1) texts)
+
+-- What reading the lines answers, seen against what they state; want of memory is free.
+abbrev pub Reads : Result (Listed code.Line) LangFault → Result (List Line) ℕ → Type 0
+Reads (Ok found) (Ok lines) = found ≡ plain (map line_of lines)
+Reads (Err (faults.Line number codes.Unknown)) (Err first) = first ≡ number
+Reads (Err faults.NoMemory) stated = Unit {0}
+Reads _ _ = ⊥
+
+abbrev pub fault_at : LangCode → ℕ → LangFault
+fault_at code number = faults.Line number code
+
+-- the block, where the lines are those of one body
+abbrev pub one_block : List Block → Block
+one_block [] = End
+one_block (block ∷ outer) = block
+
+abbrev pub body_or : List Line → Option ℕ → Option ℕ → Result Block LangFault
+body_or lines (Some number) variable = Err (fault_at codes.Block number)
+body_or lines None (Some number) = Err (fault_at codes.Variable number)
+body_or lines None None = Ok (one_block (up lines))
+
+abbrev pub parsed_or : Result (List Line) ℕ → Result Block LangFault
+parsed_or (Err number) = Err (fault_at codes.Unknown number)
+parsed_or (Ok lines) = body_or lines (block_fault lines) (variable_fault lines)
+
+-- The body that lines state, or their first fault: first of all lines the unknown ones, then the blocks, then the variables.
+abbrev pub parsed : List (List ℕ) → Result Block LangFault
+parsed texts = parsed_or (lines_from 0 texts)
+
+-- What `parse` answers, seen against what is stated; want of memory is free.
+abbrev pub Parses : Result (Listed Statement) LangFault → Result Block LangFault → Type 0
+Parses (Ok body) (Ok block) = body ≡ body_of block
+Parses (Err (faults.Line number code)) (Err fault) = fault ≡ faults.Line number code
+Parses (Err faults.NoMemory) stated = Unit {0}
+Parses _ _ = ⊥
+
+-- words with one space between
+abbrev pub spaced : List (List ℕ) → List ℕ
+spaced [] = []
+spaced (word ∷ []) = word
+spaced (word ∷ next ∷ rest) = word ++ 32 ∷ spaced (next ∷ rest)
+
+-- the texts of lines, each with one space between its words
+abbrev pub all_spelled : List Line → List (List ℕ)
+all_spelled lines = map (λ line. spaced (spelling line)) lines
+
+-- The lines of a body.
+abbrev pub printed : Block → List (List ℕ)
+printed block = all_spelled (lines_of block)

@@ -1,0 +1,51 @@
+-- The words behind a keyword: how a key and a value are spelled, and what a word is as a key, a value or a count. The byte 36 is `$`.
+use Rattle.std.specs.Prelude.{ℕ, codes, ◌+◌, ◌-◌, List, [], ◌∷◌, Bool, true, ◌&&◌, ◌==◌, nat_le, Option, Some, None, if◌then◌else◌}
+use Rattle.std.specs.Str.{bytes_eq}
+use Rattle.anti_lang.specs.Texts.{is_variable, is_literal}
+use Rattle.anti_lang.specs.declared.statement.KeyWord.{KeyWord}
+use Rattle.anti_lang.specs.declared.statement.KeyWord.TheVariants as keys
+use Rattle.anti_lang.specs.declared.statement.ValueWord.{ValueWord}
+use Rattle.anti_lang.specs.declared.statement.ValueWord.TheVariants as values
+
+abbrev pub key_text : KeyWord → List ℕ
+key_text keys.Input = codes "$in"
+key_text (keys.Of variable) = 36 ∷ variable
+key_text (keys.Plain name) = name
+
+abbrev pub value_text : ValueWord → List ℕ
+value_text values.Input = codes "$in"
+value_text (values.Of variable) = 36 ∷ variable
+value_text (values.Literal value) = value
+
+-- whether a key may stand in a line; which names may stand there themselves, the first argument says
+abbrev pub key_fits : (List ℕ → Bool) → KeyWord → Bool
+key_fits is_good keys.Input = true
+key_fits is_good (keys.Of variable) = is_variable variable
+key_fits is_good (keys.Plain name) = is_good name
+
+abbrev pub value_fits : ValueWord → Bool
+value_fits values.Input = true
+value_fits (values.Of variable) = is_variable variable
+value_fits (values.Literal value) = is_literal value
+
+-- what `$` and a name are
+abbrev pub key_behind : List ℕ → KeyWord
+key_behind name = if bytes_eq name (codes "in") then keys.Input else keys.Of name
+
+abbrev pub value_behind : List ℕ → ValueWord
+value_behind name = if bytes_eq name (codes "in") then values.Input else values.Of name
+
+-- what a word is as a key, and as a value
+abbrev pub key_of : List ℕ → KeyWord
+key_of [] = keys.Plain []
+key_of (first ∷ rest) = if first == 36 then key_behind rest else keys.Plain (first ∷ rest)
+
+abbrev pub value_of : List ℕ → ValueWord
+value_of [] = values.Literal []
+value_of (first ∷ rest) = if first == 36 then value_behind rest else values.Literal (first ∷ rest)
+
+-- a number from 1 to 16 in decimal without a leading zero
+abbrev pub count_of : List ℕ → Option ℕ
+count_of (digit ∷ []) = if nat_le 49 digit && nat_le digit 57 then Some (digit - 48) else None
+count_of (ten ∷ digit ∷ []) = if ten == 49 && (nat_le 48 digit && nat_le digit 54) then Some (10 + (digit - 48)) else None
+count_of _ = None

@@ -1,0 +1,44 @@
+ghost use Rattle.std.specs.Prelude.{◌≡◌};
+ghost use Rattle.anti_lang.specs.Parsing.{fault_at};
+
+use anti_ids::NoMemory;
+
+/// What is wrong with a line of a body.
+#[derive(Clone, Copy, Debug, PartialEq, Eq)]
+pub enum LangCode {
+    /// The line is no statement.
+    Unknown,
+    /// A block is not right: it has no `end`, its `end` has no block, it is the fifth nested one, its lines run more than 256 times,
+    /// `root` or `stop` stands in it; or something other than `root` stands behind `stop`.
+    Block,
+    /// A variable is not right: it is set twice, or used where it is not set, or used for another kind of thing than it holds.
+    Variable,
+}
+
+/// Why lines are no body.
+#[derive(Clone, Copy, Debug, PartialEq, Eq)]
+pub enum LangFault {
+    /// This line, counted from 1, is the first that is wrong so.
+    Line { line: u32, code: LangCode },
+    /// There was no memory. It says nothing of the lines.
+    NoMemory,
+}
+
+impl LangFault {
+    /// This line is wrong so.
+    pub(crate) fn at(line: u32, code: LangCode) -> LangFault
+        ensures { result ≡ fault_at code line }
+    {
+        LangFault::Line { line, code }
+    }
+}
+
+impl From<NoMemory> for LangFault {
+    ghost use Rattle.anti_lang.specs.declared.fault.LangFault.TheVariants as faults;
+
+    ghost from_gives = { λ _ fault. fault ≡ faults.NoMemory };
+
+    fn from(_: NoMemory) -> LangFault {
+        LangFault::NoMemory
+    }
+}

@@ -1,0 +1,266 @@
+// The forms of lines, by the words behind the keyword.
+ghost use Rattle.std.specs.Prelude.{◌≡◌, [], ◌∷◌, Some, IfOk, map, option_map};
+ghost use Rattle.anti_lang.specs.Program.{Append, Remove, Transfer, Read, Scan, Poll, Call, Send, Reply};
+ghost use Rattle.anti_lang.specs.Vocabulary.{key_of, value_of, count_of};
+ghost use Rattle.anti_lang.specs.Lines.{Does, OpenRepeat, read_as, joined, one_word_form, no_word_form, read_form, scan_form, poll_form, call_form, send_form, if_form};
+
+use crate::line::Line;
+use crate::name::plain_name;
+use crate::statement::Statement;
+use crate::word::{cell_of, count_of, key_of, value_of, variable_of};
+use anti_ids::NoMemory;
+use std::alloc::Global;
+
+// `read STORE KEY as VARIABLE`.
+pub fn read_form(words: &[&[u8]]) -> Option<Line>
+    ensures { result ≡ read_as (read_form (map (λ word. word.now) words.now)) }
+{
+    match words {
+        [store, key, joint, variable] => read_of(store, key, joint, variable),
+        _ => None,
+    }
+}
+
+fn read_of(store: &[u8], key: &[u8], joint: &[u8], variable: &[u8]) -> Option<Line>
+    ensures { result ≡ read_as (joined joint.now (Read store.now (key_of key.now) variable.now)) }
+{
+    if joint != b"as".as_slice() {
+        return None;
+    }
+    Some(Line::Does(Statement::Read {
+        store: plain_name(store)?,
+        key: key_of(key)?,
+        variable: variable_of(variable)?,
+    }))
+}
+
+// `scan STORE PREFIX as VARIABLE`.
+pub fn scan_form(words: &[&[u8]]) -> Option<Line>
+    ensures { result ≡ read_as (scan_form (map (λ word. word.now) words.now)) }
+{
+    match words {
+        [store, prefix, joint, variable] => scan_of(store, prefix, joint, variable),
+        _ => None,
+    }
+}
+
+fn scan_of(store: &[u8], prefix: &[u8], joint: &[u8], variable: &[u8]) -> Option<Line>
+    ensures { result ≡ read_as (joined joint.now (Scan store.now prefix.now variable.now)) }
+{
+    if joint != b"as".as_slice() {
+        return None;
+    }
+    Some(Line::Does(Statement::Scan {
+        store: plain_name(store)?,
+        prefix: plain_name(prefix)?,
+        variable: variable_of(variable)?,
+    }))
+}
+
+// `poll STORE KEY as VARIABLE`.
+pub fn poll_form(words: &[&[u8]]) -> Option<Line>
+    ensures { result ≡ read_as (poll_form (map (λ word. word.now) words.now)) }
+{
+    match words {
+        [store, key, joint, variable] => poll_of(store, key, joint, variable),
+        _ => None,
+    }
+}
+
+fn poll_of(store: &[u8], key: &[u8], joint: &[u8], variable: &[u8]) -> Option<Line>
+    ensures { result ≡ read_as (joined joint.now (Poll store.now (key_of key.now) variable.now)) }
+{
+    if joint != b"as".as_slice() {
+        return None;
+    }
+    Some(Line::Does(Statement::Poll {
+        store: plain_name(store)?,
+        key: cell_of(key)?,
+        variable: variable_of(variable)?,
+    }))
+}
+
+// `call SERVICE HANDLER VALUE as VARIABLE`.
+pub fn call_form(alloc: Global, words: &[&[u8]]) -> Result<Option<Line>, NoMemory>
+    ensures { IfOk result (λ line. line ≡ read_as (call_form (map (λ word. word.now) words.now))) }
+{
+    match words {
+        [service, handler, value, joint, variable] => {
+            call_of(alloc, service, handler, value, joint, variable)
+        }
+        _ => Ok(None),
+    }
+}
+
+fn call_of(
+    alloc: Global,
+    service: &[u8],
+    handler: &[u8],
+    value: &[u8],
+    joint: &[u8],
+    variable: &[u8],
+) -> Result<Option<Line>, NoMemory>
+    ensures { IfOk result (λ line. line ≡ read_as (joined joint.now (Call service.now handler.now (value_of value.now) variable.now))) }
+{
+    if joint != b"as".as_slice() {
+        return Ok(None);
+    }
+    let Some(service) = plain_name(service) else {
+        return Ok(None);
+    };
+    let Some(handler) = plain_name(handler) else {
+        return Ok(None);
+    };
+    let Some(value) = value_of(alloc, value)? else {
+        return Ok(None);
+    };
+    match variable_of(variable) {
+        Some(variable) => Ok(Some(Line::Does(Statement::Call {
+            service,
+            handler,
+            value,
+            variable,
+        }))),
+        None => Ok(None),
+    }
+}
+
+// `send SERVICE HANDLER VALUE`.
+pub fn send_form(alloc: Global, words: &[&[u8]]) -> Result<Option<Line>, NoMemory>
+    ensures { IfOk result (λ line. line ≡ read_as (send_form (map (λ word. word.now) words.now))) }
+{
+    match words {
+        [service, handler, value] => send_of(alloc, service, handler, value),
+        _ => Ok(None),
+    }
+}
+
+fn send_of(
+    alloc: Global,
+    service: &[u8],
+    handler: &[u8],
+    value: &[u8],
+) -> Result<Option<Line>, NoMemory>
+    ensures { IfOk result (λ line. line ≡ read_as (send_form (service.now ∷ handler.now ∷ value.now ∷ []))) }
+{
+    let Some(service) = plain_name(service) else {
+        return Ok(None);
+    };
+    let Some(handler) = plain_name(handler) else {
+        return Ok(None);
+    };
+    match value_of(alloc, value)? {
+        Some(value) => Ok(Some(Line::Does(Statement::Send {
+            service,
+            handler,
+            value,
+        }))),
+        None => Ok(None),
+    }
+}
+
+// `reply VALUE`.
+pub fn reply_form(alloc: Global, words: &[&[u8]]) -> Result<Option<Line>, NoMemory>
+    ensures { IfOk result (λ line. line ≡ read_as (one_word_form (λ word. Some (Does (Reply (value_of word)))) (map (λ word. word.now) words.now))) }
+{
+    match words {
+        [value] => reply_of(alloc, value),
+        _ => Ok(None),
+    }
+}
+
+fn reply_of(alloc: Global, value: &[u8]) -> Result<Option<Line>, NoMemory>
+    ensures { IfOk result (λ line. line ≡ read_as (Some (Does (Reply (value_of value.now))))) }
+{
+    match value_of(alloc, value)? {
+        Some(value) => Ok(Some(Line::Does(Statement::Reply(value)))),
+        None => Ok(None),
+    }
+}
+
+// `append VARIABLE`.
+pub fn append_form(words: &[&[u8]]) -> Option<Line>
+    ensures { result ≡ read_as (one_word_form (λ word. Some (Does (Append word))) (map (λ word. word.now) words.now)) }
+{
+    match words {
+        [variable] => append_of(variable),
+        _ => None,
+    }
+}
+
+fn append_of(variable: &[u8]) -> Option<Line>
+    ensures { result ≡ read_as (Some (Does (Append variable.now))) }
+{
+    Some(Line::Does(Statement::Append(variable_of(variable)?)))
+}
+
+// `remove VARIABLE`.
+pub fn remove_form(words: &[&[u8]]) -> Option<Line>
+    ensures { result ≡ read_as (one_word_form (λ word. Some (Does (Remove word))) (map (λ word. word.now) words.now)) }
+{
+    match words {
+        [variable] => remove_of(variable),
+        _ => None,
+    }
+}
+
+fn remove_of(variable: &[u8]) -> Option<Line>
+    ensures { result ≡ read_as (Some (Does (Remove variable.now))) }
+{
+    Some(Line::Does(Statement::Remove(variable_of(variable)?)))
+}
+
+// `transfer VARIABLE`.
+pub fn transfer_form(words: &[&[u8]]) -> Option<Line>
+    ensures { result ≡ read_as (one_word_form (λ word. Some (Does (Transfer word))) (map (λ word. word.now) words.now)) }
+{
+    match words {
+        [variable] => transfer_of(variable),
+        _ => None,
+    }
+}
+
+fn transfer_of(variable: &[u8]) -> Option<Line>
+    ensures { result ≡ read_as (Some (Does (Transfer variable.now))) }
+{
+    Some(Line::Does(Statement::Transfer(variable_of(variable)?)))
+}
+
+// `repeat COUNT`.
+pub fn repeat_form(words: &[&[u8]]) -> Option<Line>
+    ensures { result ≡ read_as (one_word_form (λ word. option_map OpenRepeat (count_of word)) (map (λ word. word.now) words.now)) }
+{
+    match words {
+        [count] => Some(Line::Repeat(count_of(count)?)),
+        _ => None,
+    }
+}
+
+// `if VARIABLE absent`.
+pub fn if_form(words: &[&[u8]]) -> Option<Line>
+    ensures { result ≡ read_as (if_form (map (λ word. word.now) words.now)) }
+{
+    match words {
+        [variable, last] => if_of(variable, last),
+        _ => None,
+    }
+}
+
+fn if_of(variable: &[u8], last: &[u8]) -> Option<Line>
+    ensures { result ≡ read_as (if_form (variable.now ∷ last.now ∷ [])) }
+{
+    if last != b"absent".as_slice() {
+        return None;
+    }
+    Some(Line::IfAbsent(variable_of(variable)?))
+}
+
+// A keyword that stands alone, for this line.
+pub fn lone_form(words: &[&[u8]], line: Line) -> Option<Line>
+    ensures { result ≡ no_word_form line (map (λ word. word.now) words.now) }
+{
+    match words {
+        [] => Some(line),
+        _ => None,
+    }
+}

@@ -1,0 +1,42 @@
+ghost use Rattle.std.specs.Prelude.{◌≡◌, ◌≤◌, length, map};
+ghost use Rattle.anti_lang.specs.Stated.{all_stated, ArePlain};
+ghost use Rattle.anti_lang.specs.Faults.{block_fault, variable_fault};
+ghost use Rattle.anti_lang.specs.Parsing.{body_or, parsed, Parses, texts_of};
+
+use crate::building::build;
+use crate::fault::{LangCode, LangFault};
+use crate::line::Line;
+use crate::nesting::block_fault;
+use crate::reading::read_lines;
+use crate::statement::Body;
+use crate::variable::variable_fault;
+use anti_ids::{Bytes, List};
+use std::alloc::Global;
+
+/// The lines of a body.
+pub type Lines = List<Bytes>;
+
+// The body of lines, or the first line that is wrong: first the blocks must be right, then the variables.
+fn body_of(alloc: Global, lines: List<Line>) -> Result<Body, LangFault>
+    requires few { length lines.items ≤ 64 }
+    requires made { ArePlain lines.items }
+    ensures { let said = all_stated lines.items in Parses result (body_or said (block_fault said) (variable_fault said)) }
+{
+    if let Some(line) = block_fault(alloc, lines.as_slice())? {
+        return Err(LangFault::at(line, LangCode::Block));
+    }
+    if let Some(line) = variable_fault(lines.as_slice()) {
+        return Err(LangFault::at(line, LangCode::Variable));
+    }
+    Ok(build(alloc, lines)?)
+}
+
+/// The body that at most 64 lines state, or the first line that is wrong: first each line must be a statement (`Unknown`), then
+/// the blocks must be right (`Block`), then the variables (`Variable`).
+pub fn parse(alloc: Global, lines: &Lines) -> Result<Body, LangFault>
+    requires { length lines.now.items ≤ 64 }
+    ensures { Parses result (parsed (texts_of lines.now)) }
+{
+    let found = read_lines(alloc, lines.as_slice())?;
+    body_of(alloc, found)
+}

@@ -1,0 +1,94 @@
+use Rattle.std.proofs.Common.{◌≡◌, ◌<◌, ℕ, List, Option, Some, length, get_or, vec_len, map, true, false, sym, ap, ◌∙◌, subst, arith}
+use Rattle.std.specs.Prelude.{position}
+use Rattle.anti_kind.specs.declared.call.Birth.{Birth}
+use Rattle.anti_kind.specs.declared.call.Entry.{Entry}
+use Rattle.anti_app.specs.declared.app.App.{App}
+use Rattle.anti_app.specs.declared.app.Choice.TheVariants.{Go}
+use Rattle.anti_trace.specs.Traces.{entries_on}
+use Rattle.anti_proc.specs.Births.{births}
+use Rattle.anti_proc.specs.Numbers.{object_count}
+use Rattle.anti_proc.specs.Standing.{birth_of}
+use Rattle.anti_play.specs.Schedule.{chosen, first_of, go_of}
+use Rattle.anti_play.specs.Standing.{WorldStands, born_at, is_named}
+use Rattle.anti_play.proofs.Firsts.{first_of-map}
+use Rattle.anti_play.proofs.Goings.{any_default, no_entry, born_length, birth_here, birth_found, going_is}
+use Rattle.anti_play.proofs.Tries.{one_tried, found_one, found_none, came_as, chose_of}
+use Rattle.anti_play.proofs.world.World.go_first_at.Goals as goal
+use Rattle.anti_play.proofs.world.World.go_first_at.Goals.{After-birth-birth}
+
+-- the next entry of the process at a place
+abbrev gone : App → ℕ → List Entry → ℕ → Option Entry
+gone app o trace i = chosen app trace (go_of (get_or (births (entries_on o trace)) i no_entry))
+
+known : (c : After-birth-birth) → c.args.object < object_count c.args.app.now
+known c =
+    let lists : length c.args.self.now.processes.items ≡ object_count c.args.app.now = c.requires.world.stands.lists in
+    let len : vec_len c.args.self.now.processes ≡ length c.args.self.now.processes.items = c.args.self.now.processes.ok.0 in
+    omega (arith, c.requires.object)
+
+here : (c : After-birth-birth) → WorldStands c.args.app.now c.loop-at.self c.requires.world.trace
+here c = (c.loop-at.invariant.each c.requires.world.trace c.requires.world.stands).0
+
+object_is : (c : After-birth-birth) → c.birth-birth.result.object ≡ c.args.object
+object_is c =
+    ap (λ (b : Birth). b.object) c.birth-birth.ensures
+    ∙ birth_here c.args.app.now c.loop-at.self c.requires.world.trace c.args.object (here c) c.loop-at.at c.process.result.now c.process.ensures
+
+pub go_on-requires-clause-found : goal.go_on-requires-clause-found
+go_on-requires-clause-found c =
+    let at = (goal.at.go_on-requires-clause-found c).After-birth-birth in
+    let found : position (is_named (birth_of c.process.result.now)) (born_at c.loop-at.self.processes.items c.args.object) ≡ Some c.loop-at.at =
+    birth_found c.args.app.now c.loop-at.self c.requires.world.trace c.args.object (here at) (known at) c.loop-at.at c.process.result.now c.process.ensures in
+    subst (λ (b : Birth). position (is_named b) (born_at c.loop-at.self.processes.items c.birth-birth.result.object) ≡ Some c.loop-at.at) (sym c.birth-birth.ensures)
+    (subst (λ (o : ℕ). position (is_named (birth_of c.process.result.now)) (born_at c.loop-at.self.processes.items o) ≡ Some c.loop-at.at) (sym (object_is at)) found)
+
+pub go_on-requires-clause-object : goal.go_on-requires-clause-object
+go_on-requires-clause-object c =
+    let at = (goal.at.go_on-requires-clause-object c).After-birth-birth in
+    let lists : length c.loop-at.self.processes.items ≡ object_count c.args.app.now = (here at).lists in
+    let len : vec_len c.loop-at.self.processes ≡ length c.loop-at.self.processes.items = c.loop-at.self.processes.ok.0 in
+    let same : c.birth-birth.result.object ≡ c.args.object = object_is at in
+    let low : c.args.object < object_count c.args.app.now = known at in
+    omega arith
+
+pub returns-then-branch : goal.returns-then-branch
+returns-then-branch c = λ trace s.
+    let app = c.args.app.now in
+    let o = c.args.object in
+    let k = c.loop-at.at in
+    let b = c.birth-birth.result in
+    chose_of app trace (first_of (λ e. chosen app trace (go_of e)) (births (entries_on o trace))) (first_of (chosen app trace) (map go_of (births (entries_on o trace)))) _ c.go_on.new.self
+    (sym (first_of-map (chosen app trace) go_of (births (entries_on o trace))))
+    (found_one app (WorldStands app c.args.self.now) (gone app o) (λ trace e. chosen app trace (go_of e)) (λ trace. births (entries_on o trace))
+    (λ trace of j d lt. ap (λ (e : Entry). chosen app trace (go_of e)) (any_default (births (entries_on o trace)) j d no_entry lt)) c.loop-at.self c.go_on.new.self k c.loop-at.invariant
+    (λ trace of.
+    let same : length (born_at c.args.self.now.processes.items o) ≡ length (births (entries_on o trace)) = born_length app c.args.self.now trace o of in
+    omega (arith, c.born_count-at-end.ensures))
+    (λ trace of now.
+    chose_of app trace (chosen app trace (Go b.object b.place)) (gone app o trace k) _ c.go_on.new.self
+    (going_is app c.loop-at.self trace o now k c.process.result.now b c.process.ensures c.birth-birth.ensures)
+    (came_as app trace (chosen app trace (Go b.object b.place)) c.go_on.new.self c.in_ok-go_on.field-0 true c.if-branch.true (c.in_ok-go_on.ensures.chose trace now))) trace s)
+
+pub loop-at-preserved : goal.loop-at-preserved
+loop-at-preserved c =
+    let app = c.args.app.now in
+    let o = c.args.object in
+    let k = c.loop-at.at in
+    let b = c.birth-birth.result in
+    one_tried app (WorldStands app c.args.self.now) (gone app o) c.loop-at.self c.go_on.new.self k c.loop-at.invariant
+    (λ trace of now.
+    chose_of app trace (chosen app trace (Go b.object b.place)) (gone app o trace k) _ c.go_on.new.self
+    (going_is app c.loop-at.self trace o now k c.process.result.now b c.process.ensures c.birth-birth.ensures)
+    (came_as app trace (chosen app trace (Go b.object b.place)) c.go_on.new.self c.in_ok-go_on.field-0 false c.if-branch.false (c.in_ok-go_on.ensures.chose trace now)))
+
+pub returns : goal.returns
+returns c = λ trace s.
+    let app = c.args.app.now in
+    let o = c.args.object in
+    chose_of app trace (first_of (λ e. chosen app trace (go_of e)) (births (entries_on o trace))) (first_of (chosen app trace) (map go_of (births (entries_on o trace)))) _ c.loop-at.self
+    (sym (first_of-map (chosen app trace) go_of (births (entries_on o trace))))
+    (found_none app (WorldStands app c.args.self.now) (gone app o) (λ trace e. chosen app trace (go_of e)) (λ trace. births (entries_on o trace))
+    (λ trace of j d lt. ap (λ (e : Entry). chosen app trace (go_of e)) (any_default (births (entries_on o trace)) j d no_entry lt)) c.loop-at.self c.loop-at.at c.loop-at.invariant
+    (λ trace of.
+    let same : length (born_at c.args.self.now.processes.items o) ≡ length (births (entries_on o trace)) = born_length app c.args.self.now trace o of in
+    omega (arith, c.born_count-at-end.ensures)) trace s)

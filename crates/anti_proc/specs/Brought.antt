@@ -1,0 +1,55 @@
+-- What came to the spans of a process by its calls, and what it carries.
+use Rattle.std.specs.Prelude.{ℕ, ◌≡◌, ◌==◌, true, List, [], ◌∷◌, ◌++◌, Option, Some, None, if◌then◌else◌}
+use Rattle.anti_ids.specs.Each.{Each}
+use Rattle.anti_ids.specs.Ids.{IsLineage, has_id}
+use Rattle.anti_ids.specs.declared.id.WriteId.{WriteId}
+use Rattle.anti_kind.specs.declared.call.Call.{Call}
+use Rattle.anti_kind.specs.declared.call.Call.TheVariants as calls
+use Rattle.anti_kind.specs.declared.call.Reply.{Reply}
+use Rattle.anti_kind.specs.declared.call.Reply.TheVariants as replies
+use Rattle.anti_proc.specs.Local.{id_at, rows_ids}
+use Rattle.anti_proc.specs.Trees.{Tree, Ask, Asks, Ends, after}
+
+-- The ids that an answered call of a store brings: a write its id, a read the ids of its rows and the lineages that are stored beside them.
+abbrev pub came : ℕ → Call → Reply → List WriteId
+came store (calls.Write key value lineage) (replies.Written written version) = id_at store written version
+came store (calls.Read region key) (replies.Shown rows) = rows_ids store rows.items
+came store (calls.Scan region prefix) (replies.Shown rows) = rows_ids store rows.items
+came store (calls.Poll region key) (replies.Shown rows) = rows_ids store rows.items
+came store call reply = []
+
+-- an answered call
+pub record Made : Type 0 where
+  pub ask : Ask
+  pub reply : Reply
+
+-- the calls that a process made, which got these replies
+abbrev pub made : Tree → List Reply → List Made
+made (Asks ask go) [] = []
+made (Asks ask go) (reply ∷ replies) = record { ask = ask; reply = reply } ∷ made (go reply) replies
+made (Ends end) replies = []
+
+-- what came to a span by these calls
+abbrev pub brought : ℕ → List Made → List WriteId
+brought span [] = []
+brought span (m ∷ ms) = (if m.ask.span == span then came m.ask.object m.ask.call m.reply else []) ++ brought span ms
+
+-- the next call, where there is one
+abbrev pub ask_of : Tree → Option Ask
+ask_of (Asks ask go) = Some ask
+ask_of (Ends end) = None
+
+-- Each id that the process carries into a call came to the call's span before.
+abbrev pub CarriesWhatCame : Tree → Type 0
+CarriesWhatCame tree =
+    (replies : List Reply) (ask : Ask) → ask_of (after tree replies) ≡ Some ask
+    → (i : WriteId) → has_id i ask.carried ≡ true → has_id i (brought ask.span (made tree replies)) ≡ true
+
+-- The rows of a reply have lineages.
+abbrev pub HasLineages : Reply → Type 0
+HasLineages (replies.Shown rows) = Each (λ row. IsLineage row.lineage) rows.items
+HasLineages _ = Unit {0}
+
+-- What the process carries into a call is a lineage, where the rows that it was shown have lineages.
+abbrev pub CarriesLineages : Tree → Type 0
+CarriesLineages tree = (replies : List Reply) (ask : Ask) → Each HasLineages replies → ask_of (after tree replies) ≡ Some ask → IsLineage ask.carried

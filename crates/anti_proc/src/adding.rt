@@ -1,0 +1,87 @@
+ghost use Rattle.std.specs.Prelude.{◌≡◌, IfOk, option_map};
+ghost use Rattle.anti_proc.specs.Adding.{Adds};
+ghost use Rattle.anti_proc.specs.Local.{Setting, Local, all_absent, held_ids, id_at, row_ids, rows_ids};
+ghost use Rattle.anti_proc.specs.Meaning.{Go, add};
+ghost use Rattle.anti_proc.specs.Standing.{next_or};
+
+use crate::next::Next;
+use crate::variables::Held;
+use crate::want::End;
+use anti_ids::{Lineage, LineageRefused, MOST_IDS, NoMemory, WriteId};
+use anti_kind::Row;
+
+// Adds the id of a version to a lineage.
+fn add_id(carried: &mut Lineage, id: WriteId) -> Result<(), LineageRefused>
+    ensures { Adds (id_at id.store id.key id.version) carried.old carried.new result }
+{
+    if id.version > 0 {
+        carried.append(id)?;
+    }
+    Ok(())
+}
+
+// Adds the ids that a row of a store brings.
+#[tactic(auto, using(crate::proofs::Unions::more_refused, crate::proofs::Unions::with_ids_append))]
+fn add_row(carried: &mut Lineage, store: u32, row: &Row) -> Result<(), LineageRefused>
+    ensures { Adds (row_ids store row.now) carried.old carried.new result }
+{
+    let id = WriteId {
+        store,
+        key: row.key,
+        version: row.version,
+    };
+    add_id(carried, id)?;
+    carried.transfer(&row.lineage)
+}
+
+// Adds the ids that rows of a store bring.
+#[tactic(auto, using(crate::proofs::Unions::first_refused, crate::proofs::Unions::first_added))]
+fn add_rows(carried: &mut Lineage, store: u32, rows: &[Row]) -> Result<(), LineageRefused>
+    ensures { Adds (rows_ids store rows.now) carried.old carried.new result }
+{
+    for row in rows {
+        add_row(carried, store, row)?;
+    }
+    Ok(())
+}
+
+// Adds the ids of what a variable holds.
+fn add_held(carried: &mut Lineage, held: Option<&Held>) -> Result<(), LineageRefused>
+    ensures { Adds (held_ids (option_map (λ h. h.now) held.entry)) carried.old carried.new result }
+{
+    match held {
+        Some(Held::Wrote(id)) => add_id(carried, *id),
+        Some(Held::Saw { store, rows }) => add_rows(carried, *store, rows.as_slice()),
+        Some(Held::Heard(_)) => Ok(()),
+        None => Ok(()),
+    }
+}
+
+/// Adds the ids of what a variable holds to a lineage. Where they are too many the process ends, and some may be added.
+pub fn add(carried: &mut Lineage, held: Option<&Held>) -> Result<Option<Next>, NoMemory>
+    ensures { IfOk result (λ next. (s : Setting) (l : Local) (go : Go) → l.carried ≡ carried.old
+        → next_or next s (record l { carried = carried.new }) go ≡ add (option_map (λ h. h.now) held.entry) l go) }
+{
+    match add_held(carried, held) {
+        Ok(()) => {
+            // as each lineage
+            let short = carried.len() as usize <= MOST_IDS;
+            prove!(short);
+            Ok(None)
+        }
+        Err(LineageRefused::Full) => Ok(Some(Next::Over(End::LineageFull))),
+        Err(LineageRefused::NoMemory) => Err(NoMemory),
+    }
+}
+
+/// Whether none of these rows has a version.
+pub fn all_absent(rows: &[Row]) -> bool
+    ensures { result ≡ all_absent rows.now }
+{
+    for row in rows {
+        if row.version != 0 {
+            return false;
+        }
+    }
+    true
+}

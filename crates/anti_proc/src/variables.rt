@@ -1,0 +1,97 @@
+ghost use Rattle.std.specs.Prelude.{◌≡◌, OnOk, option_map};
+ghost use Rattle.anti_proc.specs.Local.{held_in, with_held};
+ghost use Rattle.anti_proc.specs.Variables.{place_among};
+
+use anti_ids::{Copies, List, Name, NoMemory, Value, WriteId};
+use anti_kind::Rows;
+use std::alloc::Global;
+
+/// What a variable of a handler holds.
+#[derive(Drop)]
+pub enum Held {
+    /// The id of a write.
+    Wrote(WriteId),
+    /// The rows that a read of the store of this number showed.
+    Saw { store: u32, rows: Rows },
+    /// The value of a reply.
+    Heard(Value),
+}
+
+/// A variable that is set.
+#[derive(Drop)]
+pub struct Variable {
+    pub name: Name,
+    pub held: Held,
+}
+
+/// The variables that are set, each once.
+pub type Variables = List<Variable>;
+
+impl Copies for Held {
+    fn copy(&self, alloc: Global) -> Result<Held, NoMemory> {
+        match self {
+            Held::Wrote(id) => Ok(Held::Wrote(*id)),
+            Held::Saw { store, rows } => {
+                let rows = rows.copy(alloc)?;
+                Ok(Held::Saw {
+                    store: *store,
+                    rows,
+                })
+            }
+            Held::Heard(value) => {
+                let value = value.copy(alloc)?;
+                Ok(Held::Heard(value))
+            }
+        }
+    }
+}
+
+impl Copies for Variable {
+    fn copy(&self, alloc: Global) -> Result<Variable, NoMemory> {
+        let held = self.held.copy(alloc)?;
+        Ok(Variable {
+            name: self.name,
+            held,
+        })
+    }
+}
+
+// The place of the variable with a name among these, or how many they are.
+fn place_among(variables: &[Variable], name: &Name) -> usize
+    ensures { result ≡ place_among variables.now name.now }
+{
+    for (place, variable) in variables.iter().enumerate() {
+        if variable.name == *name {
+            return place;
+        }
+    }
+    variables.len()
+}
+
+// What a variable holds, where it is set.
+pub fn held_in<'a>(variables: &'a [Variable], name: &Name) -> Option<&'a Held>
+    ensures { option_map (λ held. held.now) result ≡ held_in variables.now name.now }
+{
+    for variable in variables {
+        if variable.name == *name {
+            return Some(&variable.held);
+        }
+    }
+    None
+}
+
+// Sets a variable.
+#[tactic(auto, using(crate::proofs::Setting::set_there, crate::proofs::Setting::set_new, crate::proofs::Setting::place_within))]
+pub fn set(variables: &mut Variables, name: Name, held: Held) -> Result<(), NoMemory>
+    ensures { OnOk result (variables.new.items ≡ with_held name held variables.old.items) }
+{
+    let place = place_among(variables.as_slice(), &name);
+    let variable = Variable { name, held };
+    if place < variables.len() {
+        variables.set(place, variable);
+        return Ok(());
+    }
+    variables.reserve(1)?;
+    variables.put(variable);
+    Ok(())
+}

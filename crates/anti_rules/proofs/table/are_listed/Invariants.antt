@@ -1,0 +1,9 @@
+use Rattle.std.proofs.Common.{◌≡◌, map, string_bytes}
+use Rattle.std.specs.List.{list_all}
+use Rattle.toml.specs.View.{table_view}
+use Rattle.anti_rules.specs.Keys.{key_view, is_key, are_listed}
+use Rattle.anti_rules.proofs.table.are_listed.Given as goal
+
+abbrev pub invariant-loop-name : goal.invariant-loop-name
+invariant-loop-name l =
+    list_all (is_key (map key_view l.keys)) (map string_bytes l.name-iterator) ≡ are_listed (map key_view l.keys) (table_view l.table)

@@ -1,0 +1,6 @@
+use Rattle.std.proofs.Common.{◌≡◌, map, drop}
+use Rattle.anti_rules.specs.Keys.{key_view, is_key}
+use Rattle.anti_rules.proofs.table.is_key.Given as goal
+
+abbrev pub invariant-loop-key : goal.invariant-loop-key
+invariant-loop-key l = is_key (map key_view (drop l.key-index l.keys)) l.name ≡ is_key (map key_view l.keys) l.name

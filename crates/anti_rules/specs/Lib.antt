@@ -1,0 +1,6 @@
+pub mod Trees
+pub mod Keys
+pub mod Statements
+pub mod Rules
+pub mod Walk
+pub mod Order

@@ -1,0 +1,129 @@
+ghost use Rattle.std.specs.Prelude.{◌≡◌, map};
+ghost use Rattle.anti_rules.specs.Keys.{key_view, keys_of};
+
+use crate::limits::{
+    GREATEST_SEED, MOST_CHOICES, MOST_HANDLERS, MOST_LINES, MOST_REGIONS, MOST_REPLICAS,
+    MOST_REQUESTS, MOST_SERVICES, MOST_STORES, MOST_SUBS, MOST_TRIES, MOST_WORKERS,
+};
+use crate::place::Part;
+
+/// What stands at a key of a table.
+#[derive(Clone, Copy)]
+pub enum Kind {
+    /// A text.
+    Text,
+    /// An integer from the least to the most.
+    Number { least: i64, most: i64 },
+    /// An array of texts, of which there are at least and at most so many.
+    Texts { least: usize, most: usize },
+    /// An array of what has places of its own, of which there are at least and at most so many.
+    Things { least: usize, most: usize },
+}
+
+/// A key of a table.
+#[derive(Clone, Copy)]
+pub struct Key {
+    /// Its name.
+    pub name: &'static str,
+    /// What stands there.
+    pub kind: Kind,
+    /// Whether it has no default.
+    pub is_needed: bool,
+}
+
+// A key, `needed` or `optional`, with its name and what stands there.
+macro_rules! key {
+    (needed $name:literal $kind:expr) => {
+        Key {
+            name: $name,
+            kind: $kind,
+            is_needed: true,
+        }
+    };
+    (optional $name:literal $kind:expr) => {
+        Key {
+            name: $name,
+            kind: $kind,
+            is_needed: false,
+        }
+    };
+}
+
+// An array of at least and at most so many things.
+macro_rules! things {
+    ($least:literal to $most:expr) => {
+        Kind::Things {
+            least: $least,
+            most: $most,
+        }
+    };
+}
+
+// An integer from the least to the most.
+macro_rules! number {
+    ($least:literal to $most:expr) => {
+        Kind::Number {
+            least: $least,
+            most: $most,
+        }
+    };
+}
+
+static TOP: [Key; 8] = [
+    key!(needed "regions" things!(1 to MOST_REGIONS)),
+    key!(optional "seed" number!(0 to GREATEST_SEED)),
+    key!(optional "workers" number!(1 to MOST_WORKERS)),
+    key!(optional "choices" things!(0 to MOST_CHOICES)),
+    key!(optional "store" things!(0 to MOST_STORES)),
+    key!(optional "service" things!(0 to MOST_SERVICES)),
+    key!(optional "sub" things!(0 to MOST_SUBS)),
+    key!(optional "request" things!(0 to MOST_REQUESTS)),
+];
+
+static STORE: [Key; 4] = [
+    key!(needed "name" Kind::Text),
+    key!(needed "kind" Kind::Text),
+    key!(needed "replicas" Kind::Texts { least: 1, most: MOST_REPLICAS }),
+    key!(optional "tries" number!(1 to MOST_TRIES)),
+];
+
+static SERVICE: [Key; 3] = [
+    key!(needed "name" Kind::Text),
+    key!(needed "region" Kind::Text),
+    key!(optional "handler" things!(0 to MOST_HANDLERS)),
+];
+
+static HANDLER: [Key; 2] = [
+    key!(needed "name" Kind::Text),
+    key!(needed "body" things!(0 to MOST_LINES)),
+];
+
+static SUB: [Key; 5] = [
+    key!(needed "name" Kind::Text),
+    key!(needed "store" Kind::Text),
+    key!(needed "channel" Kind::Text),
+    key!(needed "service" Kind::Text),
+    key!(needed "handler" Kind::Text),
+];
+
+static REQUEST: [Key; 3] = [
+    key!(needed "service" Kind::Text),
+    key!(needed "handler" Kind::Text),
+    key!(optional "value" Kind::Text),
+];
+
+/// The keys of the tables of a part.
+pub fn keys_of(part: Part) -> &'static [Key]
+    ensures { map key_view result.now ≡ keys_of part }
+{
+    match part {
+        Part::Top => &TOP,
+        Part::Region => &[],
+        Part::Store => &STORE,
+        Part::Service => &SERVICE,
+        Part::Handler => &HANDLER,
+        Part::Sub => &SUB,
+        Part::Request => &REQUEST,
+        Part::Choice => &[],
+    }
+}

@@ -1,0 +1,136 @@
+ghost use Rattle.std.specs.Prelude.{◌≡◌, map, option_map};
+ghost use Rattle.toml.specs.View.{view, table_view};
+ghost use Rattle.anti_lang.specs.Lines.{Does};
+ghost use Rattle.anti_lang.specs.Bodies.{step_of};
+ghost use Rattle.anti_lang.specs.Stated.{stated};
+ghost use Rattle.anti_rules.specs.Statements.{is_read_at, is_read, store_fits, has_handler, handler_exists, is_built, line_fits};
+
+use crate::rule::Rule;
+use crate::tree::{
+    is_among, is_named, is_one_of, named, services_in, stores_in, text_at, things_in,
+};
+use anti_ids::Name;
+use anti_lang::{Line, Statement};
+use toml::{Table, Value};
+
+// Whether a store has one of these kinds, and a replica in this region.
+fn is_read_at(home: &str, kinds: &[&str], store: &Value) -> bool
+    ensures { result ≡ is_read_at home.now (map (λ kind. kind.now) kinds.now) (view store.now) }
+{
+    is_one_of(kinds, text_at(store, "kind")) && is_among(home, things_in(store, "replicas"))
+}
+
+// Whether there is a store of this name, of one of these kinds, with a replica in this region.
+fn is_read(doc: &Table, home: &str, kinds: &[&str], name: &Name) -> bool
+    ensures { result ≡ is_read (table_view doc.now) home.now (map (λ kind. kind.now) kinds.now) name.now }
+{
+    match named(name.bytes(), stores_in(doc)) {
+        Some(store) => is_read_at(home, kinds, store),
+        None => false,
+    }
+}
+
+// Whether the store of a statement exists and fits, for a service of this region.
+fn store_fits(doc: &Table, home: &str, statement: &Statement) -> bool
+    ensures { result ≡ store_fits (table_view doc.now) home.now (Does (step_of statement.now)) }
+{
+    match statement {
+        Statement::Write {
+            store,
+            key: _,
+            value: _,
+            variable: _,
+            untracked: _,
+        } => is_named(store.bytes(), stores_in(doc)),
+        Statement::Read {
+            store,
+            key: _,
+            variable: _,
+        } => is_read(doc, home, &["kv", "table", "blob"], store),
+        Statement::Scan {
+            store,
+            prefix: _,
+            variable: _,
+        } => is_read(doc, home, &["table"], store),
+        Statement::Poll {
+            store,
+            key: _,
+            variable: _,
+        } => is_read(doc, home, &["topic"], store),
+        _ => true,
+    }
+}
+
+/// Whether there is a service of this name with a handler of that name.
+pub fn has_handler(doc: &Table, service: &[u8], handler: &[u8]) -> bool
+    ensures { result ≡ has_handler (table_view doc.now) service.now handler.now }
+{
+    match named(service, services_in(doc)) {
+        Some(found) => is_named(handler, things_in(found, "handler")),
+        None => false,
+    }
+}
+
+// Whether the service and handler of a `call` or `send` exist.
+fn handler_exists(doc: &Table, statement: &Statement) -> bool
+    ensures { result ≡ handler_exists (table_view doc.now) (Does (step_of statement.now)) }
+{
+    match statement {
+        Statement::Call {
+            service,
+            handler,
+            value: _,
+            variable: _,
+        } => has_handler(doc, service.bytes(), handler.bytes()),
+        Statement::Send {
+            service,
+            handler,
+            value: _,
+        } => has_handler(doc, service.bytes(), handler.bytes()),
+        _ => true,
+    }
+}
+
+// Whether a statement is built yet.
+fn is_built(statement: &Statement) -> bool
+    ensures { result ≡ is_built (Does (step_of statement.now)) }
+{
+    match statement {
+        Statement::Call {
+            service: _,
+            handler: _,
+            value: _,
+            variable: _,
+        } => false,
+        Statement::Send {
+            service: _,
+            handler: _,
+            value: _,
+        } => false,
+        _ => true,
+    }
+}
+
+// The test that a rule makes of a statement.
+fn statement_fits(rule: Rule, doc: &Table, home: &str, statement: &Statement) -> bool
+    ensures { result ≡ line_fits rule (table_view doc.now) home.now (Does (step_of statement.now)) }
+{
+    match rule {
+        Rule::StatementStores => store_fits(doc, home, statement),
+        Rule::StatementHandlers => handler_exists(doc, statement),
+        Rule::Built => is_built(statement),
+        _ => true,
+    }
+}
+
+/// The test that a rule makes of each line of a body.
+pub fn line_fits(rule: Rule, doc: &Table, home: &str, line: &Line) -> bool
+    ensures { result ≡ line_fits rule (table_view doc.now) home.now (stated line.now) }
+{
+    match line {
+        Line::Does(statement) => statement_fits(rule, doc, home, statement),
+        Line::Repeat(_) => true,
+        Line::IfAbsent(_) => true,
+        Line::End => true,
+    }
+}

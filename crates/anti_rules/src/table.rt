@@ -1,0 +1,146 @@
+ghost use Rattle.std.specs.Prelude.{◌≡◌, map};
+ghost use Rattle.toml.specs.View.{view, table_view};
+ghost use Rattle.anti_rules.specs.Keys.{key_view, is_key, are_listed, are_there, is_text, are_texts, elements_of, is_count, has_type, has_count, has_range, fits, all_fit};
+
+use crate::keys::{Key, Kind};
+use crate::rule::Rule;
+use crate::tree::{elements, member};
+use toml::{Table, Value};
+
+// Whether a name is that of a key.
+fn is_key(keys: &[Key], name: &str) -> bool
+    ensures { result ≡ is_key (map key_view keys.now) name.now }
+{
+    for key in keys {
+        if name == key.name {
+            return true;
+        }
+    }
+    false
+}
+
+/// Whether each key of a table is listed.
+pub fn are_listed(keys: &[Key], table: &Table) -> bool
+    ensures { result ≡ are_listed (map key_view keys.now) (table_view table.now) }
+{
+    for name in table.keys() {
+        if !is_key(keys, name.as_str()) {
+            return false;
+        }
+    }
+    true
+}
+
+/// Whether each key without a default is there.
+pub fn are_there(keys: &[Key], table: &Table) -> bool
+    ensures { result ≡ are_there (map key_view keys.now) (table_view table.now) }
+{
+    for key in keys {
+        if key.is_needed && member(table, key.name).is_none() {
+            return false;
+        }
+    }
+    true
+}
+
+/// Whether a thing is a text.
+pub fn is_text(value: &Value) -> bool
+    ensures { result ≡ is_text (view value.now) }
+{
+    value.as_str().is_some()
+}
+
+// Whether each of some things is a text.
+fn are_texts(values: &[Value]) -> bool
+    ensures { result ≡ are_texts (map view values.now) }
+{
+    for value in values {
+        if !is_text(value) {
+            return false;
+        }
+    }
+    true
+}
+
+// The elements of a thing; none where it is no array.
+fn elements_of(value: &Value) -> &[Value]
+    ensures { map view result.now ≡ elements_of (view value.now) }
+{
+    match value.as_array() {
+        Some(array) => elements(array),
+        None => &[],
+    }
+}
+
+// Whether a thing has the type of a key.
+fn has_type(kind: Kind, value: &Value) -> bool
+    ensures { result ≡ has_type kind (view value.now) }
+{
+    match kind {
+        Kind::Text => is_text(value),
+        Kind::Number { least: _, most: _ } => value.as_integer().is_some(),
+        Kind::Texts { least: _, most: _ } => value.as_array().is_some()
+            && are_texts(elements_of(value)),
+        Kind::Things { least: _, most: _ } => value.as_array().is_some(),
+    }
+}
+
+// Whether a thing has a number of elements in the range of a key.
+fn has_count(kind: Kind, value: &Value) -> bool
+    ensures { result ≡ has_count kind (view value.now) }
+{
+    match kind {
+        Kind::Text => true,
+        Kind::Number { least: _, most: _ } => true,
+        Kind::Texts { least, most } => is_count(least, most, elements_of(value)),
+        Kind::Things { least, most } => is_count(least, most, elements_of(value)),
+    }
+}
+
+// Whether there are at least and at most so many things.
+fn is_count(least: usize, most: usize, values: &[Value]) -> bool
+    ensures { result ≡ is_count least most (map view values.now) }
+{
+    least <= values.len() && values.len() <= most
+}
+
+// Whether a thing is in the range of a key.
+fn has_range(kind: Kind, value: &Value) -> bool
+    ensures { result ≡ has_range kind (view value.now) }
+{
+    match kind {
+        Kind::Text => true,
+        Kind::Number { least, most } => match value.as_integer() {
+            Some(number) => least <= number && number <= most,
+            None => true,
+        },
+        Kind::Texts { least: _, most: _ } => true,
+        Kind::Things { least: _, most: _ } => true,
+    }
+}
+
+// The test that a rule makes of what stands at a key.
+fn fits(rule: Rule, kind: Kind, value: &Value) -> bool
+    ensures { result ≡ fits rule kind (view value.now) }
+{
+    match rule {
+        Rule::Typed => has_type(kind, value),
+        Rule::Counted => has_count(kind, value),
+        Rule::Ranged => has_range(kind, value),
+        _ => true,
+    }
+}
+
+/// Whether what stands at the keys passes a rule's test.
+pub fn all_fit(rule: Rule, keys: &[Key], table: &Table) -> bool
+    ensures { result ≡ all_fit (fits rule) (map key_view keys.now) (table_view table.now) }
+{
+    for key in keys {
+        if let Some(value) = member(table, key.name) {
+            if !fits(rule, key.kind, value) {
+                return false;
+            }
+        }
+    }
+    true
+}

@@ -1,0 +1,5 @@
+use Rattle.anti_proc.proofs.Runnable.{can_run}
+use Rattle.anti_text.proofs.process_lines.process_lines.Goals as goal
+
+pub lines_on-requires-clause-runs : goal.lines_on-requires-clause-runs
+lines_on-requires-clause-runs c = can_run c.args.app.now c.requires.sound
