@@ -1,7 +1,7 @@
 use crate::preparing::LONGEST_DOCUMENT;
 use crate::top::antipode_plain;
 use anti_edge::{MemorySink, MemorySource};
-use anti_ids::{Bytes, Value};
+use anti_ids::{Bytes, List, Value, add};
 use std::alloc::Global;
 use std::test::Fail;
 
@@ -287,6 +287,27 @@ pub fn ends_as(alloc: Global, row: &Row) -> Option<bool> {
     Some(outcome.status == row.status && written && err.bytes() == row.err)
 }
 
+// Whether a call with these words is told as one that asks for nothing. `None` where memory runs out.
+fn is_usage(alloc: Global, words: &[&str]) -> Option<bool> {
+    let mut list = List::new(alloc);
+    for word in words {
+        add(&mut list, Value::new(alloc, word.as_bytes()).ok()?).ok()?;
+    }
+    let mut src = MemorySource::new(alloc, STORE_ALONE, 10, &[]).ok()?;
+    let mut out = MemorySink::new(alloc, 100, 10, &[]).ok()?;
+    let mut err = MemorySink::new(alloc, 100, 10, &[]).ok()?;
+    let outcome = antipode_plain(alloc, list.as_slice(), &mut src, &mut out, &mut err);
+    Some(outcome.status == 2 && out.bytes().is_empty() && err.bytes() == b"usage\n".as_slice())
+}
+
+#[test]
+fn words_that_are_no_command_are_told(rt: HostRuntime) {
+    assert_eq!(rt; is_usage(rt.alloc(), &[]), Some(true));
+    assert_eq!(rt; is_usage(rt.alloc(), &["load", "0"]), Some(true));
+    assert_eq!(rt; is_usage(rt.alloc(), &["load", "401"]), Some(true));
+    assert_eq!(rt; is_usage(rt.alloc(), &["step", "x"]), Some(true));
+}
+
 // Two requests, one to each handler, and one with a value.
 const TWO_REQUESTS: &[u8] =
     b"{service = \"w\", handler = \"one\"}, {service = \"w\", handler = \"two\"}";
@@ -442,6 +463,18 @@ fn runs_are_written_and_refusals_are_told(rt: HostRuntime) {
         step(b"regions = [\"us\"] # \xff", 5, b"", b"not toml\n"),
         step(b"regions = [\"us\"]\n", 0, NOTHING_HAPPENED, b""),
         step(
+            b"regions = [\"us\"]\n[[store]]\nname = \"s\"\nkind = \"file\"\nreplicas = [\"us\"]\n",
+            5,
+            b"",
+            b"app 11 store 1 0\n",
+        ),
+        step(
+            b"choices = [\"go s\"]\nregions = [\"us\"]\n[[store]]\nname = \"s\"\nkind = \"kv\"\nreplicas = [\"us\"]\n",
+            5,
+            b"",
+            b"choice 1\n",
+        ),
+        step(
             b"regions = [\"us\"]\nchoices = [\"finish\"]\n",
             0,
             NOTHING_HAPPENED,
@@ -535,6 +568,10 @@ fn statements_and_choices_are_played(rt: HostRuntime) -> Result<(), Fail> {
 #[test]
 fn each_fault_of_a_body_is_told(rt: HostRuntime) -> Result<(), Fail> {
     let bodies = [
+        (
+            b"\"reed s k as x\"".as_slice(),
+            b"app 20 handler 1 1\n".as_slice(),
+        ),
         (
             b"\"barrier\", \"reed s k as x\"".as_slice(),
             b"app 20 handler 1 2\n".as_slice(),
