@@ -1,0 +1,8 @@
+mod Behind
+mod Bytes
+mod Joined
+mod Marks
+mod Readable
+pub mod TextLaws
+mod Worked
+mod Written

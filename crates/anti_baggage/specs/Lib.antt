@@ -1,0 +1,6 @@
+pub mod Escapes
+pub mod Texts
+pub mod Over
+pub mod Reading
+pub mod Steps
+pub mod Laws

@@ -1,0 +1,17 @@
+/// Why bytes are no text of a lineage. Ids are counted from 1, and the first that is wrong decides; at one id the faults are tried
+/// in this order.
+#[derive(Clone, Copy, Debug, PartialEq, Eq)]
+pub enum BaggageFault {
+    /// The bytes do not begin with `1;`.
+    BadHead,
+    /// The text of this number is no id.
+    BadId(u32),
+    /// No store has the name that this id gives.
+    UnknownStore(u32),
+    /// This id is not above the one before it.
+    NotAscending(u32),
+    /// This id is one more than a lineage may have.
+    TooMany(u32),
+    /// There was no memory.
+    NoMemory,
+}

@@ -1,0 +1,18 @@
+//! Baggage: the one text of a lineage, as it goes with a message from one program to another.
+#![tactic(auto)]
+
+mod decoding;
+mod encoding;
+mod escaping;
+mod fault;
+mod laws;
+mod naming;
+
+pub use decoding::decode;
+pub use encoding::encode;
+pub use escaping::escape;
+pub use fault::BaggageFault;
+pub use laws::texts_state_lineages;
+
+#[cfg(test)]
+mod tests;
