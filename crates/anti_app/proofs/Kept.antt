@@ -88,9 +88,8 @@ pub some_passes : {T : Type 0} (p : T → Bool) (o : Option T) → option_map_or
 some_passes p None h = cc
 some_passes p (Some x) h = (x, refl, h)
 
--- what two tests say together
-pub both_pass : {T : Type 0} (p q r : T → Bool) → ((x : T) → p x ≡ true → q x ≡ true → r x ≡ true) → (xs : List T) → list_all p xs ≡ true → list_all q xs ≡ true → list_all r xs ≡ true
-both_pass p q r more [] one other = refl
-both_pass p q r more (x ∷ xs) one other =
-    let first = and_parts (p x) (list_all p xs) one in let second = and_parts (q x) (list_all q xs) other in
-    and_from (r x) (list_all r xs) (more x first.0 second.0) (both_pass p q r more xs first.1 second.1)
+-- what one test says of each thing, another that follows says
+pub each_passes : {T : Type 0} (p q : T → Bool) → ((x : T) → p x ≡ true → q x ≡ true) → (xs : List T) → list_all p xs ≡ true → list_all q xs ≡ true
+each_passes p q more [] all = refl
+each_passes p q more (x ∷ xs) all =
+    let parts = and_parts (p x) (list_all p xs) all in and_from (q x) (list_all q xs) (more x parts.0) (each_passes p q more xs parts.1)

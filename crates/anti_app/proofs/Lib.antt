@@ -3,6 +3,7 @@ mod Lookups
 mod Kept
 mod SoundRegions
 mod SoundStores
+mod Served
 mod SoundBodies
 mod SoundServices
 mod SoundChoices

@@ -7,7 +7,7 @@ use Rattle.std.proofs.lemmas.Bool.{and_from, leb-true, le-leb}
 use Rattle.anti_ids.specs.List.{empty}
 use Rattle.anti_kind.specs.declared.call.StoreKind.{StoreKind}
 use Rattle.anti_lang.specs.Words.{words}
-use Rattle.anti_lang.specs.Program.{Block, Write, Read, Scan, Poll, Call, Send}
+use Rattle.anti_lang.specs.Program.{Block, Write, Read, Scan, Poll}
 use Rattle.anti_lang.specs.Bodies.{block_of}
 use Rattle.anti_lang.specs.Lines.{Line, Does, read_line}
 use Rattle.anti_lang.specs.Blocks.{lines_of}
@@ -19,17 +19,18 @@ use Rattle.anti_lang.proofs.PlainLemmas.{block_again}
 use Rattle.toml.specs.Data.{Data, Members, get_member, as_table}
 use Rattle.anti_rules.specs.Trees.{text_of, things_at, is_one_of}
 use Rattle.anti_rules.specs.Keys.{keys_of, all_fit, has_count}
-use Rattle.anti_rules.specs.Statements.{body_in as lines_stated, store_fits, is_built}
+use Rattle.anti_rules.specs.Statements.{body_in as lines_stated, store_fits, handler_exists}
 use Rattle.anti_rules.specs.Rules.{table_line}
 use Rattle.anti_rules.specs.Order.{first_breach}
-use Rattle.anti_rules.specs.declared.rule.Rule.TheVariants.{Typed, Counted, Statements, Blocks, Variables, StatementStores, Built}
+use Rattle.anti_rules.specs.declared.rule.Rule.TheVariants.{Typed, Counted, Statements, Blocks, Variables, StatementStores, StatementHandlers}
 use Rattle.anti_rules.specs.declared.place.Part.TheVariants.{Handler}
 use Rattle.anti_rules.proofs.Holds.{wanted, tabled, few_things, states_block, lines_pass}
-use Rattle.anti_app.specs.Parts.{number_or_0, regions_of, region_number, kind_of, stores_of, body_in, body_or_empty, lines_in}
-use Rattle.anti_app.specs.Sound.{is_read_by_key, is_scanned, is_polled, fits_stores, is_sound_body}
+use Rattle.anti_app.specs.Parts.{number_or_0, regions_of, region_number, kind_of, stores_of, services_of, body_in, body_or_empty, lines_in}
+use Rattle.anti_app.specs.Sound.{is_read_by_key, is_scanned, is_polled, fits_stores, fits_services, is_sound_body}
 use Rattle.anti_app.proofs.Lookups.{same_text}
-use Rattle.anti_app.proofs.Kept.{FailsNone, each_true, counts_at, table_kept, length_made, both_pass}
+use Rattle.anti_app.proofs.Kept.{FailsNone, each_true, counts_at, table_kept, length_made, each_passes}
 use Rattle.anti_app.proofs.SoundStores.{stored_is, read_near}
+use Rattle.anti_app.proofs.Served.{line_served}
 
 -- ---- kinds that words name
 kv_or : (text : List ℕ) (P : StoreKind → Bool) → P (kind_of (codes "kv")) ≡ true → bytes_eq text (codes "kv") ≡ true → P (kind_of text) ≡ true
@@ -86,15 +87,13 @@ module _ (doc : Members) (fine : first_breach doc ≡ None) (home : List ℕ) wh
   region = number_or_0 (region_number (regions_of doc) home)
 
   -- a line that the rules pass finds its store
-  line_fits : (line : Line) → store_fits doc home line ≡ true → is_built line ≡ true → fits_stores (stores_of doc) region line ≡ true
+  line_fits : (line : Line) → store_fits doc home line ≡ true → fits_stores (stores_of doc) region line ≡ true
   unfolding fits_stores
-  line_fits (Does (Write store key value variable untracked)) fits built = stored_is doc fine store ∙ fits
-  line_fits (Does (Read store key variable)) fits built = read_near doc fine home store (codes "kv" ∷ codes "table" ∷ codes "blob" ∷ []) is_read_by_key read_kinds fits
-  line_fits (Does (Scan store prefix variable)) fits built = read_near doc fine home store (codes "table" ∷ []) is_scanned scanned_kinds fits
-  line_fits (Does (Poll store key variable)) fits built = read_near doc fine home store (codes "topic" ∷ []) is_polled polled_kinds fits
-  line_fits (Does (Call service handler value variable)) fits built = built
-  line_fits (Does (Send service handler value)) fits built = built
-  line_fits line fits built = refl
+  line_fits (Does (Write store key value variable untracked)) fits = stored_is doc fine store ∙ fits
+  line_fits (Does (Read store key variable)) fits = read_near doc fine home store (codes "kv" ∷ codes "table" ∷ codes "blob" ∷ []) is_read_by_key read_kinds fits
+  line_fits (Does (Scan store prefix variable)) fits = read_near doc fine home store (codes "table" ∷ []) is_scanned scanned_kinds fits
+  line_fits (Does (Poll store key variable)) fits = read_near doc fine home store (codes "topic" ∷ []) is_polled polled_kinds fits
+  line_fits line fits = refl
 
   few_lines : (earlier : List Data) (d : Data) → FailsNone doc home Handler earlier d → nat_le (length (lines_stated d)) 64 ≡ true
   few_lines earlier d none =
@@ -105,7 +104,7 @@ module _ (doc : Members) (fine : first_breach doc ≡ None) (home : List ℕ) wh
       ∙ few_things 0 64 (get_member (codes "body") ms) counts.1.0
 
   -- the body of a handler is sound
-  pub body_sound : (earlier : List Data) (d : Data) → FailsNone doc home Handler earlier d → is_sound_body (stores_of doc) region (block_of (body_in (lines_in d))) ≡ true
+  pub body_sound : (earlier : List Data) (d : Data) → FailsNone doc home Handler earlier d → is_sound_body (stores_of doc) (services_of doc) region (block_of (body_in (lines_in d))) ≡ true
   unfolding is_sound_body
   body_sound earlier d none =
       let few = few_lines earlier d none in
@@ -119,11 +118,13 @@ module _ (doc : Members) (fine : first_breach doc ≡ None) (home : List ℕ) wh
       let spans : spans_of block ≤ length texts = few_spans texts block stated.1 in
       let faults = faults_none (lines_of block) (block_fault (lines_of block)) (variable_fault (lines_of block)) block (ap parsed_or (sym read) ∙ stated.1) in
       let stores : list_all (store_fits doc home) (lines_of block) ≡ true = lines_pass (store_fits doc home) 0 0 (lines_stated d) (lines_of block) read (none StatementStores) in
-      let built : list_all is_built (lines_of block) ≡ true = lines_pass is_built 0 0 (lines_stated d) (lines_of block) read (none Built) in
+      let handlers : list_all (handler_exists doc) (lines_of block) ≡ true = lines_pass (handler_exists doc) 0 0 (lines_stated d) (lines_of block) read (none StatementHandlers) in
       let whole : length (lines_of block) ≤ 64 = omega arith in
       let begun : spans_of block ≤ 64 = omega arith in
-      ap (λ (b : Block). is_sound_body (stores_of doc) region b) (body_is texts block short stated.1)
+      ap (λ (b : Block). is_sound_body (stores_of doc) (services_of doc) region b) (body_is texts block short stated.1)
       ∙ and_from _ _ (le-leb _ _ whole)
       (and_from _ _ (le-leb _ _ begun)
       (and_from _ _ faults.0
-      (and_from _ _ faults.1 (both_pass (store_fits doc home) is_built (fits_stores (stores_of doc) region) line_fits (lines_of block) stores built))))
+      (and_from _ _ faults.1
+      (and_from _ _ (each_passes (store_fits doc home) (fits_stores (stores_of doc) region) line_fits (lines_of block) stores)
+      (each_passes (handler_exists doc) (fits_services (services_of doc)) (line_served doc fine) (lines_of block) handlers)))))

@@ -1,5 +1,5 @@
 -- What is known of the choices that a document states, where no rule is failed.
-use Rattle.std.proofs.Common.{◌≡◌, ℕ, suc, ◌+◌, ◌-◌, ◌*◌, ◌^◌, ◌<◌, ◌≤◌, codes, List, [], ◌∷◌, ◌++◌, Bool, true, false, not, nat_eq, nat_lt, nat_le, length, take, drop, Option, None, Some, Result, Ok, Err, if◌then◌else◌, option_map, refl, sym, ap, ◌∙◌, arith}
+use Rattle.std.proofs.Common.{◌≡◌, ℕ, suc, ◌+◌, ◌-◌, ◌*◌, ◌^◌, ◌<◌, ◌≤◌, codes, List, [], ◌∷◌, Bool, true, false, not, nat_eq, nat_lt, nat_le, length, take, drop, Option, None, Some, Result, Ok, Err, if◌then◌else◌, option_map, refl, sym, ap, ◌∙◌, arith}
 use Rattle.std.specs.Prelude.{position}
 use Rattle.std.specs.Char.{is_ascii_digit}
 use Rattle.std.specs.List.{list_all}
@@ -7,20 +7,16 @@ use Rattle.std.specs.Option.{option_and_then, option_or}
 use Rattle.std.specs.Str.{bytes_eq}
 use Rattle.std.proofs.lemmas.Bool.{and_parts, and_from, not-true, leb-true, le-leb, lt-ltb, eqb-false}
 use Rattle.anti_lang.specs.Words.{words}
-use Rattle.toml.specs.Data.{Data, Members}
+use Rattle.toml.specs.Data.{Data}
 use Rattle.anti_rules.specs.Trees.{text_of}
-use Rattle.anti_rules.specs.Rules.{begins_with, rule_line}
 use Rattle.anti_rules.specs.Statements.{next}
-use Rattle.anti_rules.specs.declared.rule.Rule.TheVariants.{Built}
-use Rattle.anti_rules.specs.declared.place.Part.TheVariants as parts
-use Rattle.anti_rules.proofs.Holds.{NoneFails, wanted}
 use Rattle.anti_app.specs.declared.app.App.{App}
 use Rattle.anti_app.specs.declared.app.SubDef.{SubDef}
 use Rattle.anti_app.specs.declared.app.Choice.{Choice}
-use Rattle.anti_app.specs.declared.app.Choice.TheVariants.{Take, Pull, Repull, Go, Finish}
+use Rattle.anti_app.specs.declared.app.Choice.TheVariants.{Take, Repost, Pull, Repull, Go, Finish}
 use Rattle.anti_app.specs.declared.choice.Shipment.{Shipment}
 use Rattle.anti_app.specs.Parts.{small, region_number, store_place, store_number, service_place, service_number, sub_number}
-use Rattle.anti_app.specs.Chosen.{value_from, is_number, number_of, object_number, if_both, taking, pulling, repulling, take_of, pull_of, repull_of, bringing, shipment_of, ship, again, mark_at, go_of, finish_of, choice_in, choice_of, choice_or, choices_from}
+use Rattle.anti_app.specs.Chosen.{value_from, is_number, number_of, object_number, if_both, taking, reposting, pulling, repulling, take_of, repost_of, pull_of, repull_of, bringing, shipment_of, ship, again, mark_at, go_of, finish_of, choice_in, choice_of, choice_or, choices_from}
 use Rattle.anti_app.specs.Sound.{is_countable, is_part, is_shipment, is_sound_choice}
 use Rattle.anti_app.proofs.Lookups.{number_within, place_within}
 
@@ -83,6 +79,19 @@ module _ (app : App) where
   take_sound [] choice h = cc
   take_sound (s ∷ []) choice h = cc
   take_sound (s ∷ n ∷ m ∷ more) choice h = cc
+
+  reposting_sound : (s n : List ℕ) (choice : Choice) → reposting app s n ≡ Some choice → IsSoundIn app choice
+  unfolding reposting is_sound_choice
+  reposting_sound s n choice h =
+      let both = both_there Repost (service_number app.services.items s) (number_of n) choice h in
+      sound_same (Repost both.0 both.1) choice both.4
+      (and_from _ _ (lt-ltb both.0 (length app.services.items) (number_within (λ service. bytes_eq service.name s) app.services.items both.0 both.2)) (number_sound n both.1 both.3))
+
+  repost_sound : (rest : List (List ℕ)) (choice : Choice) → repost_of app rest ≡ Some choice → IsSoundIn app choice
+  repost_sound (s ∷ n ∷ []) choice h = reposting_sound s n choice h
+  repost_sound [] choice h = cc
+  repost_sound (s ∷ []) choice h = cc
+  repost_sound (s ∷ n ∷ m ∷ more) choice h = cc
 
   bringing_sound : (s r v : List ℕ) (part : Option ℕ) (shipment : Shipment) → is_part part ≡ true → bringing app s r v part ≡ Some shipment
       → is_shipment (length app.regions.items) (length app.stores.items) shipment.store shipment.region shipment.version shipment.part ≡ true
@@ -195,17 +204,12 @@ module _ (app : App) where
   either_way true first other choice one two h = one h
   either_way false first other choice one two h = two h
 
-  other_way : (b : Bool) (first other : Option Choice) (choice : Choice) → b ≡ false → (other ≡ Some choice → IsSoundIn app choice)
-      → (if b then first else other) ≡ Some choice → IsSoundIn app choice
-  other_way true first other choice fails two h = cc
-  other_way false first other choice fails two h = two h
-
-  pub words_sound : app.subs.items ≡ [] → (ws : List (List ℕ)) (choice : Choice) → begins_with (codes "repost") ws ≡ false → choice_in app ws ≡ Some choice → IsSoundIn app choice
+  pub words_sound : app.subs.items ≡ [] → (ws : List (List ℕ)) (choice : Choice) → choice_in app ws ≡ Some choice → IsSoundIn app choice
   unfolding choice_in
-  words_sound none [] choice built h = cc
-  words_sound none (what ∷ rest) choice built h =
+  words_sound none [] choice h = cc
+  words_sound none (what ∷ rest) choice h =
       either_way (bytes_eq what (codes "take")) _ _ choice (take_sound rest choice)
-      (other_way (bytes_eq what (codes "repost")) _ _ choice built
+      (either_way (bytes_eq what (codes "repost")) _ _ choice (repost_sound rest choice)
       (either_way (bytes_eq what (codes "pull")) _ _ choice (no_pull none rest choice)
       (either_way (bytes_eq what (codes "repull")) _ _ choice (no_repull none rest choice)
       (either_way (bytes_eq what (codes "ship")) _ _ choice (ship_sound rest choice)
@@ -229,13 +233,11 @@ module _ (app : App) where
       )
 
   -- the choices that are stated are sound, and as many as are listed
-  pub choices_known : app.subs.items ≡ [] → (doc : Members) (earlier : List Data) (before : ℕ) (ds : List Data) (choices : List Choice)
-      → NoneFails (rule_line Built doc [] parts.Choice) earlier ds → choices_from app before ds ≡ Ok choices
+  pub choices_known : app.subs.items ≡ [] → (before : ℕ) (ds : List Data) (choices : List Choice) → choices_from app before ds ≡ Ok choices
       → (list_all (is_sound_choice (length app.regions.items) (length app.stores.items) (length app.services.items)) choices ≡ true) × (length choices ≡ length ds)
   unfolding choice_of
-  choices_known none doc earlier before [] choices built h = let same : [] ≡ choices = cc in (ap (list_all (is_sound_choice (length app.regions.items) (length app.stores.items) (length app.services.items))) (sym same), ap length (sym same))
-  choices_known none doc earlier before (d ∷ ds) choices built h =
-      let no_repost : begins_with (codes "repost") (words (text_of d)) ≡ false = not-true _ (wanted (not (begins_with (codes "repost") (words (text_of d)))) built.0) in
+  choices_known none before [] choices h = let same : [] ≡ choices = cc in (ap (list_all (is_sound_choice (length app.regions.items) (length app.stores.items) (length app.services.items))) (sym same), ap length (sym same))
+  choices_known none before (d ∷ ds) choices h =
       chosen_or (next before) (choice_of app d) (choices_from app (next before) ds) choices (length ds)
-      (λ choice is. words_sound none (words (text_of d)) choice no_repost is)
-      (λ more rest. choices_known none doc (earlier ++ d ∷ []) (next before) ds more built.1 rest) h
+      (λ choice is. words_sound none (words (text_of d)) choice is)
+      (λ more rest. choices_known none (next before) ds more rest) h

@@ -15,7 +15,7 @@ use Rattle.anti_lang.specs.Blocks.{lines_of}
 use Rattle.anti_lang.specs.Faults.{block_fault, variable_fault}
 use Rattle.anti_lang.specs.Spans.{spans_of}
 use Rattle.anti_rules.specs.declared.limits.TheConstants.{MOST_CHOICES}
-use Rattle.anti_app.specs.Sound.{are_distinct, is_few, is_kv, is_sound_store, is_stored, fits_stores, is_sound_body, is_sound_handler, is_sound_service, has_handler, is_sound_request, is_countable, is_part, is_shipment, is_sound_choice, are_sound_regions, are_sound_stores, are_sound_services, are_sound_requests, are_sound_choices, are_sound_numbers, is_sound}
+use Rattle.anti_app.specs.Sound.{are_distinct, is_few, is_kv, is_sound_store, is_stored, fits_stores, fits_services, is_sound_body, is_sound_handler, is_sound_service, has_handler, is_sound_request, is_countable, is_part, is_shipment, is_sound_choice, are_sound_regions, are_sound_stores, are_sound_services, are_sound_requests, are_sound_choices, are_sound_numbers, is_sound}
 use Rattle.anti_app.specs.declared.app.App.{App}
 use Rattle.anti_app.specs.declared.app.StoreDef.{StoreDef}
 use Rattle.anti_app.specs.declared.app.HandlerDef.{HandlerDef}
@@ -94,47 +94,53 @@ store_known regions store h =
       few_tries = tries.1;
     }
 
-pub record SoundBody (stores : List StoreDef) (region : ℕ) (body : Block) : Type 0 where
+pub record SoundBody (stores : List StoreDef) (services : List ServiceDef) (region : ℕ) (body : Block) : Type 0 where
   pub few : length (lines_of body) ≤ 64
   pub spans : spans_of body ≤ 64
   pub blocks : block_fault (lines_of body) ≡ None
   pub variables : variable_fault (lines_of body) ≡ None
   pub fits : All (λ line. fits_stores stores region line ≡ true) (lines_of body)
+  pub serves : All (λ line. fits_services services line ≡ true) (lines_of body)
 
-pub body_known : (stores : List StoreDef) (region : ℕ) (body : Block) → is_sound_body stores region body ≡ true → SoundBody stores region body
+pub body_known : (stores : List StoreDef) (services : List ServiceDef) (region : ℕ) (body : Block) → is_sound_body stores services region body ≡ true
+    → SoundBody stores services region body
 unfolding is_sound_body
-body_known stores region body h =
+body_known stores services region body h =
     let one = and_parts _ _ h in let two = and_parts _ _ one.1 in let three = and_parts _ _ two.1 in let four = and_parts _ _ three.1 in
+    let five = and_parts _ _ four.1 in
     record {
       few = leb-true _ _ one.0;
       spans = leb-true _ _ two.0;
       blocks = none_is (block_fault (lines_of body)) three.0;
       variables = none_is (variable_fault (lines_of body)) four.0;
-      fits = each_known (fits_stores stores region) (λ line. fits_stores stores region line ≡ true) (λ line fits. fits) (lines_of body) four.1;
+      fits = each_known (fits_stores stores region) (λ line. fits_stores stores region line ≡ true) (λ line fits. fits) (lines_of body) five.0;
+      serves = each_known (fits_services services) (λ line. fits_services services line ≡ true) (λ line fits. fits) (lines_of body) five.1;
     }
 
-pub record SoundHandler (stores : List StoreDef) (region : ℕ) (handler : HandlerDef) : Type 0 where
+pub record SoundHandler (stores : List StoreDef) (services : List ServiceDef) (region : ℕ) (handler : HandlerDef) : Type 0 where
   pub name : is_plain handler.name ≡ true
-  pub body : SoundBody stores region (block_of handler.body)
+  pub body : SoundBody stores services region (block_of handler.body)
   pub spans : spans_of (block_of handler.body) ≤ 64
 
-pub handler_known : (stores : List StoreDef) (region : ℕ) (handler : HandlerDef) → is_sound_handler stores region handler ≡ true → SoundHandler stores region handler
+pub handler_known : (stores : List StoreDef) (services : List ServiceDef) (region : ℕ) (handler : HandlerDef) → is_sound_handler stores services region handler ≡ true
+    → SoundHandler stores services region handler
 unfolding is_sound_handler
-handler_known stores region handler h =
-    let one = and_parts _ _ h in let body = body_known stores region (block_of handler.body) one.1 in
+handler_known stores services region handler h =
+    let one = and_parts _ _ h in let body = body_known stores services region (block_of handler.body) one.1 in
     record { name = one.0; body = body; spans = body.spans }
 
-pub record SoundService (regions : ℕ) (stores : List StoreDef) (service : ServiceDef) : Type 0 where
+pub record SoundService (regions : ℕ) (stores : List StoreDef) (services : List ServiceDef) (service : ServiceDef) : Type 0 where
   pub name : is_plain service.name ≡ true
   pub region : service.region < regions
   pub own_name : is_stored stores service.name ≡ false
   pub few : length service.handlers.items ≤ 16
-  pub handlers : All (SoundHandler stores service.region) service.handlers.items
+  pub handlers : All (SoundHandler stores services service.region) service.handlers.items
   pub distinct : AllPairs (λ a b. bytes_eq a.name b.name ≡ false) service.handlers.items
 
-pub service_known : (regions : ℕ) (stores : List StoreDef) (service : ServiceDef) → is_sound_service regions stores service ≡ true → SoundService regions stores service
+pub service_known : (regions : ℕ) (stores : List StoreDef) (services : List ServiceDef) (service : ServiceDef) → is_sound_service regions stores services service ≡ true
+    → SoundService regions stores services service
 unfolding is_sound_service
-service_known regions stores service h =
+service_known regions stores services service h =
     let one = and_parts _ _ h in let two = and_parts _ _ one.1 in let three = and_parts _ _ two.1 in let four = and_parts _ _ three.1 in
     let five = and_parts _ _ four.1 in
     record {
@@ -142,7 +148,7 @@ service_known regions stores service h =
       region = leb-true _ _ two.0;
       own_name = not-true _ three.0;
       few = leb-true _ _ four.0;
-      handlers = each_known (is_sound_handler stores service.region) (SoundHandler stores service.region) (handler_known stores service.region) service.handlers.items five.0;
+      handlers = each_known (is_sound_handler stores services service.region) (SoundHandler stores services service.region) (handler_known stores services service.region) service.handlers.items five.0;
       distinct = pairs_known (λ a b. bytes_eq a.name b.name) _ five.1;
     }
 
@@ -172,7 +178,7 @@ SoundShipment regions stores store region version part =
 -- what a choice names is there, and its numbers are from 1 to 4,096
 abbrev pub SoundChoice : ℕ → ℕ → ℕ → Choice → Type 0
 SoundChoice regions stores services (Take service nth) = (service < services) × (1 ≤ nth) × (nth ≤ 4096)
-SoundChoice regions stores services (Repost service number) = ⊥
+SoundChoice regions stores services (Repost service number) = (service < services) × (1 ≤ number) × (number ≤ 4096)
 SoundChoice regions stores services (Pull sub) = ⊥
 SoundChoice regions stores services (Repull sub version) = ⊥
 SoundChoice regions stores services (Ship store region version part) = SoundShipment regions stores store region version part
@@ -198,7 +204,8 @@ pub choice_known : (regions stores services : ℕ) (choice : Choice) → is_soun
 unfolding is_sound_choice
 choice_known regions stores services (Take service nth) h =
     let one = and_parts _ _ h in let number = counted_known nth one.1 in (leb-true _ _ one.0, number.0, number.1)
-choice_known regions stores services (Repost service number) h = cc
+choice_known regions stores services (Repost service number) h =
+    let one = and_parts _ _ h in let count = counted_known number one.1 in (leb-true _ _ one.0, count.0, count.1)
 choice_known regions stores services (Pull sub) h = cc
 choice_known regions stores services (Repull sub version) h = cc
 choice_known regions stores services (Ship store region version part) h = shipment_known regions stores store region version part h
@@ -217,7 +224,7 @@ pub record SoundApp (app : App) : Type 0 where
   pub stores : All (SoundStore (length app.regions.items)) app.stores.items
   pub store_names : AllPairs (λ a b. bytes_eq a.name b.name ≡ false) app.stores.items
   pub few_services : length app.services.items ≤ 16
-  pub services : All (SoundService (length app.regions.items) app.stores.items) app.services.items
+  pub services : All (SoundService (length app.regions.items) app.stores.items app.services.items) app.services.items
   pub names : AllPairs (λ a b. bytes_eq a.name b.name ≡ false) app.services.items
   pub few_requests : length app.requests.items ≤ 400
   pub requests : All (SoundRequest app.services.items) app.requests.items
@@ -251,8 +258,8 @@ app_known app h =
       stores = each_known (is_sound_store regions) (SoundStore regions) (store_known regions) app.stores.items more_stores.0;
       store_names = pairs_known (λ a b. bytes_eq a.name b.name) _ more_stores.1;
       few_services = leb-true _ _ services.0;
-      services = each_known (is_sound_service regions app.stores.items) (SoundService regions app.stores.items)
-          (service_known regions app.stores.items) app.services.items more_services.0;
+      services = each_known (is_sound_service regions app.stores.items app.services.items) (SoundService regions app.stores.items app.services.items)
+          (service_known regions app.stores.items app.services.items) app.services.items more_services.0;
       names = pairs_known (λ a b. bytes_eq a.name b.name) _ more_services.1;
       few_requests = leb-true _ _ requests.0;
       requests = each_known (is_sound_request app.services.items) (SoundRequest app.services.items) (request_known app.services.items) app.requests.items requests.1;

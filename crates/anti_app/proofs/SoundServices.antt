@@ -1,6 +1,6 @@
 -- What a document without a breach says of its services and requests.
 use Rattle.std.proofs.Common.{◌≡◌, ℕ, ◌^◌, ◌<◌, ◌≤◌, codes, List, [], ◌∷◌, ◌++◌, Bool, true, false, not, ◌&&◌, nat_lt, nat_le, length, map, Option, None, Some, Ok, Err, slice_get, if◌then◌else◌, option_map, refl, ap, ◌∙◌, arith}
-use Rattle.std.specs.List.{list_all, list_any, find}
+use Rattle.std.specs.List.{list_all, find}
 use Rattle.std.specs.Option.{option_and_then, option_map_or}
 use Rattle.std.specs.Str.{bytes_eq, is_utf8}
 use Rattle.std.proofs.lemmas.Bool.{and_parts, and_from, not-true, leb-true, lt-ltb}
@@ -17,16 +17,17 @@ use Rattle.anti_rules.specs.Order.{first_breach}
 use Rattle.anti_rules.specs.declared.rule.Rule.{Rule}
 use Rattle.anti_rules.specs.declared.rule.Rule.TheVariants.{Typed, Counted, PlainNames, DistinctObjects, DistinctHandlers, ServiceRegions, RequestHandlers}
 use Rattle.anti_rules.specs.declared.place.Part.TheVariants.{Service, Handler, Request}
-use Rattle.anti_rules.proofs.Holds.{NoHandlerFails, each_kept, wanted, each_wanted, each_handler, are_apart, each_apart, tabled, few_things}
+use Rattle.anti_rules.proofs.Holds.{NoHandlerFails, each_kept, wanted, each_wanted, are_apart, each_apart, tabled, few_things}
 use Rattle.anti_app.specs.declared.app.ServiceDef.{ServiceDef}
 use Rattle.anti_app.specs.declared.app.HandlerDef.{HandlerDef}
 use Rattle.anti_app.specs.Parts.{number_or_0, regions_of, region_number, stores_of, handler_of, service_of, services_of, service_number, handler_number, handler_in, value_or_empty, request_of, requests_of}
-use Rattle.anti_app.specs.Sound.{are_distinct, is_stored, is_sound_handler, is_sound_service, are_sound_services, has_handler, is_sound_request, are_sound_requests}
-use Rattle.anti_app.proofs.Lookups.{name_stays, first_found, first_good, first_numbered, any_made, first_made, distinct_made}
+use Rattle.anti_app.specs.Sound.{are_distinct, is_stored, has_named, is_sound_handler, is_sound_service, are_sound_services, has_handler, is_sound_request, are_sound_requests}
+use Rattle.anti_app.proofs.Lookups.{name_stays, first_found, first_good, first_numbered, first_made, distinct_made}
 use Rattle.anti_app.proofs.Kept.{FailsNone, FailNone, each_sound, each_true, counts_at, table_kept, length_made, names_back, some_passes}
 use Rattle.anti_app.proofs.SoundLemmas.{service_known}
 use Rattle.anti_app.proofs.SoundRegions.{counted, region_below}
 use Rattle.anti_app.proofs.SoundStores.{stored_is}
+use Rattle.anti_app.proofs.Served.{are_plain, named_made, services_plain, handlers_plain}
 use Rattle.anti_app.proofs.SoundBodies.{body_sound}
 
 -- values that are read are short
@@ -42,21 +43,21 @@ value_short text = by_length (nat_le (length text) 256) (is_utf8 text) text refl
 module _ (doc : Members) (fine : first_breach doc ≡ None) where
   -- ---- handlers
   handler_sound : (home : List ℕ) (earlier : List Data) (d : Data) → FailsNone doc home Handler earlier d
-      → is_sound_handler (stores_of doc) (number_or_0 (region_number (regions_of doc) home)) (handler_of d) ≡ true
+      → is_sound_handler (stores_of doc) (services_of doc) (number_or_0 (region_number (regions_of doc) home)) (handler_of d) ≡ true
   unfolding is_sound_handler handler_of
   handler_sound home earlier d none =
       let plain : is_plain (name_in d) ≡ true = wanted (is_plain (name_in d)) (none PlainNames) in
       and_from _ _ (ap is_plain (name_stays (name_in d) plain) ∙ plain) (body_sound doc fine home earlier d none)
 
-  handlers_plain : (home : List ℕ) (ds : List Data) → FailNone doc home Handler [] ds → list_all (λ d. is_plain (name_in d)) ds ≡ true
-  handlers_plain home ds none =
+  each_plain : (home : List ℕ) (ds : List Data) → FailNone doc home Handler [] ds → are_plain ds ≡ true
+  each_plain home ds none =
       each_wanted (rule_line PlainNames doc home Handler) (λ d. is_plain (name_in d)) (λ earlier d kept. wanted (is_plain (name_in d)) kept) [] ds (none PlainNames)
 
   handlers_differ : (home : List ℕ) (ds : List Data) → FailNone doc home Handler [] ds → are_distinct (λ a b. bytes_eq a.name b.name) (map handler_of ds) ≡ true
   unfolding handler_of
   handlers_differ home ds none =
       distinct_made (λ d. is_plain (name_in d)) handler_of (λ e d. bytes_eq (name_in e) (name_in d)) (λ a b. bytes_eq a.name b.name)
-      (λ a b plain also same. names_back (name_in a) (name_in b) plain also same) ds (handlers_plain home ds none)
+      (λ a b plain also same. names_back (name_in a) (name_in b) plain also same) ds (each_plain home ds none)
       (each_apart (rule_line DistinctHandlers doc home Handler) (λ e d. bytes_eq (name_in e) (name_in d))
       (λ earlier d kept. not-true (is_named (name_in d) earlier) (wanted (not (is_named (name_in d) earlier)) kept)) ds (none DistinctHandlers))
 
@@ -71,7 +72,7 @@ module _ (doc : Members) (fine : first_breach doc ≡ None) where
 
   service_sound : (earlier : List Data) (d : Data) → FailsNone doc [] Service earlier d
       → FailNone doc (text_at (codes "region") d) Handler [] (things_in (codes "handler") d)
-      → is_sound_service (length (regions_of doc)) (stores_of doc) (service_of (regions_of doc) d) ≡ true
+      → is_sound_service (length (regions_of doc)) (stores_of doc) (services_of doc) (service_of (regions_of doc) d) ≡ true
   unfolding is_sound_service service_of
   service_sound earlier d none handlers =
       let plain : is_plain (name_in d) ≡ true = wanted (is_plain (name_in d)) (none PlainNames) in
@@ -84,21 +85,16 @@ module _ (doc : Members) (fine : first_breach doc ≡ None) where
       (and_from _ _ (region_below doc fine home (wanted (is_among home (regions_in doc)) (none ServiceRegions)))
       (and_from _ _ (ap (λ (name : List ℕ). not (is_stored (stores_of doc) name)) stays ∙ (ap not (stored_is doc fine (name_in d)) ∙ apart.0))
       (and_from _ _ (length_made handler_of (λ n. nat_le n 16) ds (few_handlers earlier d none))
-      (and_from _ _ (each_sound doc home Handler handler_of (is_sound_handler (stores_of doc) (number_or_0 (region_number (regions_of doc) home)))
+      (and_from _ _ (each_sound doc home Handler handler_of (is_sound_handler (stores_of doc) (services_of doc) (number_or_0 (region_number (regions_of doc) home)))
       (handler_sound home) [] ds handlers)
       (handlers_differ home ds handlers)))))
 
   each_service : (earlier ds : List Data) → FailNone doc [] Service earlier ds → ((rule : Rule) → NoHandlerFails rule doc ds)
-      → list_all (is_sound_service (length (regions_of doc)) (stores_of doc)) (map (service_of (regions_of doc)) ds) ≡ true
+      → list_all (is_sound_service (length (regions_of doc)) (stores_of doc) (services_of doc)) (map (service_of (regions_of doc)) ds) ≡ true
   each_service earlier [] none handlers = refl
   each_service earlier (d ∷ ds) none handlers =
       and_from _ _ (service_sound earlier d (λ rule. (none rule).0) (λ rule. (handlers rule).0))
       (each_service (earlier ++ d ∷ []) ds (λ rule. (none rule).1) (λ rule. (handlers rule).1))
-
-  services_plain : list_all (λ d. is_plain (name_in d)) (services_in doc) ≡ true
-  services_plain =
-      each_wanted (rule_line PlainNames doc [] Service) (λ d. is_plain (name_in d)) (λ earlier d none. wanted (is_plain (name_in d)) none) [] (services_in doc)
-      (each_kept PlainNames doc fine).services
 
   services_apart : are_apart (λ e d. bytes_eq (name_in e) (name_in d)) (services_in doc) ≡ true
   services_apart =
@@ -115,7 +111,7 @@ module _ (doc : Members) (fine : first_breach doc ≡ None) where
   unfolding service_of
   services_differ =
       distinct_made (λ d. is_plain (name_in d)) (service_of (regions_of doc)) (λ e d. bytes_eq (name_in e) (name_in d)) (λ a b. bytes_eq a.name b.name)
-      (λ a b plain also same. names_back (name_in a) (name_in b) plain also same) (services_in doc) services_plain services_apart
+      (λ a b plain also same. names_back (name_in a) (name_in b) plain also same) (services_in doc) (services_plain doc fine) services_apart
 
   pub services_sound : are_sound_services (length (regions_of doc)) (stores_of doc) (services_of doc) ≡ true
   services_sound =
@@ -124,11 +120,6 @@ module _ (doc : Members) (fine : first_breach doc ≡ None) where
       services_differ)
 
   -- ---- requests
-  each_handler_plain : list_all (λ service. list_all (λ d. is_plain (name_in d)) (things_in (codes "handler") service)) (services_in doc) ≡ true
-  each_handler_plain =
-      each_handler PlainNames doc (λ service d. is_plain (name_in d)) (λ service earlier d none. wanted (is_plain (name_in d)) none) (services_in doc)
-      (each_kept PlainNames doc fine).handlers
-
   few_made : length (services_of doc) ≤ 2 ^ 32
   few_made = let few : length (services_in doc) ≤ 16 = leb-true _ _ few_services in omega (arith, length-map (services_in doc) (service_of (regions_of doc)))
 
@@ -139,21 +130,19 @@ module _ (doc : Members) (fine : first_breach doc ≡ None) where
   service_found name d found =
       let first : find (λ service. bytes_eq service.name name) (services_of doc) ≡ Some (service_of (regions_of doc) d) =
       first_made (λ e. is_plain (name_in e)) (service_of (regions_of doc)) (has_text (codes "name") name) (λ service. bytes_eq service.name name)
-      (λ e plain. ap (λ (x : List ℕ). bytes_eq x name) (name_stays (name_in e) plain)) (services_in doc) services_plain
+      (λ e plain. ap (λ (x : List ℕ). bytes_eq x name) (name_stays (name_in e) plain)) (services_in doc) (services_plain doc fine)
       ∙ ap (option_map (service_of (regions_of doc))) found in
       let at = first_numbered (λ service. bytes_eq service.name name) (services_of doc) (service_of (regions_of doc) d) few_made first in
       (at.0, at.1, at.3, first)
 
   -- the number of a handler that is there
-  number_found : (d : Data) (name : List ℕ) → list_all (λ e. is_plain (name_in e)) (things_in (codes "handler") d) ≡ true
+  number_found : (d : Data) (name : List ℕ) → are_plain (things_in (codes "handler") d) ≡ true
       → length (service_of (regions_of doc) d).handlers.items ≤ 16 → is_named name (things_in (codes "handler") d) ≡ true
       → (j : ℕ) × (handler_number (service_of (regions_of doc) d).handlers.items name ≡ Some j) × (j < length (service_of (regions_of doc) d).handlers.items)
   unfolding service_of handler_of
   number_found d name plain few there =
       let hs : List HandlerDef = map handler_of (things_in (codes "handler") d) in
-      let any : list_any (λ handler. bytes_eq handler.name name) hs ≡ true =
-      any_made (λ e. is_plain (name_in e)) handler_of (has_text (codes "name") name) (λ handler. bytes_eq handler.name name)
-      (λ e good. ap (λ (x : List ℕ). bytes_eq x name) (name_stays (name_in e) good)) (things_in (codes "handler") d) plain ∙ there in
+      let any : has_named name hs ≡ true = named_made name (things_in (codes "handler") d) plain ∙ there in
       let first = first_found (λ handler. bytes_eq handler.name name) hs any in
       let at = first_numbered (λ handler. bytes_eq handler.name name) hs first.0 (omega arith) first.1 in
       (at.0, at.1, at.2)
@@ -167,11 +156,11 @@ module _ (doc : Members) (fine : first_breach doc ≡ None) where
       let d : Data = found.0 in
       let made : ServiceDef = service_of (regions_of doc) d in
       let at = service_found service d found.1 in
-      let plain = first_good (λ s. list_all (λ e. is_plain (name_in e)) (things_in (codes "handler") s)) (has_text (codes "name") service) (services_in doc) d each_handler_plain found.1 in
-      let all : list_all (is_sound_service (length (regions_of doc)) (stores_of doc)) (services_of doc) ≡ true =
+      let plain = handlers_plain doc fine service d found.1 in
+      let all : list_all (is_sound_service (length (regions_of doc)) (stores_of doc) (services_of doc)) (services_of doc) ≡ true =
       each_service [] (services_in doc) (λ rule. (each_kept rule doc fine).services) (λ rule. (each_kept rule doc fine).handlers) in
-      let sound = first_good (is_sound_service (length (regions_of doc)) (stores_of doc)) (λ s. bytes_eq s.name service) (services_of doc) made all at.3 in
-      let few : length made.handlers.items ≤ 16 = (service_known (length (regions_of doc)) (stores_of doc) made sound).few in
+      let sound = first_good (is_sound_service (length (regions_of doc)) (stores_of doc) (services_of doc)) (λ s. bytes_eq s.name service) (services_of doc) made all at.3 in
+      let few : length made.handlers.items ≤ 16 = (service_known (length (regions_of doc)) (stores_of doc) (services_of doc) made sound).few in
       let number = number_found d handler plain few found.2 in
       let here : number_or_0 (service_number (services_of doc) service) ≡ at.0 = ap number_or_0 at.1 in
       let there : handler_in (services_of doc) at.0 handler ≡ Some number.0 =

@@ -63,7 +63,7 @@ module _ (doc : Members) (fine : first_breach doc ≡ None) where
   -- An application of a document that fails no rule, with the choices that it states, is sound.
   pub sound_of : (choices : List Choice) → choices_of doc ≡ Ok choices → is_sound (app_with doc choices) ≡ true
   sound_of choices stated =
-      let known = choices_known (app_with doc []) no_subs doc [] 0 (things_at (codes "choices") doc) choices (each_kept Built doc fine).choices stated in
+      let known = choices_known (app_with doc []) no_subs 0 (things_at (codes "choices") doc) choices stated in
       and_from _ _ (regions_sound doc fine)
       (and_from _ _ (stores_sound doc fine)
       (and_from _ _ (services_sound doc fine)

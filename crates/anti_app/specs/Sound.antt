@@ -82,32 +82,42 @@ abbrev pub is_near : (StoreKind → Bool) → List StoreDef → List ℕ → ℕ
 is_near test stores name region = list_any (serves test name region) stores
 
 -- ---- services
--- Whether the store of a line, where it names one, is there and fits the line in the region where the handler runs. Calls of handlers
--- are not built yet.
+-- Whether the store of a line, where it names one, is there and fits the line in the region where the handler runs.
 unfoldable pub fits_stores : List StoreDef → ℕ → Line → Bool
 fits_stores stores region (Does (Write store key value variable untracked)) = is_stored stores store
 fits_stores stores region (Does (Read store key variable)) = is_near is_read_by_key stores store region
 fits_stores stores region (Does (Scan store prefix variable)) = is_near is_scanned stores store region
 fits_stores stores region (Does (Poll store key variable)) = is_near is_polled stores store region
-fits_stores stores region (Does (Call service handler value variable)) = false
-fits_stores stores region (Does (Send service handler value)) = false
 fits_stores stores region line = true
 
--- at most 64 lines, that begin at most 64 spans, with no fault of blocks or variables, each of which has its store
-unfoldable pub is_sound_body : List StoreDef → ℕ → Block → Bool
-is_sound_body stores region body =
+-- Whether a service of this name has a handler of that name.
+abbrev pub has_named : List ℕ → List HandlerDef → Bool
+has_named name handlers = list_any (λ handler. bytes_eq handler.name name) handlers
+
+abbrev pub is_served : List ServiceDef → List ℕ → List ℕ → Bool
+is_served services service handler = list_any (λ s. bytes_eq s.name service && has_named handler s.handlers.items) services
+
+-- Whether the handler of a line that posts a call or a send is there.
+unfoldable pub fits_services : List ServiceDef → Line → Bool
+fits_services services (Does (Call service handler value variable)) = is_served services service handler
+fits_services services (Does (Send service handler value)) = is_served services service handler
+fits_services services line = true
+
+-- at most 64 lines, that begin at most 64 spans, with no fault of blocks or variables, each of which has its store and its handler
+unfoldable pub is_sound_body : List StoreDef → List ServiceDef → ℕ → Block → Bool
+is_sound_body stores services region body =
     nat_le (length (lines_of body)) 64 && (nat_le (spans_of body) 64 && (is_none (block_fault (lines_of body))
-    && (is_none (variable_fault (lines_of body)) && list_all (fits_stores stores region) (lines_of body))))
+    && (is_none (variable_fault (lines_of body)) && (list_all (fits_stores stores region) (lines_of body) && list_all (fits_services services) (lines_of body)))))
 
 -- a plain name and a sound body
-unfoldable pub is_sound_handler : List StoreDef → ℕ → HandlerDef → Bool
-is_sound_handler stores region handler = is_plain handler.name && is_sound_body stores region (block_of handler.body)
+unfoldable pub is_sound_handler : List StoreDef → List ServiceDef → ℕ → HandlerDef → Bool
+is_sound_handler stores services region handler = is_plain handler.name && is_sound_body stores services region (block_of handler.body)
 
 -- a plain name that no store has, a region that is there, and at most 16 handlers, of distinct names
-unfoldable pub is_sound_service : ℕ → List StoreDef → ServiceDef → Bool
-is_sound_service regions stores service =
+unfoldable pub is_sound_service : ℕ → List StoreDef → List ServiceDef → ServiceDef → Bool
+is_sound_service regions stores services service =
     is_plain service.name && (nat_lt service.region regions && (not (is_stored stores service.name) && (nat_le (length service.handlers.items) 16
-    && (list_all (is_sound_handler stores service.region) service.handlers.items
+    && (list_all (is_sound_handler stores services service.region) service.handlers.items
     && are_distinct (λ a b. bytes_eq a.name b.name) service.handlers.items))))
 
 -- ---- requests and choices
@@ -132,10 +142,10 @@ abbrev pub is_shipment : ℕ → ℕ → ℕ → ℕ → ℕ → Option ℕ → 
 is_shipment regions stores store region version part =
     nat_lt store stores && (nat_lt region regions && (is_countable version && is_part part))
 
--- Each number of a choice is in its range, and what it names is there. Subscriptions are not built yet, nor is `repost`.
+-- Each number of a choice is in its range, and what it names is there. Subscriptions are not built yet.
 unfoldable pub is_sound_choice : ℕ → ℕ → ℕ → Choice → Bool
 is_sound_choice regions stores services (Take service nth) = nat_lt service services && is_countable nth
-is_sound_choice regions stores services (Repost service number) = false
+is_sound_choice regions stores services (Repost service number) = nat_lt service services && is_countable number
 is_sound_choice regions stores services (Pull sub) = false
 is_sound_choice regions stores services (Repull sub version) = false
 is_sound_choice regions stores services (Ship store region version part) = is_shipment regions stores store region version part
@@ -156,7 +166,7 @@ are_sound_stores regions stores =
 -- at most 16 sound services of distinct names
 abbrev pub are_sound_services : ℕ → List StoreDef → List ServiceDef → Bool
 are_sound_services regions stores services =
-    nat_le (length services) 16 && (list_all (is_sound_service regions stores) services && are_distinct (λ a b. bytes_eq a.name b.name) services)
+    nat_le (length services) 16 && (list_all (is_sound_service regions stores services) services && are_distinct (λ a b. bytes_eq a.name b.name) services)
 
 -- at most 400 sound requests
 abbrev pub are_sound_requests : List ServiceDef → List RequestDef → Bool

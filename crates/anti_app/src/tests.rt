@@ -55,6 +55,13 @@ fn choices_have_their_forms(rt: HostRuntime) -> Result<(), Fail> {
                 nth: 4096,
             },
         ),
+        (
+            "repost w 3",
+            Choice::Repost {
+                service: 0,
+                number: 3,
+            },
+        ),
         ("ship s us 1", ship(0, 0, 1, None)),
         ("ship s eu 4096 2", ship(0, 1, 4096, Some(2))),
         ("ship t us 1", ship(1, 0, 1, None)),
@@ -86,7 +93,7 @@ fn choices_have_their_forms(rt: HostRuntime) -> Result<(), Fail> {
     Ok(())
 }
 
-static NO_CHOICES: [&str; 37] = [
+static NO_CHOICES: [&str; 39] = [
     "",
     "take",
     "take w",
@@ -101,6 +108,8 @@ static NO_CHOICES: [&str; 37] = [
     "take s 1",
     "take x 1",
     "Take w 1",
+    "repost w 0",
+    "repost s 1",
     "pull p",
     "pull",
     "repull p 1",
@@ -149,13 +158,17 @@ fn bad(rule: u32, part: Part, item: u32, line: u32) -> AppFault {
 
 #[test]
 fn faults_come_in_their_order(rt: HostRuntime) -> Result<(), Fail> {
-    let rows: [(&[u8], AppFault); 6] = [
+    let rows: [(&[u8], AppFault); 7] = [
         (b"regions", AppFault::NotToml),
         (b"regions = ['us'] # \xff", AppFault::NotToml),
         (b"regions = []\nchoices = ['x']", bad(4, Part::Top, 0, 0)),
         (
-            b"regions = ['us']\nchoices = ['finish', 'repost w 1']",
+            b"regions = ['us']\nstore = [{name = 's', kind = 'table', replicas = ['us']}]\nchoices = ['x']",
             bad(25, Part::Top, 0, 0),
+        ),
+        (
+            b"regions = ['us']\nservice = [{name = 'w', region = 'us', handler = [{name = 'a', body = ['call w a $in as x', 'send w b $x']}]}]",
+            bad(24, Part::Handler, 1, 2),
         ),
         (
             b"regions = ['us']\nchoices = ['finish', 'finish', 'x', 'y']",
@@ -217,6 +230,8 @@ fn has_body(app: &App) -> bool {
     let [
         Statement::Read { .. },
         Statement::Repeat { count: 3, body },
+        Statement::Call { .. },
+        Statement::Send { .. },
         Statement::Stop,
     ] = handler.body.as_slice()
     else {
@@ -248,7 +263,7 @@ handler = [{name = 'two', body = []}]
 [[service]]
 name = 'w'
 region = 'eu'
-handler = [{name = 'one', body = []}, {name = 'two', body = ['read t k as x', ' repeat 3', 'write s $in $x as y untracked', 'end', 'stop']}]";
+handler = [{name = 'one', body = []}, {name = 'two', body = ['read t k as x', ' repeat 3', 'write s $in $x as y untracked', 'end', 'call v two $x as z', 'send w one $z', 'stop']}]";
     let app = read_app(rt.alloc(), text).ok().ok_or("an application")?;
     assert!(rt; app.regions.len() == 2);
     assert!(rt; has_stores(&app));

@@ -1,4 +1,7 @@
-pub mod Filters
-pub mod Takes
-pub mod Stands
-pub mod Others
+pub mod Lists
+pub mod Fates
+pub mod Reading
+pub mod Outcomes
+pub mod Noting
+pub mod Standing
+pub mod Once

@@ -1,30 +1,48 @@
--- How an inbox of requests stands for the takes that were made.
-use Rattle.std.specs.Prelude.{◌≡◌, Bool, true, false, List, All}
-use Rattle.anti_kind.specs.declared.call.Call.{Call}
-use Rattle.anti_kind.specs.declared.call.Call.TheVariants.{Post, Take, Repost, TakeReply}
+-- How an inbox stands for a history.
+use Rattle.std.specs.Prelude.{◌≡◌, ℕ, ◌≤◌, List, length, map, take}
 use Rattle.anti_kind.specs.declared.call.Entry.{Entry}
-use Rattle.anti_kind.specs.Inbox.{free}
-use Rattle.anti_kind.specs.Objects.{Start, inbox, held}
+use Rattle.anti_kind.specs.declared.call.Message.{Message}
+use Rattle.anti_kind.specs.Inbox.{messages, numbers, free}
+use Rattle.anti_kind.specs.Objects.{Start, inbox, held, owed, StandsFor}
+use Rattle.anti_inbox.specs.declared.inbox.Fate.{Fate}
 use Rattle.anti_inbox.specs.declared.inbox.Inbox.{Inbox}
+use Rattle.anti_inbox.specs.Fates.{fate_of}
 
-abbrev pub is_take : Call → Bool
-is_take (Take nth) = true
-is_take _ = false
+-- the first messages are the requests
+abbrev pub requests_of : Inbox → List Message
+requests_of m = take m.requests m.messages.items
 
--- the inbox with these requests
 abbrev pub start_of : Inbox → Start
-start_of m = inbox m.requests.items
+start_of m = inbox (requests_of m)
 
--- Messages were taken and nothing else was done; the free deliveries are those whose message was not taken.
+-- m has the messages of the history, what became of each, and the free deliveries
+pub record Knows (m : Inbox) (h : List Entry) : Type 0 where
+  pub requests_within : m.requests ≤ length m.messages.items
+  pub messages_are : m.messages.items ≡ messages (requests_of m) h
+  pub fates_are : m.fates.items ≡ map (fate_of h) (numbers (requests_of m) h)
+  pub free_are : m.free.items ≡ free (requests_of m) h
+
+-- and the units that it holds and owes
 pub record InboxStands (m : Inbox) (h : List Entry) : Type 0 where
-  pub only_takes : All (λ e. is_take e.call ≡ true) h
-  pub free_are : m.free.items ≡ free m.requests.items h
-  pub taken_is : m.taken ≡ held h
+  pub knows : Knows m h
+  pub held_is : m.held ≡ held h
+  pub owed_is : m.owed ≡ owed (start_of m) h
 
--- the calls of which the table of an inbox speaks
-abbrev pub is_inbox_call : Call → Bool
-is_inbox_call (Post message) = true
-is_inbox_call (Take nth) = true
-is_inbox_call (Repost number) = true
-is_inbox_call (TakeReply number) = true
-is_inbox_call _ = false
+-- m stands for h, which is legal
+abbrev pub At : Inbox → List Entry → Type 0
+At m h = StandsFor (start_of m) (InboxStands m) h
+
+-- n has the requests and the units of m
+pub record Keeps (m n : Inbox) : Type 0 where
+  pub requests_are : requests_of n ≡ requests_of m
+  pub held_is : n.held ≡ m.held
+  pub owed_is : n.owed ≡ m.owed
+
+-- n is m with these messages, fates and free deliveries
+pub record Turns (m n : Inbox) (messages : List Message) (fates : List Fate) (free : List ℕ) : Type 0 where
+  pub requests_is : n.requests ≡ m.requests
+  pub messages_are : n.messages.items ≡ messages
+  pub fates_are : n.fates.items ≡ fates
+  pub free_are : n.free.items ≡ free
+  pub held_is : n.held ≡ m.held
+  pub owed_is : n.owed ≡ m.owed

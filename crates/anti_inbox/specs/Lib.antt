@@ -1,1 +1,3 @@
+pub mod Fates
 pub mod Inboxes
+pub mod InboxLaws

@@ -1,85 +1,157 @@
-ghost use Rattle.std.specs.Prelude.{◌≡◌, ◌<◌, ◌^◌, ◌++◌, ◌∷◌, [], ◌&&◌, List, IfOk};
+ghost use Rattle.std.specs.Prelude.{◌≡◌, ◌<◌, ◌^◌, List, [], map, IfOk, IfNone, IfSome, MatchOption, None, Some, slice_get};
 ghost use Rattle.std.specs.List.{range_with_len};
 ghost use Rattle.anti_kind.specs.declared.call.Entry.{Entry};
-ghost use Rattle.anti_kind.specs.declared.call.Message.{Message};
-ghost use Rattle.anti_kind.specs.declared.call.Call.TheVariants.{Take};
-ghost use Rattle.anti_kind.specs.Objects.{inbox, ready, fits, due, Follows, IsStart, StandsFor, MayMake};
+ghost use Rattle.anti_kind.specs.Inbox.{messages, numbered, is_call_message, is_taken, replies, has_reply, reply_is_taken, post_ready};
+ghost use Rattle.anti_kind.specs.Objects.{inbox, IsStart};
+ghost use Rattle.anti_inbox.specs.Fates.{fate_of, untouched};
 
-use anti_ids::{Copies, NoMemory};
-use anti_kind::{MOST_UNITS, Messages, Reply};
+use anti_ids::NoMemory;
+use anti_kind::{Message, MessageKind, Messages};
 use std::alloc::Global;
 
-/// The requests of a service, and which of them were not taken yet.
+/// What became of a message: whether it was taken, and, where it is a call, its reply and whether that was taken.
+#[derive(Drop)]
+pub(crate) struct Fate {
+    pub(crate) taken: bool,
+    pub(crate) reply: Option<Message>,
+    pub(crate) heard: bool,
+}
+
+/// The messages of a service, of which the first are its requests, what became of each, and the numbers of the free deliveries in
+/// their order. The message numbered n stands at the index n - 1.
 #[derive(Drop)]
 pub struct Inbox {
-    requests: Messages,
-    // the numbers of the requests that were not taken, ascending
-    free: Vec<u32>,
-    // how many were taken
-    taken: u32,
+    pub(crate) requests: usize,
+    pub(crate) messages: Messages,
+    pub(crate) fates: Vec<Fate>,
+    pub(crate) free: Vec<u32>,
+    pub(crate) held: u32,
+    pub(crate) owed: u32,
+    pub(crate) alloc: Global,
 }
 
 impl Inbox {
-    ghost use Rattle.anti_inbox.specs.Inboxes.{start_of, InboxStands};
+    ghost use Rattle.anti_inbox.specs.Inboxes.{start_of, requests_of, InboxStands, At};
 
-    /// The inbox with these requests, of which none was taken.
+    /// The inbox with these requests, on which nothing has happened yet.
     pub fn new(alloc: Global, requests: Messages) -> Result<Inbox, NoMemory>
         requires { IsStart (inbox requests.items) }
         ensures start { IfOk result (λ m. start_of m ≡ inbox requests.items) }
         ensures stands { IfOk result (λ m. InboxStands m []) }
     {
-        let free = numbers(alloc, requests.len())?;
+        let count = requests.len();
+        let fates = fates(alloc, count)?;
+        let free = numbers(alloc, count)?;
         Ok(Inbox {
-            requests,
+            requests: count,
+            messages: requests,
+            fates,
             free,
-            taken: 0,
+            held: 0,
+            owed: count as u32,
+            alloc,
         })
     }
 
-    /// Whether the message of the nth free delivery, counted from 1, can be taken: it is there, and its entry fits. It takes no
-    /// memory.
-    pub fn can_take(&self, nth: u32) -> bool
-        ensures { (h : List Entry) → StandsFor (start_of self.now) (InboxStands self.now) h
-            → result ≡ (ready (start_of self.now) h (Take nth) && fits (start_of self.now) h (Take nth)) }
+    // What became of the message with a number. Where there is none, nothing became of it.
+    pub(crate) fn fate(&self, number: u32) -> Option<&Fate>
+        ensures some { (h : List Entry) → At self.now h → IfSome result (λ f. f.now ≡ fate_of h number) }
+        ensures none { (h : List Entry) → At self.now h → IfNone result (fate_of h number ≡ untouched) }
     {
-        let room = MOST_UNITS as usize;
-        if nth < 1 {
-            return false;
+        if number == 0 {
+            return None;
         }
-        if nth as usize > self.free.len() {
-            return false;
-        }
-        if self.free.len() > room {
-            return false;
-        }
-        self.taken as usize <= room - self.free.len()
+        let fate = self.fates.as_slice().get(number as usize - 1)?;
+        Some(fate)
     }
 
-    /// The reply of a take: the message, with its number. Nothing changes.
-    pub fn due(&self, alloc: Global, nth: u32) -> Result<Reply, NoMemory>
-        requires { MayMake (start_of self.now) (InboxStands self.now) (Take nth) }
-        ensures { (h : List Entry) → StandsFor (start_of self.now) (InboxStands self.now) h
-            → IfOk result (λ r. r ≡ due (start_of self.now) h (Take nth)) }
+    // Whether the message with a number is a call.
+    pub(crate) fn is_call(&self, number: u32) -> bool
+        ensures { (h : List Entry) → At self.now h → result ≡ is_call_message (numbered (messages (requests_of self.now) h) number) }
     {
-        let number = self.free[nth as usize - 1];
-        let message = self.requests.at(number as usize - 1).copy(alloc)?;
-        Ok(Reply::Got { number, message })
+        if number == 0 {
+            return false;
+        }
+        match self.messages.as_slice().get(number as usize - 1) {
+            Some(message) => message.kind == MessageKind::Call,
+            None => false,
+        }
     }
 
-    /// Takes the message of the nth free delivery, counted from 1. It takes no memory.
-    pub fn take(&mut self, nth: u32)
-        requires { MayMake (start_of self.old) (InboxStands self.old) (Take nth) }
-        ensures stands { (h : List Entry) (e : Entry) → StandsFor (start_of self.old) (InboxStands self.old) h
-            → Follows (start_of self.old) h e → e.call ≡ Take nth → InboxStands self.new (h ++ e ∷ []) }
-        ensures start { start_of self.new ≡ start_of self.old }
+    // Whether the message with a number was taken.
+    pub(crate) fn is_taken(&self, number: u32) -> bool
+        ensures { (h : List Entry) → At self.now h → result ≡ is_taken h number }
     {
-        let _number = self.free.remove(nth as usize - 1);
-        self.taken += 1;
+        match self.fate(number) {
+            Some(fate) => fate.taken,
+            None => false,
+        }
+    }
+
+    // The reply to the call with a number.
+    pub(crate) fn reply(&self, number: u32) -> Option<&Message>
+        ensures { (h : List Entry) → At self.now h
+            → MatchOption result (slice_get (replies h number) 0 ≡ None) (λ m. slice_get (replies h number) 0 ≡ Some m.now) }
+    {
+        match self.fate(number) {
+            Some(fate) => fate.reply.as_ref(),
+            None => None,
+        }
+    }
+
+    // Whether a reply was posted to the call with a number.
+    pub(crate) fn has_reply(&self, number: u32) -> bool
+        ensures { (h : List Entry) → At self.now h → result ≡ has_reply h number }
+    {
+        self.reply(number).is_some()
+    }
+
+    // Whether the reply to the call with a number was taken.
+    pub(crate) fn is_heard(&self, number: u32) -> bool
+        ensures { (h : List Entry) → At self.now h → result ≡ reply_is_taken h number }
+    {
+        match self.fate(number) {
+            Some(fate) => fate.heard,
+            None => false,
+        }
+    }
+
+    // Whether a reply to the message with a number can be posted: that is a call, was taken, and has no reply yet.
+    pub(crate) fn can_answer(&self, number: u32) -> bool
+        ensures { (h : List Entry) → At self.now h → result ≡ post_ready (requests_of self.now) h MessageKind.Reply number }
+    {
+        if !self.is_call(number) {
+            return false;
+        }
+        if !self.is_taken(number) {
+            return false;
+        }
+        !self.has_reply(number)
     }
 }
 
+// The fates of so many messages, to which nothing has happened.
+#[tactic(auto, using(crate::proofs::Fates::untouched_more))]
+fn fates(alloc: Global, count: usize) -> Result<Vec<Fate>, NoMemory>
+    ensures { IfOk result (λ v. v.items ≡ map (fate_of []) (range_with_len 1 count)) }
+{
+    let mut fates = Vec::new(alloc);
+    for _before in 0..count {
+        let fate = Fate {
+            taken: false,
+            reply: None,
+            heard: false,
+        };
+        match fates.push(fate) {
+            Ok(()) => {}
+            Err(_) => return Err(NoMemory),
+        }
+    }
+    Ok(fates)
+}
+
 // The numbers from 1 to a count.
-#[tactic(auto, using(crate::proofs::Filters::range_more))]
+#[tactic(auto, using(crate::proofs::Lists::range_more))]
 fn numbers(alloc: Global, count: usize) -> Result<Vec<u32>, NoMemory>
     requires { count < 2 ^ 32 }
     ensures { IfOk result (λ v. v.items ≡ range_with_len 1 count) }

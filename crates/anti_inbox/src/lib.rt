@@ -1,12 +1,12 @@
-//! The inbox of a service: its messages wait there to be taken, each once.
-//!
-//! This one holds the requests of the application. Messages that are posted to it, replies and deliveries that are repeated are
-//! not among its calls yet: it stands for the histories that consist of takes.
+//! The inbox of a service: its messages wait there to be taken, each once, and the replies to calls wait for their callers.
 #![tactic(auto)]
 
+mod changes;
 mod inbox;
-
-pub use inbox::Inbox;
-
+mod laws;
+mod machine;
 #[cfg(test)]
 mod tests;
+
+pub use inbox::Inbox;
+pub use laws::{answered_once, heard_once, reserved_fits, taken_is_gone, takes_get, takes_once};

@@ -1,4 +1,3 @@
 pub mod Starts
 pub mod News
-pub mod Taking
 pub mod Histories

@@ -17,7 +17,7 @@ use Rattle.anti_app.specs.declared.app.HandlerDef.{HandlerDef}
 use Rattle.anti_app.specs.declared.app.RequestDef.{RequestDef}
 use Rattle.anti_app.specs.Sound.{is_sound}
 use Rattle.anti_object.specs.declared.object.Object.{Object}
-use Rattle.anti_object.specs.declared.object.Object.TheVariants.{Store as StoreObject, Inbox as InboxObject}
+use Rattle.anti_object.specs.declared.object.Object.TheVariants.{Kv as KvObject, Inbox as InboxObject}
 use Rattle.anti_object.specs.Starts.{start_of, store_start, inbox_start, message_of, message_to}
 use Rattle.anti_object.specs.Standing.{object_start, ObjectStands, IsNew}
 use Rattle.anti_object.proofs.Starts.{start_of-store, start_of-inbox, start_sound}
@@ -67,9 +67,9 @@ module _ (app : App) (sound : IsTrue (is_sound app)) (number : ℕ) where
       record { start = at; stands = record { sane = start_sound app number (object_start o) sound at; legal = tt; state = stands } }
 
   pub new_store : (s : StoreDef) (m : Kv) → number < length app.stores.items → slice_get app.stores.items number ≡ Some s
-      → its_start m ≡ store_start number s → KvStands m [] → IsNew app number (StoreObject m)
+      → its_start m ≡ store_start number s → KvStands m [] → IsNew app number (KvObject m)
   new_store s m lt there start stands =
-      is_new (StoreObject m) (store_start number s) (start_of-store app number lt ∙ ap (option_map (store_start number)) there) start stands
+      is_new (KvObject m) (store_start number s) (start_of-store app number lt ∙ ap (option_map (store_start number)) there) start stands
 
   module _ (stores : List StoreDef) (same : stores ≡ app.stores.items) (past : length stores ≤ number) where
     abbrev service : ℕ

@@ -1,7 +1,6 @@
 -- How an object of an application stands for a history.
 use Rattle.std.specs.Prelude.{◌≡◌, ℕ, List, [], Some}
 use Rattle.anti_kind.specs.declared.call.Call.{Call}
-use Rattle.anti_kind.specs.declared.call.Call.TheVariants.{Write, Read, Scan, Poll, Look, Ship, Again, Take}
 use Rattle.anti_kind.specs.declared.call.Entry.{Entry}
 use Rattle.anti_kind.specs.Objects.{Start, StandsFor}
 use Rattle.anti_kind.specs.Objects as objects
@@ -9,28 +8,18 @@ use Rattle.anti_kv.specs.KvStates.{its_start, KvStands}
 use Rattle.anti_inbox.specs.Inboxes as inboxes
 use Rattle.anti_app.specs.declared.app.App.{App}
 use Rattle.anti_object.specs.declared.object.Object.{Object}
-use Rattle.anti_object.specs.declared.object.Object.TheVariants.{Store, Inbox}
+use Rattle.anti_object.specs.declared.object.Object.TheVariants as machines
 use Rattle.anti_object.specs.Starts.{start_of}
 
--- the calls that schedules and handlers make so far
-abbrev pub IsCallOfRun : Call → Type 0
-IsCallOfRun (Write key value lineage) = Unit {0}
-IsCallOfRun (Read region key) = Unit {0}
-IsCallOfRun (Scan region prefix) = Unit {0}
-IsCallOfRun (Poll region key) = Unit {0}
-IsCallOfRun (Look region ids dry) = Unit {0}
-IsCallOfRun (Ship region version part) = Unit {0}
-IsCallOfRun (Again region version part) = Unit {0}
-IsCallOfRun (Take nth) = Unit {0}
-IsCallOfRun _ = ⊥
+-- An object is its machine.
 
 abbrev pub object_start : Object → Start
-object_start (Store m) = its_start m
-object_start (Inbox m) = inboxes.start_of m
+object_start (machines.Kv m) = its_start m
+object_start (machines.Inbox m) = inboxes.start_of m
 
 abbrev pub ObjectStands : Object → List Entry → Type 0
-ObjectStands (Store m) h = KvStands m h
-ObjectStands (Inbox m) h = inboxes.InboxStands m h
+ObjectStands (machines.Kv m) h = KvStands m h
+ObjectStands (machines.Inbox m) h = inboxes.InboxStands m h
 
 -- an object stands for a history that is legal
 abbrev pub ObjectAt : Object → List Entry → Type 0

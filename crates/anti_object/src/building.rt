@@ -22,7 +22,7 @@ impl Object {
         let stores = app.stores.as_slice();
         if let Some(store) = stores.get(number as usize) {
             let store = Kv::new(alloc, number, store.replicas.as_slice())?;
-            return Ok(Some(Object::Store(store)));
+            return Ok(Some(Object::Kv(store)));
         }
         let number = number - stores.len() as u32;
         let Some(service) = app.services.as_slice().get(number as usize) else {

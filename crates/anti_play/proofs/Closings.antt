@@ -55,7 +55,7 @@ module _ (app : App) (w : World) (trace : List Entry) (s : WorldStands app w tra
         | inr past ↦
             let count = s.objects.count in
             let many = length-map w.objects.items (λ (l : Logged). l.history) in
-            let none : entries_on o trace ≡ [] = none_on o (object_count app) trace (omega arith) s.run.known in
+            let none : entries_on o trace ≡ [] = none_on o (object_count app) trace (omega arith) s.run.there in
             ap (λ (h : Listed Entry). h.items) (get_or_past (histories_of w) o empty (omega arith)) ∙ sym none
       ]
 
@@ -68,7 +68,7 @@ module _ (app : App) (w : World) (trace : List Entry) (s : WorldStands app w tra
               own = λ k d l. eqb-true _ _ (filter_passes (is_on o) trace k d l);
               ascending = ascending there.0 (entries_on o trace) (s.run.legal o there.0 there.1);
             }
-        | inr past ↦ subst (λ (h : List Entry). IsHistory o h) (sym (none_on o (object_count app) trace past s.run.known)) (history_none o)
+        | inr past ↦ subst (λ (h : List Entry). IsHistory o h) (sym (none_on o (object_count app) trace past s.run.there)) (history_none o)
       ]
 
   pub are_histories : AreHistories (histories_of w)

@@ -1,8 +1,9 @@
 -- How the trace of a run grows.
 use Rattle.std.proofs.Common.{◌≡◌, ℕ, ◌+◌, ◌*◌, ◌<◌, ◌≤◌, ◌++◌, ◌⊎◌, inl, inr, max, List, [], ◌∷◌, Bool, true, false, cond, ◌&&◌, length, get_or, nat_eq, refl, sym, ap, ◌∙◌, subst, arith, length-append}
 use borrow.Author.Tests.{eqb-true, eqb-false}
-use Rattle.std.specs.Prelude.{All, None, Some}
-use Rattle.std.proofs.lemmas.List.Elements.{All-filter, All-nil}
+use Rattle.std.specs.Prelude.{All, IsTrue, None, Some}
+use Rattle.std.proofs.lemmas.List.Elements.{All-filter, All-nil, filter_passes}
+use Rattle.anti_ids.specs.Each.{Each}
 use Rattle.anti_kind.specs.declared.limits.TheConstants.{MOST_UNITS}
 use Rattle.anti_kind.specs.declared.call.Actor.{Actor}
 use Rattle.anti_kind.specs.declared.call.Actor.TheVariants.{Carrier, Process, Newborn}
@@ -12,16 +13,18 @@ use Rattle.anti_kind.specs.Objects.{Start, IsLegal, Follows, ready, fits, last_s
 use Rattle.anti_kind.specs.Ports.{named}
 use Rattle.anti_kind.proofs.Histories.{legal_more, below_last, last_below, length_held, fits_number, by_entries}
 use Rattle.anti_app.specs.declared.app.App.{App}
+use Rattle.anti_app.specs.Sound.{is_sound}
 use Rattle.anti_object.specs.Starts.{start_of}
-use Rattle.anti_object.specs.Standing.{IsCallOfRun}
 use Rattle.anti_object.proofs.Starts.{start_there, start_known}
 use Rattle.anti_trace.specs.Traces.{entries_on, entries_by, put, is_on, is_by}
 use Rattle.anti_trace.proofs.Bounds.{length_bound}
 use Rattle.anti_trace.proofs.Puts.{put_next_is_trace, All-put, length-put, entries_on-put_same, entries_on-put_other, entries_by-put_same, entries_by-put_other}
 use Rattle.anti_play.specs.declared.asked.Asked.{Asked}
 use Rattle.anti_play.specs.Schedule.{clock_of, entry_of, made}
+use Rattle.anti_proc.specs.Known.{IsCallAt, IsEntryOf, IsReplyAt}
 use Rattle.anti_proc.specs.Numbers.{object_count}
 use Rattle.anti_play.specs.Runs.{IsRun, IsBorn}
+use Rattle.anti_play.proofs.Dues.{KnownAt, due_known, each_all}
 
 -- an entry that is made follows its object's history
 pub made_parts : (start : Start) (h trace : List Entry) (q : Asked) (e : Entry) → made start h trace q ≡ Some e
@@ -63,12 +66,20 @@ last_stamp_within h n within = let below : last_stamp h < n + 1 = last_below h (
 
 module _ (app : App) (trace : List Entry) (run : IsRun app trace) where
   pub run_short : length trace ≤ object_count app * (MOST_UNITS + 1)
-  run_short = length_bound (object_count app) (MOST_UNITS + 1) trace run.known (λ o lt.
+  run_short = length_bound (object_count app) (MOST_UNITS + 1) trace run.there (λ o lt.
       let there : (start : Start) × (start_of app o ≡ Some start) = start_there app o lt in
       legal_short there.0 (entries_on o trace) (run.legal o there.0 there.1))
 
   pub history_stamps : (o : ℕ) → last_stamp (entries_on o trace) ≤ length trace
   history_stamps o = last_stamp_within (entries_on o trace) (length trace) (All-filter (is_on o) (λ e. e.stamp ≤ length trace) trace run.stamps)
+
+  -- the entries on an object are known
+  pub history_known : (o : ℕ) → Each (KnownAt app o) (entries_on o trace)
+  history_known o = each_all (KnownAt app o) (entries_on o trace) (λ k d lt.
+      let it : Entry = get_or (entries_on o trace) k d in
+      let known : IsEntryOf app it = All-filter (is_on o) (IsEntryOf app) trace run.known k d lt in
+      let here : it.object ≡ o = eqb-true it.object o (filter_passes (is_on o) trace k d lt) in
+      subst (λ (n : ℕ). IsCallAt app n it.call × IsReplyAt app n it.reply) here (known.call, known.reply))
 
   pub actor_stamps : (a : Actor) → last_stamp (entries_by a trace) ≤ length trace
   actor_stamps a = last_stamp_within (entries_by a trace) (length trace) (All-filter (is_by a) (λ e. e.stamp ≤ length trace) trace run.stamps)
@@ -135,12 +146,18 @@ module _ (app : App) (trace : List Entry) (run : IsRun app trace) (q : Asked) (s
   unborn_then b lt =
       entries_by-put_other (Process b) it trace (λ same. born_place q.actor b born same lt) ∙ run.unborn b (let more = longer b.object in omega arith)
 
-  pub run_more : IsCallOfRun q.call → IsRun app (put it trace)
-  run_more of_run = record {
+  pub it_known : IsTrue (is_sound app) → IsCallAt app q.object q.call → IsEntryOf app it
+  it_known sound call = record {
+    call = call;
+    reply = due_known app q.object start (entries_on q.object trace) q.call sound there (run.legal q.object start there) (history_known app trace run q.object) call is_ready;
+  }
+
+  pub run_more : IsTrue (is_sound app) → IsCallAt app q.object q.call → IsRun app (put it trace)
+  run_more sound call = record {
     order = put_next_is_trace it trace run.order follows.stamp;
-    known = All-put (λ e. e.object < object_count app) it trace (start_known app q.object start there) run.known;
+    there = All-put (λ e. e.object < object_count app) it trace (start_known app q.object start there) run.there;
     legal = legal_then;
-    calls = All-put (λ e. IsCallOfRun e.call) it trace of_run run.calls;
+    known = All-put (IsEntryOf app) it trace (it_known sound call) run.known;
     stamps = subst (λ (n : ℕ). All (λ e. e.stamp ≤ n) (put it trace)) (sym (length-put it trace))
         (All-put (λ e. e.stamp ≤ length trace + 1) it trace run_stamp (λ k d lt. let le : (get_or trace k d).stamp ≤ length trace = run.stamps k d lt in omega arith));
     unborn = unborn_then;

@@ -1,3 +1,5 @@
+pub mod Dues
+pub mod Asking
 pub mod Growth
 pub mod Fulls
 pub mod Lives

@@ -23,7 +23,7 @@ use Rattle.anti_app.specs.declared.app.Choice.TheVariants as choices
 use Rattle.anti_app.specs.Sound.{is_sound, is_sound_choice}
 use Rattle.anti_app.proofs.SoundLemmas.{SoundApp, app_known, choice_known, SoundChoice}
 use Rattle.anti_object.specs.Starts.{start_of}
-use Rattle.anti_object.specs.Standing.{object_start, ObjectAt, ObjectStands, IsCallOfRun}
+use Rattle.anti_object.specs.Standing.{object_start, ObjectAt, ObjectStands}
 use Rattle.anti_object.proofs.Starts.{start_known, start_past}
 use Rattle.anti_object.proofs.Histories.{at_more, at_kept}
 use Rattle.anti_trace.specs.Traces.{entries_on, entries_by, put, same_actor}
@@ -32,9 +32,8 @@ use Rattle.anti_proc.specs.declared.want.End.{End}
 use Rattle.anti_proc.specs.declared.want.End.TheVariants.{StoreFull}
 use Rattle.anti_proc.specs.declared.want.Want.{Want}
 use Rattle.anti_proc.specs.declared.want.Want.TheVariants.{Make, Over}
-use Rattle.anti_proc.specs.Calls.{WantsOfStores, IsStoreCall}
+use Rattle.anti_proc.specs.Known.{IsCallAt, IsEntryOf, IsReplyAt}
 use Rattle.anti_proc.specs.Trees.{Tree, Asks, Ends, IsAskedAt, want_of, end_of, branch}
-use Rattle.anti_proc.proofs.StoreCalls.{next_of_stores}
 use Rattle.anti_proc.specs.Births.{birth_at}
 use Rattle.anti_proc.specs.Meaning.{tree_of, process_after}
 use Rattle.anti_proc.specs.Numbers.{inbox_number, object_count}
@@ -48,7 +47,9 @@ use Rattle.anti_play.specs.declared.world.World.{World}
 use Rattle.anti_play.specs.Schedule.{asked_by, carrying, next_call, clock_of, entry_of, made, made_at}
 use Rattle.anti_play.specs.Runs.{IsRun, IsBorn}
 use Rattle.anti_play.specs.Standing.{LoggedStands, MayFollow, HasRoom, IsObject, WasFull, IsEnded, IsFull, IsOutcome, IsStopped, Stops, AllStand, AllLive, AreBorn, born_at, Changes, Lives, LivesOn, is_named, WorldStands, Chose, Grows, MayGrow}
-use Rattle.anti_play.proofs.Growth.{made_parts, entry_follows, run_more, run_history, run_others, run_actor, run_other_actors, actor_before, decide, last_stamp_within, legal_short, history_stamps, clock_within, run_short}
+use Rattle.anti_proc.proofs.Knowing.{next_known}
+use Rattle.anti_play.proofs.Asking.{run_calls}
+use Rattle.anti_play.proofs.Growth.{made_parts, entry_follows, it_known, run_more, run_history, run_others, run_actor, run_other_actors, actor_before, decide, last_stamp_within, legal_short, history_stamps, clock_within, run_short}
 use Rattle.anti_play.proofs.Fulls.{none_fits, full_makes_none}
 use Rattle.anti_play.specs.Runs.{GoesOn}
 use Rattle.anti_play.proofs.Lives.{no_more, position_set, live_here, live_set, live_with, live_born, live_went, live_kept}
@@ -112,11 +113,13 @@ pub record Stepped (app : App) (trace : List Entry) (q : Asked) (e : Entry) : Ty
   pub call : e.call ≡ q.call
   pub place : e.place ≡ length (entries_on q.object trace) + 1
   pub known : q.object < object_count app
+  pub entry : IsEntryOf app e
 
-pub stepped : (app : App) (trace : List Entry) (q : Asked) (e : Entry) → IsRun app trace → IsBorn q.actor trace → IsCallOfRun q.call → Made app trace q e → Stepped app trace q e
-stepped app trace q e run born of_run m =
+pub stepped : (app : App) (trace : List Entry) (q : Asked) (e : Entry) → IsTrue (is_sound app) → IsRun app trace → IsBorn q.actor trace → IsCallAt app q.object q.call
+    → Made app trace q e → Stepped app trace q e
+stepped app trace q e sound run born call m =
     subst (λ (x : Entry). Stepped app trace q x) (sym m.is) (record {
-      run = run_more app trace run q m.start m.there m.is_ready m.is_fit born of_run;
+      run = run_more app trace run q m.start m.there m.is_ready m.is_fit born sound call;
       grows = record {
         here = run_history app trace run q m.start m.there m.is_ready m.is_fit born;
         others = run_others app trace run q m.start m.there m.is_ready m.is_fit born;
@@ -131,6 +134,7 @@ stepped app trace q e run born of_run m =
       call = refl;
       place = refl;
       known = start_known app q.object m.start m.there;
+      entry = it_known app trace run q m.start m.there m.is_ready m.is_fit born sound call;
     })
 
 -- ---- objects
@@ -262,13 +266,15 @@ outcome_none app given objects trace q all same past =
 pub outcome_is : (app : App) (trace : List Entry) (q : Asked) (found then : Outcome) → found ≡ then → IsOutcome app trace q found → IsOutcome app trace q then
 outcome_is app trace q found then is out = subst (IsOutcome app trace q) is out
 
-module _ (app : App) (w : World) (trace : List Entry) (stands : WorldStands app w trace) (q : Asked) (born : IsBorn q.actor trace) (of_run : IsCallOfRun q.call)
+module _ (app : App) (sound : IsTrue (is_sound app)) (w : World) (trace : List Entry) (stands : WorldStands app w trace) (q : Asked) (born : IsBorn q.actor trace)
+    (call : IsCallAt app q.object q.call)
     (e : Entry) (m : made_at app trace q ≡ Some e) where
   pub step : Stepped app trace q e
-  step = stepped app trace q e stands.run born of_run (made_of app trace q e m)
+  step = stepped app trace q e sound stands.run born call (made_of app trace q e m)
 
-  pub call_of : IsCallOfRun e.call
-  call_of = subst IsCallOfRun (sym step.call) of_run
+  -- its reply is known
+  pub reply_of : IsReplyAt app e.object e.reply
+  reply_of = step.entry.reply
 
   pub may_grow : MayGrow w.objects.items e
   may_grow = record {
@@ -324,14 +330,14 @@ chose_made app n trace o e is s = subst (λ (x : Option Entry). Chose app trace 
 pub chose_none : (app : App) (w : World) (trace : List Entry) (o : Option Entry) → o ≡ None → WorldStands app w trace → Chose app trace o (Ok false) w
 chose_none app w trace o is s = subst (λ (x : Option Entry). Chose app trace x (Ok false) w) (sym is) (refl, s)
 
-pub take_done : (app : App) (w n : World) (trace : List Entry) (object service nth : ℕ) (e : Entry) (p : Process)
+pub take_done : (app : App) (sound : IsTrue (is_sound app)) (w n : World) (trace : List Entry) (object service nth : ℕ) (e : Entry) (p : Process)
     → WorldStands app w trace → object ≡ inbox_number app service → made_at app trace (taking object nth) ≡ Some e
     → ((before after : List Entry) → AllStand app w.objects.items before → Grows app before after e → AllStand app n.objects.items after)
     → Changes w.processes.items n.processes.items e.object (born_at w.processes.items e.object ++ p ∷ []) → n.carrier ≡ w.carrier
     → process_of app p ≡ tree_of app e → standing.clock_of p ≡ e.stamp → birth_of p ≡ birth_at e → full_of p ≡ None → IsRunOf app p
     → Chose app trace (made_at app trace (taking (inbox_number app service) nth)) (Ok true) n
-take_done app w n trace object service nth e p s same m objects processes carrier tree clock birth full runs =
-    let st : Stepped app trace (taking object nth) e = step app w trace s (taking object nth) tt tt e m in
+take_done app sound w n trace object service nth e p s same m objects processes carrier tree clock birth full runs =
+    let st : Stepped app trace (taking object nth) e = step app sound w trace s (taking object nth) tt tt e m in
     let at : e.actor ≡ Acting (birth_at e) = st.actor in
     let unborn : entries_by (Acting (birth_at e)) trace ≡ [] = s.run.unborn (birth_at e)
     (let place : e.place ≡ length (entries_on object trace) + 1 = st.place in
@@ -344,22 +350,22 @@ take_done app w n trace object service nth e p s same m objects processes carrie
       objects = objects trace (put e trace) s.objects st.grows;
       lists = processes.count ∙ s.lists;
       born = born_more app w.processes.items trace (put e trace) e s.born st.grows n.processes.items p (is_birth_itself e at) birth processes;
-      processes = live_born app w.processes.items trace s.processes e (goes_on app w trace s (taking object nth) tt tt e m) st.own st.others (birth_at e) at p birth unborn tree clock full runs
-          n.processes.items processes;
+      processes = live_born app w.processes.items trace s.processes e (goes_on app sound w trace s (taking object nth) tt tt e m) st.own st.others (birth_at e) at p birth unborn tree clock full runs
+          (run_calls app sound (put e trace) st.run (birth_at e)) n.processes.items processes;
       carrier = carrier ∙ s.carrier ∙ sym (ap (λ (x : List Entry). last_stamp x) (st.others (Carrier 0) none));
     })
 
-pub carry_done : (app : App) (w n : World) (trace : List Entry) (store : ℕ) (call : Call) (e : Entry)
-    → WorldStands app w trace → IsCallOfRun call → made_at app trace (carrying store call) ≡ Some e
+pub carry_done : (app : App) (sound : IsTrue (is_sound app)) (w n : World) (trace : List Entry) (object : ℕ) (call : Call) (e : Entry)
+    → WorldStands app w trace → IsCallAt app object call → made_at app trace (carrying object call) ≡ Some e
     → ((before after : List Entry) → AllStand app w.objects.items before → Grows app before after e → AllStand app n.objects.items after)
     → SameBorn w.processes.items n.processes.items → n.carrier ≡ e.stamp
-    → Chose app trace (made_at app trace (carrying store call)) (Ok true) n
-carry_done app w n trace store call e s of_run m objects processes carrier =
-    let st : Stepped app trace (carrying store call) e = step app w trace s (carrying store call) tt of_run e m in
+    → Chose app trace (made_at app trace (carrying object call)) (Ok true) n
+carry_done app sound w n trace object call e s known m objects processes carrier =
+    let st : Stepped app trace (carrying object call) e = step app sound w trace s (carrying object call) tt known e m in
     let at : e.actor ≡ Carrier 0 = st.actor in
     let own : entries_by (Carrier 0) (put e trace) ≡ entries_by (Carrier 0) trace ++ e ∷ [] = subst (λ (a : Actor). entries_by a (put e trace) ≡ entries_by a trace ++ e ∷ []) at st.own in
     let before : All (λ d. d.stamp < e.stamp) (entries_by (Carrier 0) trace) = subst (λ (a : Actor). All (λ d. d.stamp < e.stamp) (entries_by a trace)) at st.before in
-    chose_made app n trace (made_at app trace (carrying store call)) e m
+    chose_made app n trace (made_at app trace (carrying object call)) e m
     (record {
       run = st.run;
       objects = objects trace (put e trace) s.objects st.grows;
@@ -368,20 +374,12 @@ carry_done app w n trace store call e s of_run m objects processes carrier =
           (no_birth e (λ is. let both : Acting (birth_at e) ≡ Carrier 0 = sym is ∙ at in absurd (cc)))
           (λ o. ap (λ (xs : List Process). map birth_of xs) (processes.same o));
       processes = kept_live app w.processes.items n.processes.items (put e trace) processes
-          (live_kept app w.processes.items trace s.processes e (goes_on app w trace s (carrying store call) tt of_run e m) st.own st.others
+          (live_kept app w.processes.items trace s.processes e (goes_on app sound w trace s (carrying object call) tt known e m) st.own st.others
           (λ b c. (let both : Acting b ≡ Carrier 0 = sym c ∙ at in absurd (cc))));
       carrier = carrier ∙ sym (last_is (entries_by (Carrier 0) trace) e before) ∙ sym (ap (λ (x : List Entry). last_stamp x) own);
     })
 
 -- ---- a process
-
-pub store_call : (c : Call) → IsStoreCall c → IsCallOfRun c
-store_call (calls.Write key value lineage) is = tt
-store_call (calls.Read region key) is = tt
-store_call (calls.Scan region prefix) is = tt
-store_call (calls.Poll region key) is = tt
-store_call (calls.Look region ids dry) is = tt
-store_call _ is = elim is [ ]
 
 asked_at : (object span : ℕ) (call : Call) (tree : Tree) → want_of tree ≡ Make object span call → IsAskedAt object tree
 asked_at object span call (Asks ask go) is = cc
@@ -390,6 +388,13 @@ asked_at object span call (Ends end) is = absurd (cc)
 -- a copy of what was found twice
 pub copy_is : (xs : List Process) (i : ℕ) (p q r : Process) → slice_get xs i ≡ Some p → slice_get xs i ≡ Some q → r ≡ q → r ≡ p
 copy_is xs i p q r one two same = let both : Some q ≡ Some p = sym two ∙ one in cc
+
+-- a process that was found lives on
+pub lives_found : (app : App) (w : World) (trace : List Entry) (b : Birth) (i : ℕ) (p : Process) → WorldStands app w trace → position (is_named b) (born_at w.processes.items b.object) ≡ Some i
+    → slice_get (born_at w.processes.items b.object) i ≡ Some p → LivesOn app trace p (entries_by (Acting b) trace)
+lives_found app w trace b i p s found is =
+    subst (λ (x : Process). LivesOn app trace x (entries_by (Acting b) trace)) (get_or_from_slice_get (born_at w.processes.items b.object) i p p is)
+    ((subst (λ (o : Option ℕ). Lives app trace (born_at w.processes.items b.object) o (entries_by (Acting b) trace)) found (s.processes b)) p)
 
 -- what is known of the process that goes on: it is the one that was found, and this is its next call
 pub record Goes (app : App) (w : World) (b : Birth) (i : ℕ) (p : Process) (want : Want) (clock : ℕ) : Type 0 where
@@ -429,8 +434,7 @@ module _ (app : App) (w : World) (trace : List Entry) (b : Birth) (i : ℕ) (p :
   at_p d = get_or_from_slice_get ps i p d g.is
 
   on_p : LivesOn app trace p (entries_by (Acting b) trace)
-  on_p = subst (λ (x : Process). LivesOn app trace x (entries_by (Acting b) trace)) (at_p p)
-      ((subst (λ (o : Option ℕ). Lives app trace ps o (entries_by (Acting b) trace)) g.found (s.processes b)) p)
+  on_p = lives_found app w trace b i p s g.found g.is
 
   pub goes_run : IsRunOf app p
   goes_run = on_p.run
@@ -459,8 +463,8 @@ module _ (app : App) (w : World) (trace : List Entry) (b : Birth) (i : ℕ) (p :
     left_is : left ≡ Make object span call
     left_is = sym (ap want_of on_p.tree) ∙ sym (g.going not_full) ∙ wants
 
-    pub goes_call : IsCallOfRun call
-    goes_call = store_call call (subst (WantsOfStores app) left_is (next_of_stores app (entries_by (Acting b) trace) left refl)).call
+    pub goes_call : IsCallAt app object call
+    goes_call = (next_known app (process_after app (entries_by (Acting b) trace)) object span call on_p.known left_is).1
 
     asks_next : option_and_then (made_at app trace) (next_call app trace b) ≡ made_at app trace (going b object span call)
     asks_next = ap (λ (x : Want). option_and_then (made_at app trace) (asked_by b x)) left_is
@@ -472,16 +476,16 @@ module _ (app : App) (w : World) (trace : List Entry) (b : Birth) (i : ℕ) (p :
         (subst (λ (o : ℕ). length (entries_on o trace) < e.place) (sym at) (omega arith))))
 
     -- it made the call
-    pub go_done : (n : World) (e : Entry) (q : Process) (then : Process) → q ≡ p → made_at app trace (going b object span call) ≡ Some e
+    pub go_done : IsTrue (is_sound app) → (n : World) (e : Entry) (q : Process) (then : Process) → q ≡ p → made_at app trace (going b object span call) ≡ Some e
         → ((before after : List Entry) → AllStand app w.objects.items before → Grows app before after e → AllStand app n.objects.items after)
         → Changes w.processes.items n.processes.items b.object (slice_set ps i then) → n.carrier ≡ w.carrier
         → process_of app then ≡ branch (process_of app q) e.reply → standing.clock_of then ≡ e.stamp → birth_of then ≡ birth_of q → full_of then ≡ full_of q → IsRunOf app then
         → Chose app trace (option_and_then (made_at app trace) (next_call app trace b)) (Ok true) n
-    go_done n e q then same m objects processes carrier goes at named left_full runs =
+    go_done sound n e q then same m objects processes carrier goes at named left_full runs =
         let tree : process_of app then ≡ branch (process_of app p) e.reply = goes ∙ ap (λ (x : Process). branch (process_of app x) e.reply) same in
         let birth : birth_of then ≡ birth_of p = named ∙ ap (λ (x : Process). birth_of x) same in
         let full : full_of then ≡ full_of p = left_full ∙ ap (λ (x : Process). full_of x) same in
-        let st : Stepped app trace (going b object span call) e = step app w trace s (going b object span call) goes_born goes_call e m in
+        let st : Stepped app trace (going b object span call) e = step app sound w trace s (going b object span call) goes_born goes_call e m in
         let actor : e.actor ≡ Acting b = st.actor in
         let before : All (λ d. d.stamp < e.stamp) (entries_by (Acting b) trace) = subst (λ (a : Actor). All (λ d. d.stamp < e.stamp) (entries_by a trace)) actor st.before in
         let none : e.actor ≡ Carrier 0 → ⊥ = λ c. (let both : Acting b ≡ Carrier 0 = sym actor ∙ c in absurd (cc)) in
@@ -493,9 +497,10 @@ module _ (app : App) (w : World) (trace : List Entry) (b : Birth) (i : ℕ) (p :
           born = born_kept app w.processes.items trace (put e trace) e s.born st.grows n.processes.items
               (no_birth e (λ is. was_born e st.place st.object (let both : Acting b ≡ Acting (birth_at e) = sym actor ∙ is in cc)))
               (births_set w.processes.items n.processes.items b i then processes (λ d. birth ∙ ap (λ (x : Process). birth_of x) (sym (at_p d))));
-          processes = live_went app w.processes.items trace s.processes e (goes_on app w trace s (going b object span call) goes_born goes_call e m) st.own st.others b actor then i g.found
+          processes = live_went app w.processes.items trace s.processes e (goes_on app sound w trace s (going b object span call) goes_born goes_call e m) st.own st.others b actor then i g.found
               (λ d. birth ∙ ap (λ (x : Process). birth_of x) (sym (at_p d)))
               (λ d. tree ∙ ap (λ (x : Process). branch (process_of app x) e.reply) (sym (at_p d))) at (full ∙ not_full) before runs
+              (run_calls app sound (put e trace) st.run b)
               n.processes.items processes;
           carrier = carrier ∙ s.carrier ∙ sym (ap (λ (x : List Entry). last_stamp x) (st.others (Carrier 0) none));
         })
@@ -539,6 +544,7 @@ module _ (app : App) (w : World) (trace : List Entry) (b : Birth) (i : ℕ) (p :
                 entries_are = on_p.entries_are;
                 run = runs (subst (IsRunOf app) (sym same) on_p.run);
                 tree = tree ∙ on_p.tree;
+                known = on_p.known;
                 clock = at ∙ on_p.clock;
                 full = subst (λ (o : Option ℕ). IfSome o (IsEnded app trace left)) (sym ended)
                     (subst (λ (x : Want). IsEnded app trace x object) (sym left_is) (refl, was_full full.1));
@@ -604,17 +610,19 @@ module _ (app : App) (w : World) (trace : List Entry) (b : Birth) (s : WorldStan
   pub stops_none : Stops app trace b w.processes.items
   stops_none q next full = absurd (let both : None ≡ Some q = sym next_none ∙ next in cc)
 
--- a take names a service that is there
--- reposts and pulls are not built yet
-pub none_such : (app : App) (choice built : Choice) → choice ≡ built
+-- what a sound choice is known to be; pulls are not built yet
+pub choice_is : (app : App) (choice built : Choice) → choice ≡ built
     → IsTrue (is_sound_choice (length app.regions.items) (length app.stores.items) (length app.services.items) choice)
     → SoundChoice (length app.regions.items) (length app.stores.items) (length app.services.items) built
-none_such app choice built is sound =
+choice_is app choice built is sound =
     subst (SoundChoice (length app.regions.items) (length app.stores.items) (length app.services.items)) is
     (choice_known (length app.regions.items) (length app.stores.items) (length app.services.items) choice sound)
 
+-- a take and a repost name a service that is there
 pub take_named : (app : App) (choice : Choice) (service nth : ℕ) → choice ≡ choices.Take service nth
     → IsTrue (is_sound_choice (length app.regions.items) (length app.stores.items) (length app.services.items) choice) → service < length app.services.items
-take_named app choice service nth is sound =
-    (subst (SoundChoice (length app.regions.items) (length app.stores.items) (length app.services.items)) is
-    (choice_known (length app.regions.items) (length app.stores.items) (length app.services.items) choice sound)).0
+take_named app choice service nth is sound = (choice_is app choice (choices.Take service nth) is sound).0
+
+pub repost_named : (app : App) (choice : Choice) (service number : ℕ) → choice ≡ choices.Repost service number
+    → IsTrue (is_sound_choice (length app.regions.items) (length app.stores.items) (length app.services.items) choice) → service < length app.services.items
+repost_named app choice service number is sound = (choice_is app choice (choices.Repost service number) is sound).0

@@ -15,24 +15,24 @@ use Rattle.anti_app.specs.declared.app.Choice.{Choice}
 use Rattle.anti_app.specs.declared.app.Choice.TheVariants.{Take, Repost, Pull, Repull, Ship, Again, Go, Finish}
 use Rattle.anti_app.specs.Sound.{is_sound}
 use Rattle.anti_object.specs.Starts.{start_of}
-use Rattle.anti_object.specs.Standing.{IsCallOfRun}
 use Rattle.anti_object.proofs.Starts.{start_there, start_sound}
 use Rattle.anti_trace.specs.Traces.{entries_on, entries_by, put}
 use Rattle.anti_trace.proofs.Bounds.{length_bound}
 use Rattle.anti_trace.proofs.Puts.{length-put}
 use Rattle.anti_proc.specs.declared.want.Want.{Want}
 use Rattle.anti_proc.specs.declared.want.Want.TheVariants.{Make, Over}
-use Rattle.anti_proc.specs.Calls.{WantsOfStores}
-use Rattle.anti_proc.specs.Trees.{want_of}
+use Rattle.anti_proc.specs.Known.{IsCallAt}
+use Rattle.anti_proc.specs.Trees.{Tree, want_of}
 use Rattle.anti_proc.specs.Meaning.{process_after}
 use Rattle.anti_proc.specs.Numbers.{inbox_number, object_count}
-use Rattle.anti_proc.proofs.StoreCalls.{next_of_stores}
 use Rattle.anti_play.specs.declared.asked.Asked.{Asked}
-use Rattle.anti_play.specs.Schedule.{asked_by, carrying, next_call, made_at, chosen, offers, first_made, after_turns, finished, IsComplete}
+use Rattle.anti_play.specs.Schedule.{asked_by, carrying, made_at, chosen, offers, first_made, after_turns, finished, IsComplete}
 use Rattle.anti_play.specs.Runs.{IsRun, IsBorn, GoesOn}
 use Rattle.anti_play.specs.Standing.{Grows}
+use Rattle.anti_proc.proofs.Knowing.{next_known}
+use Rattle.anti_play.proofs.Asking.{run_calls}
 use Rattle.anti_play.proofs.Growth.{decide}
-use Rattle.anti_play.proofs.Steps.{Stepped, made_of, stepped, taking, going, store_call}
+use Rattle.anti_play.proofs.Steps.{Stepped, made_of, stepped, taking, going}
 use Rattle.anti_play.proofs.Firsts.{first_found, none_found}
 
 -- ---- the run goes on behind an entry that a choice makes
@@ -42,35 +42,37 @@ pub record Further (app : App) (trace : List Entry) (e : Entry) : Type 0 where
   pub grows : Grows app trace (put e trace) e
   pub known : e.object < object_count app
 
-asked_further : (app : App) (trace : List Entry) (q : Asked) (e : Entry) → IsRun app trace → IsBorn q.actor trace → IsCallOfRun q.call → made_at app trace q ≡ Some e → Further app trace e
-asked_further app trace q e run born of_run m =
-    let st : Stepped app trace q e = stepped app trace q e run born of_run (made_of app trace q e m) in
-    let at : e.object ≡ q.object = st.object in
-    let known : q.object < object_count app = st.known in
-    record { run = st.run; grows = st.grows; known = omega arith }
+module _ (app : App) (sound : IsTrue (is_sound app)) (trace : List Entry) (run : IsRun app trace) where
+  asked_further : (q : Asked) (e : Entry) → IsBorn q.actor trace → IsCallAt app q.object q.call → made_at app trace q ≡ Some e → Further app trace e
+  asked_further q e born call m =
+      let st : Stepped app trace q e = stepped app trace q e sound run born call (made_of app trace q e m) in
+      let at : e.object ≡ q.object = st.object in
+      let known : q.object < object_count app = st.known in
+      record { run = st.run; grows = st.grows; known = omega arith }
 
-go_further : (app : App) (trace : List Entry) (b : Birth) (e : Entry) → IsRun app trace → option_and_then (made_at app trace) (next_call app trace b) ≡ Some e → Further app trace e
-go_further app trace b e run m = by_want (want_of (process_after app (entries_by (Acting b) trace))) refl m
-  where
-    born : (object span : ℕ) (call : Call) → want_of (process_after app (entries_by (Acting b) trace)) ≡ Make object span call → entries_by (Acting b) trace ≡ [] → ⊥
+  module _ (b : Birth) where
+    abbrev left : Tree
+    left = process_after app (entries_by (Acting b) trace)
+
+    born : (object span : ℕ) (call : Call) → want_of left ≡ Make object span call → entries_by (Acting b) trace ≡ [] → ⊥
     born object span call at none =
-        let over : want_of (process_after app (entries_by (Acting b) trace)) ≡ want_of (process_after app []) = ap (λ (es : List Entry). want_of (process_after app es)) none in cc
+        let over : want_of left ≡ want_of (process_after app []) = ap (λ (es : List Entry). want_of (process_after app es)) none in cc
 
-    by_want : (want : Want) → want_of (process_after app (entries_by (Acting b) trace)) ≡ want → option_and_then (made_at app trace) (asked_by b want) ≡ Some e → Further app trace e
-    by_want (Make object span call) at m =
-        asked_further app trace (going b object span call) e run (born object span call at)
-        (store_call call (subst (WantsOfStores app) at (next_of_stores app (entries_by (Acting b) trace) (want_of (process_after app (entries_by (Acting b) trace))) refl)).call) m
-    by_want (Over end) at m = absurd (cc)
+    go_further : (e : Entry) (want : Want) → want_of left ≡ want → option_and_then (made_at app trace) (asked_by b want) ≡ Some e → Further app trace e
+    go_further e (Make object span call) at m =
+        asked_further (going b object span call) e (born object span call at) (next_known app left object span call (run_calls app sound trace run b) at).1 m
+    go_further e (Over end) at m = absurd (cc)
 
-pub chosen_further : (app : App) (trace : List Entry) (c : Choice) (e : Entry) → IsRun app trace → chosen app trace c ≡ Some e → Further app trace e
-chosen_further app trace (Take service nth) e run m = asked_further app trace (taking (inbox_number app service) nth) e run tt tt m
-chosen_further app trace (Ship store region version part) e run m = asked_further app trace (carrying store (calls.Ship region version (unwrap_or part 1))) e run tt tt m
-chosen_further app trace (Again store region version part) e run m = asked_further app trace (carrying store (calls.Again region version (unwrap_or part 1))) e run tt tt m
-chosen_further app trace (Go object place) e run m = go_further app trace (record { object = object; place = place }) e run m
-chosen_further app trace Finish e run m = absurd (cc)
-chosen_further app trace (Repost service number) e run m = absurd (cc)
-chosen_further app trace (Pull sub) e run m = absurd (cc)
-chosen_further app trace (Repull sub version) e run m = absurd (cc)
+  pub chosen_further : (c : Choice) (e : Entry) → chosen app trace c ≡ Some e → Further app trace e
+  chosen_further (Take service nth) e m = asked_further (taking (inbox_number app service) nth) e tt tt m
+  chosen_further (Repost service number) e m = asked_further (carrying (inbox_number app service) (calls.Repost number)) e tt tt m
+  chosen_further (Ship store region version part) e m = asked_further (carrying store (calls.Ship region version (unwrap_or part 1))) e tt tt m
+  chosen_further (Again store region version part) e m = asked_further (carrying store (calls.Again region version (unwrap_or part 1))) e tt tt m
+  chosen_further (Go object place) e m =
+      let b : Birth = record { object = object; place = place } in go_further b e (want_of (process_after app (entries_by (Acting b) trace))) refl m
+  chosen_further Finish e m = absurd (cc)
+  chosen_further (Pull sub) e m = absurd (cc)
+  chosen_further (Repull sub version) e m = absurd (cc)
 
 pub grows_on : (app : App) (before after : List Entry) (e : Entry) → Grows app before after e → GoesOn before after
 grows_on app before after e grows o =
@@ -97,14 +99,14 @@ after_some n app trace e is = ap (λ (o : Option Entry). option_map_or (λ e. af
 module _ (app : App) (sound : IsTrue (is_sound app)) where
   -- no run has more entries than all objects have units
   pub run_within : (trace : List Entry) → IsRun app trace → length trace ≤ object_count app * MOST_UNITS
-  run_within trace run = length_bound (object_count app) MOST_UNITS trace run.known (λ o lt.
+  run_within trace run = length_bound (object_count app) MOST_UNITS trace run.there (λ o lt.
       let there : (start : Start) × (start_of app o ≡ Some start) = start_there app o lt in
       length_within there.0 (entries_on o trace) (start_sound app o there.0 sound there.1) (run.legal o there.0 there.1))
 
   pub made_further : (trace : List Entry) (e : Entry) → IsRun app trace → first_made app trace ≡ Some e → Further app trace e
   made_further trace e run is =
       let found : (c : Choice) × (chosen app trace c ≡ Some e) = first_found (chosen app trace) (offers app trace) e is in
-      chosen_further app trace found.0 e run found.1
+      chosen_further app sound trace run found.0 e found.1
 
   -- with as many entries as there are units nothing is left to make
   no_further : (trace : List Entry) (e : Entry) → IsRun app trace → object_count app * MOST_UNITS ≤ length trace → first_made app trace ≡ Some e → ⊥

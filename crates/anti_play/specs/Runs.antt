@@ -9,19 +9,19 @@ use Rattle.anti_app.specs.declared.app.App.{App}
 use Rattle.anti_trace.specs.Traces.{IsTrace, entries_on, entries_by}
 use Rattle.anti_proc.specs.Numbers.{object_count}
 use Rattle.anti_object.specs.Starts.{start_of}
-use Rattle.anti_object.specs.Standing.{IsCallOfRun}
+use Rattle.anti_proc.specs.Known.{IsEntryOf}
 
 -- a trace or a history, by its entries
 abbrev pub Entries : Type 0
 Entries = List Entry
 
--- The entries stand in their order, on objects that are there, whose histories are legal. Each is of a call that schedules and
--- handlers make. No stamp is above the number of the entries. A process that is not born has no entry.
+-- The entries stand in their order, on objects that are there, whose histories are legal. Each is one of the application: none is
+-- foreign. No stamp is above the number of the entries. A process that is not born has no entry.
 pub record IsRun (app : App) (trace : List Entry) : Type 0 where
   pub order : IsTrace trace
-  pub known : All (λ e. e.object < object_count app) trace
+  pub there : All (λ e. e.object < object_count app) trace
   pub legal : (o : ℕ) (start : Start) → start_of app o ≡ Some start → IsLegal start (entries_on o trace)
-  pub calls : All (λ e. IsCallOfRun e.call) trace
+  pub known : All (IsEntryOf app) trace
   pub stamps : All (λ e. e.stamp ≤ length trace) trace
   pub unborn : (b : Birth) → length (entries_on b.object trace) < b.place → entries_by (Process b) trace ≡ []
 

@@ -38,20 +38,20 @@ asked_by birth (Over end) = None
 abbrev pub next_call : App → List Entry → Birth → Option Asked
 next_call app trace birth = asked_by birth (want_of (process_after app (entries_by (Process birth) trace)))
 
--- A carrier asks at a store, in no span.
+-- A carrier asks at an object, in no span.
 abbrev pub carrying : ℕ → Call → Asked
-carrying store_number call = record { object = store_number; actor = Carrier 0; span = 0; call = call }
+carrying object call = record { object = object; actor = Carrier 0; span = 0; call = call }
 
 -- A part that is not given is the first.
 abbrev pub asked : App → List Entry → Choice → Option Asked
 asked app trace (Take service nth) =
     Some (record { object = inbox_number app service; actor = Newborn; span = 1; call = calls.Take nth })
+asked app trace (Repost service number) = Some (carrying (inbox_number app service) (calls.Repost number))
 asked app trace (Ship store_number region version part) = Some (carrying store_number (calls.Ship region version (unwrap_or part 1)))
 asked app trace (Again store_number region version part) = Some (carrying store_number (calls.Again region version (unwrap_or part 1)))
 asked app trace (Go object place) = next_call app trace (record { object = object; place = place })
 asked app trace Finish = None
 -- these are not built yet, and no application has one
-asked app trace (Repost service number) = None
 asked app trace (Pull sub) = None
 asked app trace (Repull sub version) = None
 

@@ -14,7 +14,7 @@ use crate::route::{Route, Routes, notes, routes};
 use crate::world::World;
 use anti_app::App;
 use anti_ids::NoMemory;
-use anti_kind::{Birth, Call};
+use anti_kind::{Birth, Call, Machine};
 
 impl World {
     /// Makes all that can still be made: the next call of each process, ascending by object and place of its birth, the first free

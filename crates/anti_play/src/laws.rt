@@ -1,7 +1,8 @@
-// Laws of what `finish` makes of a run. The function does nothing: what it says is in its contract.
-ghost use Rattle.std.specs.Prelude.{IsTrue};
+// Laws of runs. The functions do nothing: what they say is in their contracts.
+ghost use Rattle.std.specs.Prelude.{◌≡◌, false, All, IsTrue};
 ghost use Rattle.anti_app.specs.declared.app.App.{App};
 ghost use Rattle.anti_app.specs.Sound.{is_sound};
+ghost use Rattle.anti_proc.specs.Foreign.{is_foreign, is_foreign_birth};
 ghost use Rattle.anti_play.specs.Schedule.{IsComplete, finished};
 ghost use Rattle.anti_play.specs.Runs.{Entries, GoesOn, IsRun};
 
@@ -11,4 +12,11 @@ pub fn finish_completes()
     ensures run { (app : App) (trace : Entries) → IsTrue (is_sound app) → IsRun app trace → IsRun app (finished app trace) }
     ensures goes_on { (app : App) (trace : Entries) → IsTrue (is_sound app) → IsRun app trace → GoesOn trace (finished app trace) }
     ensures complete { (app : App) (trace : Entries) → IsTrue (is_sound app) → IsRun app trace → IsComplete app (finished app trace) }
+{}
+
+/// In a run no reply is foreign to the application, and no entry has a message that starts nothing. So a process of a world is never
+/// refused a message or a reply.
+pub fn nothing_is_foreign()
+    ensures replies { (app : App) (trace : Entries) → IsRun app trace → All (λ e. is_foreign app e.reply ≡ false) trace }
+    ensures births { (app : App) (trace : Entries) → IsRun app trace → All (λ e. is_foreign_birth app e.object e.reply ≡ false) trace }
 {}

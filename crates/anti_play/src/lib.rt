@@ -3,6 +3,7 @@
 
 mod asked;
 mod building;
+mod feeding;
 mod finish;
 mod laws;
 mod logged;
@@ -12,6 +13,6 @@ mod route;
 mod tracing;
 mod world;
 
-pub use laws::finish_completes;
+pub use laws::{finish_completes, nothing_is_foreign};
 pub use player::{Played, Waits, play};
 pub use world::World;

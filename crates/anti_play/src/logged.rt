@@ -2,12 +2,12 @@ ghost use Rattle.std.specs.Prelude.{◌≡◌, ◌++◌, ◌∷◌, [], ◌+◌,
 ghost use Rattle.anti_kind.specs.Objects.{Follows, last_stamp};
 ghost use Rattle.anti_play.specs.Runs.{Entries};
 ghost use Rattle.anti_play.specs.Schedule.{entry_with};
-ghost use Rattle.anti_object.specs.Standing.{object_start, IsCallOfRun};
+ghost use Rattle.anti_object.specs.Standing.{object_start};
 ghost use Rattle.anti_play.specs.Standing.{HasRoom, LoggedStands, MayFollow};
 
 use crate::asked::Asked;
 use anti_ids::{List, NoMemory};
-use anti_kind::{Birth, Entry, History, Reply};
+use anti_kind::{Birth, Entry, History, Machine, Reply};
 use anti_object::Object;
 use std::alloc::Global;
 
@@ -66,8 +66,7 @@ impl Logged {
 
     /// Adds the entry that comes next. Where there is no memory the object and its history stand for what they stood for.
     pub fn add(&mut self, entry: Entry) -> Result<(), NoMemory>
-        requires call { IsCallOfRun entry.call }
-        requires follows { MayFollow self.old entry }
+        requires { MayFollow self.old entry }
         ensures stands { (h : Entries) → LoggedStands self.old h → Follows (object_start self.old.object) h entry
             → OnOk result (LoggedStands self.new (h ++ entry ∷ [])) }
         ensures err { (h : Entries) → LoggedStands self.old h → OnErr result (LoggedStands self.new h) }

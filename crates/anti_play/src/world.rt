@@ -1,17 +1,19 @@
 ghost use Rattle.std.specs.Prelude.{◌≡◌, ◌+◌, ◌<◌, ◌^◌, ◌++◌, true, length, vec_len, slice_get, slice_set, slice_index_or, position, [], ◌∷◌, Option, Some, IfOk, OnOk, OnErr, IsTrue};
 ghost use Rattle.anti_app.specs.declared.app.App.{App};
 ghost use Rattle.anti_app.specs.Sound.{is_sound, is_sound_choice};
-ghost use Rattle.anti_object.specs.Standing.{IsCallOfRun};
+ghost use Rattle.anti_proc.specs.Known.{IsCallAt};
+ghost use Rattle.anti_proc.specs.Numbers.{inbox_number};
 ghost use Rattle.anti_play.specs.Schedule.{asked, carrying, chosen, clock_of, made_at};
 ghost use Rattle.anti_play.specs.Runs.{Entries};
 ghost use Rattle.anti_play.specs.Standing.{AllStand, Changes, Chose, Grows, HasClock, HasSpare, IsOutcome, IsWorldOf, MayGrow, Stops, StopsBy, WorldStands, born_at, is_named};
 
 use crate::asked::Asked;
+use crate::feeding::{born, feed};
 use crate::logged::Logged;
 use crate::outcome::Outcome;
 use anti_app::{App, Choice};
 use anti_ids::{Copies, List, NoMemory};
-use anti_kind::{Actor, Birth, Call, Entry};
+use anti_kind::{Actor, Birth, Call, Entry, Machine};
 use anti_proc::{Process, Want};
 use std::alloc::Global;
 
@@ -29,6 +31,15 @@ pub struct World {
     pub(crate) alloc: Global,
 }
 
+// The number of the inbox of a service.
+fn inbox_number(app: &App, service: u32) -> u32
+    requires sound { IsTrue (is_sound app.now) }
+    requires named { service < length app.now.services.items }
+    ensures { result ≡ inbox_number app.now service }
+{
+    app.stores.len() as u32 + service
+}
+
 // Where the process stands that was born by an entry.
 fn position(processes: &[Process], birth: Birth) -> Option<usize>
     ensures { result ≡ position (is_named birth) processes.now }
@@ -40,8 +51,7 @@ fn position(processes: &[Process], birth: Birth) -> Option<usize>
 
 // Adds an entry to the history of its object.
 fn add(objects: &mut Vec<Logged>, entry: Entry) -> Result<(), NoMemory>
-    requires call { IsCallOfRun entry.call }
-    requires grows { MayGrow objects.old.items entry }
+    requires { MayGrow objects.old.items entry }
     ensures stand { (app : App) (before after : Entries) → AllStand app objects.old.items before → Grows app before after entry
         → OnOk result (AllStand app objects.new.items after) }
     ensures err { (app : App) (before : Entries) → AllStand app objects.old.items before → OnErr result (AllStand app objects.new.items before) }
@@ -80,7 +90,6 @@ fn set_process(processes: &mut Vec<Processes>, object: u32, at: usize, process: 
 impl World {
     // What comes of a call that is asked for.
     fn outcome(&self, app: &App, asked: Asked, clock: u64) -> Result<Outcome, NoMemory>
-        requires call { IsCallOfRun asked.call }
         requires sound { IsTrue (is_sound app.now) }
         requires clock { HasClock app.now self.now asked.actor clock }
         ensures { (trace : Entries) → WorldStands app.now self.now trace → clock ≡ clock_of asked.actor trace → IfOk result (IsOutcome app.now trace asked) }
@@ -95,7 +104,7 @@ impl World {
         if !logged.object.fits(&asked.call) {
             return Ok(Outcome::Full);
         }
-        let reply = logged.object.due(self.alloc, &asked.call)?;
+        let reply = logged.object.due(&asked.call)?;
         Ok(Outcome::Makes(logged.next_entry(asked, clock, reply)))
     }
 
@@ -107,7 +116,7 @@ impl World {
         ensures { (trace : Entries) → WorldStands app.now self.old trace → Chose app.now trace (chosen app.now trace (Choice.Take service nth)) result self.new }
     {
         let asked = Asked {
-            object: app.stores.len() as u32 + service,
+            object: inbox_number(app, service),
             actor: Actor::Newborn,
             span: 1,
             call: Call::Take { nth },
@@ -115,7 +124,7 @@ impl World {
         let Outcome::Makes(entry) = self.outcome(app, asked, 0)? else {
             return Ok(false);
         };
-        let process = Process::born(self.alloc, app, &entry)?;
+        let process = born(self.alloc, app, &entry)?;
         let object = entry.object;
         make_room(&mut self.processes, object)?;
         add(&mut self.objects, entry)?;
@@ -123,15 +132,15 @@ impl World {
         Ok(true)
     }
 
-    // Makes a call of the carrier at a store.
-    pub(crate) fn carry(&mut self, app: &App, store: u32, call: Call) -> Result<bool, NoMemory>
-        requires call { IsCallOfRun call }
+    // Makes a call of the carrier at an object.
+    pub(crate) fn carry(&mut self, app: &App, object: u32, call: Call) -> Result<bool, NoMemory>
+        requires known { IsCallAt app.now object call }
         requires sound { IsTrue (is_sound app.now) }
         requires world { IsWorldOf app.now self.old }
-        ensures { (trace : Entries) → WorldStands app.now self.old trace → Chose app.now trace (made_at app.now trace (carrying store call)) result self.new }
+        ensures { (trace : Entries) → WorldStands app.now self.old trace → Chose app.now trace (made_at app.now trace (carrying object call)) result self.new }
     {
         let asked = Asked {
-            object: store,
+            object,
             actor: Actor::Carrier(0),
             span: 0,
             call,
@@ -189,7 +198,7 @@ impl World {
         match self.outcome(app, asked, clock)? {
             Outcome::Makes(entry) => {
                 let mut process = self.process(birth.object, at).copy(self.alloc)?;
-                process.feed(app, entry.stamp, &entry.reply)?;
+                feed(app, &mut process, &entry)?;
                 add(&mut self.objects, entry)?;
                 set_process(&mut self.processes, birth.object, at, process);
                 Ok(true)
@@ -232,6 +241,9 @@ impl World {
     {
         match *choice {
             Choice::Take { service, nth } => self.take(app, service, nth),
+            Choice::Repost { service, number } => {
+                self.carry(app, inbox_number(app, service), Call::Repost { number })
+            }
             Choice::Ship {
                 store,
                 region,
@@ -269,7 +281,6 @@ impl World {
             Choice::Go { object, place } => self.go(app, Birth { object, place }),
             Choice::Finish => unreachable!(),
             // no application has one of these yet
-            Choice::Repost { .. } => unreachable!(),
             Choice::Pull { .. } => unreachable!(),
             Choice::Repull { .. } => unreachable!(),
         }

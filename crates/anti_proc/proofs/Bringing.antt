@@ -1,5 +1,5 @@
 -- What a process carries into a call came to the call's span before.
-use Rattle.std.proofs.Common.{◌≡◌, ℕ, ◌-◌, ◌==◌, ◌||◌, Bool, true, false, not, eq-eqb, List, [], ◌∷◌, ◌++◌, length, refl, sym, ap, ◌∙◌, subst, inl, inr}
+use Rattle.std.proofs.Common.{◌≡◌, ℕ, ◌==◌, ◌||◌, Bool, true, false, not, eq-eqb, List, [], ◌∷◌, ◌++◌, refl, sym, ap, ◌∙◌, subst, inl, inr}
 use Rattle.std.specs.Prelude.{Some, if◌then◌else◌}
 use Rattle.std.proofs.lemmas.Bool.{or_cases, or_left, or_right}
 use Rattle.anti_ids.specs.Ids.{has_id, is_id}
@@ -12,12 +12,12 @@ use Rattle.anti_lang.specs.Program.{Block}
 use Rattle.anti_app.specs.declared.app.App.{App}
 use Rattle.anti_proc.specs.declared.want.End.{End}
 use Rattle.anti_proc.specs.declared.want.End.TheVariants.{Fine}
-use Rattle.anti_proc.specs.Brought.{CarriesWhatCame, ask_of, brought, came, made}
-use Rattle.anti_proc.specs.Local.{Setting, first_local}
-use Rattle.anti_proc.specs.Meaning.{body_tree, started, tree_of}
-use Rattle.anti_proc.specs.Numbers.{body_of, handler_number, region_of}
+use Rattle.anti_proc.specs.Brought.{CarriesWhatCame, ask_of, brought_by, came, came_first, made}
+use Rattle.anti_proc.specs.Local.{Setting}
+use Rattle.anti_proc.specs.Meaning.{begun, setting_at, started, stated_in, tree_of}
+use Rattle.anti_proc.specs.Numbers.{body_of, handler_number, service_at}
 use Rattle.anti_proc.specs.Trees.{Tree, Ask, Asks, Ends, after}
-use Rattle.anti_proc.proofs.Keeping.{AnyReply, Good, Keeps, body_good}
+use Rattle.anti_proc.proofs.Keeping.{AnyInbox, AnyReply, AnyStore, Good, Keeps, any_fits, begun_good}
 
 -- which ids came to which span
 abbrev Came : Type 0
@@ -27,26 +27,9 @@ Came = ℕ → WriteId → Bool
 abbrev AllCame : Came → ℕ → List WriteId → Type 0
 AllCame h n ids = (i : WriteId) → has_id i ids ≡ true → h n i ≡ true
 
-abbrev more_came : Came → Ask → Reply → Came
-more_came h ask r n i = h n i || has_id i (if ask.span == n then came ask.object ask.call r else [])
-
 its_span : (t : Bool) (ids : List WriteId) (i : WriteId) → t ≡ true → has_id i ids ≡ true → has_id i (if t then ids else []) ≡ true
 its_span true ids i same has = has
 its_span false ids i same has = absurd (cc)
-
-keeps_came : Keeps Came AllCame AllCame more_came AnyReply
-keeps_came = record {
-  none_carried = λ h n i has. absurd (cc);
-  none_brought = λ h n i has. absurd (cc);
-  added = λ h n further ids brings carries short i has.
-      elim (or_cases (has_id i further) (has_id i ids) (sym (has_id-with_ids i further ids) ∙ has)) [ inl new ↦ brings i new | inr old ↦ carries i old ];
-  taken_out = λ h n i ids carries k has. carries k (among_filter (λ j. not (is_id i j)) ids k has);
-  carried_on = λ h ask r n ids carries i has. or_left (h n i) (has_id i (if ask.span == n then came ask.object ask.call r else [])) (carries i has);
-  brought_on = λ h ask r n ids brings i has. or_left (h n i) (has_id i (if ask.span == n then came ask.object ask.call r else [])) (brings i has);
-  comes = λ h ask r fair i has.
-      or_right (h ask.span i) (has_id i (if ask.span == ask.span then came ask.object ask.call r else []))
-      (its_span (ask.span == ask.span) (came ask.object ask.call r) i (eq-eqb ask.span ask.span refl) has);
-}
 
 has_append : (i : WriteId) (xs ys : List WriteId) → has_id i (xs ++ ys) ≡ (has_id i xs || has_id i ys)
 has_append i [] ys = refl
@@ -61,34 +44,59 @@ in_turn : (a b c : Bool) → ((a || b) || c) ≡ (a || (b || c))
 in_turn true b c = refl
 in_turn false b c = refl
 
-reached : (app : App) (h : Came) (tree : Tree) (rs : List Reply) (ask : Ask) → Good Came AllCame AllCame more_came AnyReply app h tree
-    → ask_of (after tree rs) ≡ Some ask → (i : WriteId) → has_id i ask.carried ≡ true → (h ask.span i || has_id i (brought ask.span (made tree rs))) ≡ true
-reached app h (Asks first go) [] ask good is i has =
-    let same : first ≡ ask = cc in
-    or_left (h ask.span i) false (subst (λ (a : Ask). AllCame h a.span a.carried) same good.0.1 i has)
-reached app h (Asks first go) (r ∷ rs) ask good is i has =
-    let ids : List WriteId = if first.span == ask.span then came first.object first.call r else [] in
-    ap (λ (b : Bool). h ask.span i || b) (has_append i ids (brought ask.span (made (go r) rs)))
-    ∙ sym (in_turn (h ask.span i) (has_id i ids) (has_id i (brought ask.span (made (go r) rs))))
-    ∙ reached app (more_came h first r) (go r) rs ask (good.1 r tt) is i has
-reached app h (Ends end) [] ask good is i has = absurd (cc)
-reached app h (Ends end) (r ∷ rs) ask good is i has = reached app h (Ends end) rs ask good is i has
+module _ (app : App) where
+  -- what came by a call, where it was made in the span
+  abbrev came_by : Ask → Reply → ℕ → List WriteId
+  came_by ask r n = if ask.span == n then came app ask.object ask.call r else []
 
-abbrev none_yet : Came
-none_yet n i = false
+  abbrev more_came : Came → Ask → Reply → Came
+  more_came h ask r n i = h n i || has_id i (came_by ask r n)
 
-pub body_carries : (body : Block) (s : Setting) → CarriesWhatCame (body_tree body s first_local)
-body_carries body s rs ask is i has =
-    reached s.app none_yet (body_tree body s first_local) rs ask (body_good Came AllCame AllCame more_came AnyReply keeps_came body s none_yet) is i has
+  keeps_came : Keeps app Came AllCame AllCame more_came AnyReply
+  keeps_came = record {
+    none_carried = λ h n i has. absurd (cc);
+    none_brought = λ h n i has. absurd (cc);
+    added = λ h n further ids brings carries short i has.
+        elim (or_cases (has_id i further) (has_id i ids) (sym (has_id-with_ids i further ids) ∙ has)) [ inl new ↦ brings i new | inr old ↦ carries i old ];
+    taken_out = λ h n i ids carries k has. carries k (among_filter (λ j. not (is_id i j)) ids k has);
+    carried_on = λ h ask r n ids carries i has. or_left (h n i) (has_id i (came_by ask r n)) (carries i has);
+    brought_on = λ h ask r n ids brings i has. or_left (h n i) (has_id i (came_by ask r n)) (brings i has);
+    comes = λ h ask r fair i has.
+        or_right (h ask.span i) (has_id i (came_by ask r ask.span))
+        (its_span (ask.span == ask.span) (came app ask.object ask.call r) i (eq-eqb ask.span ask.span refl) has);
+  }
 
-ended_carries : (end : End) → CarriesWhatCame (Ends end)
-ended_carries end [] ask is i has = absurd (cc)
-ended_carries end (r ∷ rs) ask is i has = ended_carries end rs ask is i has
+  reached : (h : Came) (tree : Tree) (rs : List Reply) (ask : Ask) → Good app AnyStore AnyInbox Came AllCame more_came AnyReply h tree
+      → ask_of (after tree rs) ≡ Some ask → (i : WriteId) → has_id i ask.carried ≡ true → (h ask.span i || has_id i (brought_by app ask.span (made tree rs))) ≡ true
+  reached h (Asks first go) [] ask good is i has =
+      let same : first ≡ ask = cc in
+      or_left (h ask.span i) false (subst (λ (a : Ask). AllCame h a.span a.carried) same good.0.2 i has)
+  reached h (Asks first go) (r ∷ rs) ask good is i has =
+      let ids : List WriteId = came_by first r ask.span in
+      ap (λ (b : Bool). h ask.span i || b) (has_append i ids (brought_by app ask.span (made (go r) rs)))
+      ∙ sym (in_turn (h ask.span i) (has_id i ids) (has_id i (brought_by app ask.span (made (go r) rs))))
+      ∙ reached (more_came h first r) (go r) rs ask (good.1 r tt) is i has
+  reached h (Ends end) [] ask good is i has = absurd (cc)
+  reached h (Ends end) (r ∷ rs) ask good is i has = reached h (Ends end) rs ask good is i has
 
-started_carries : (app : App) (service : ℕ) (reply : Reply) → CarriesWhatCame (started app service reply)
-started_carries app service (replies.Got number message) =
-    body_carries (body_of app service (handler_number app service message.handler)) (record { app = app; region = region_of app service; input = message.value })
-started_carries app service _ = ended_carries Fine
+-- these came to the first span
+abbrev first_came : List WriteId → Came
+first_came first n i = has_id i (if n == 1 then first else [])
 
-pub process_carries : (app : App) (birth : Entry) → CarriesWhatCame (tree_of app birth)
-process_carries app birth = started_carries app (birth.object - length app.stores.items) birth.reply
+pub body_carries : (body : Block) (s : Setting) (ids : List WriteId) → CarriesWhatCame s.app ids (begun body s ids)
+body_carries body s ids rs ask is i has =
+    has_append i (if ask.span == 1 then ids else []) (brought_by s.app ask.span (made (begun body s ids) rs))
+    ∙ reached s.app (first_came ids) (begun body s ids) rs ask
+    (begun_good s AnyStore AnyInbox Came AllCame AllCame (more_came s.app) AnyReply (keeps_came s.app) tt body (any_fits s.app body) ids (first_came ids) (λ short k here. here)) is i has
+
+ended_carries : (app : App) (first : List WriteId) (end : End) → CarriesWhatCame app first (Ends end)
+ended_carries app first end [] ask is i has = absurd (cc)
+ended_carries app first end (r ∷ rs) ask is i has = ended_carries app first end rs ask is i has
+
+started_carries : (app : App) (inbox : ℕ) (reply : Reply) → CarriesWhatCame app (came_first app reply) (started app inbox reply)
+started_carries app inbox (replies.Got number m) =
+    body_carries (body_of app (service_at app inbox) (handler_number app (service_at app inbox) m.handler)) (setting_at app inbox number m) (stated_in app m)
+started_carries app inbox _ = ended_carries app [] Fine
+
+pub process_carries : (app : App) (birth : Entry) → CarriesWhatCame app (came_first app birth.reply) (tree_of app birth)
+process_carries app birth = started_carries app birth.object birth.reply

@@ -1,5 +1,9 @@
 -- A run goes on from statement to statement.
-use Rattle.std.proofs.Common.{◌≡◌, ℕ, ◌+◌, ◌*◌, ◌<◌, ◌≤◌, List, ◌∷◌, ◌++◌, sym, ap, ◌∙◌, subst, arith}
+use Rattle.std.proofs.Common.{◌≡◌, ℕ, ◌+◌, ◌*◌, ◌<◌, ◌≤◌, List, ◌∷◌, ◌++◌, false, length, refl, sym, ap, ◌∙◌, subst, arith}
+use Rattle.std.specs.Prelude.{nat_lt}
+use Rattle.std.proofs.lemmas.Bool.{le-ltb}
+use Rattle.anti_ids.specs.declared.id.WriteId.{WriteId}
+use Rattle.anti_ids.specs.declared.lineage.TheConstants.{MOST_IDS}
 use Rattle.anti_lang.specs.Bodies.{block_from, list_of}
 use Rattle.anti_lang.specs.Program.{Block, Step}
 use Rattle.anti_lang.specs.Spans.{spans_in, spans_of}
@@ -10,8 +14,9 @@ use Rattle.anti_proc.specs.declared.run.Run.{Run}
 use Rattle.anti_proc.specs.declared.state.State.{State}
 use Rattle.anti_proc.specs.declared.statements.Does.{Does}
 use Rattle.anti_proc.specs.declared.statements.Does.TheVariants as does
+use Rattle.anti_proc.specs.declared.want.End.TheVariants.{Fine}
 use Rattle.anti_proc.specs.Local.{Local}
-use Rattle.anti_proc.specs.Meaning.{Go, body_tree, ends, step_tree}
+use Rattle.anti_proc.specs.Meaning.{Go, body_tree, carry, leave, step_tree}
 use Rattle.anti_proc.specs.Numbers.{body_of}
 use Rattle.anti_proc.specs.Places.{Enters, IsStart, again, block_in, block_weight, last_opened, left_at, step_weight, weight}
 use Rattle.anti_proc.specs.Running.{CanRun, HasSpans}
@@ -62,7 +67,7 @@ module _ (app : App) (r : Run) (step : Step) (place : Place) (state : State) whe
     pub entered_goes : going app (at entered state next) (local_of state) ≡ going app r (local_of r.state)
     entered_goes =
         ap (λ (steps : List Step). body_tree (block_from steps) (setting_of app r) (local_of state)) is
-        ∙ run_again turns (block_in step) (left_at (body_in app r) place) (setting_of app r) ends (local_of state)
+        ∙ run_again turns (block_in step) (left_at (body_in app r) place) (setting_of app r) (leave (setting_of app r) Fine) (local_of state)
         ∙ goes_from (does.Block turns) next p
 
     pub entered_lighter : weight (left_to_run app (at entered state next)) < weight (left_to_run app r)
@@ -98,3 +103,7 @@ begins_spans app r can start first =
     ap (λ (steps : List Step). spans_of (block_from steps)) (start (body_in app r)) ∙ spans_block (body_of app r.service r.handler) in
     let few = can.spans r.service r.handler in
     omega arith
+
+-- what is carried is none too long at the start
+pub carried_short : (ids : List WriteId) (l : Local) (go : Go) → length ids ≤ MOST_IDS → go (record l { carried = ids }) ≡ carry ids l go
+carried_short ids l go short = let few : nat_lt MOST_IDS (length ids) ≡ false = le-ltb MOST_IDS (length ids) short in rw few refl

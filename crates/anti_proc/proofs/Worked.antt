@@ -1,31 +1,41 @@
--- Worked runs: a store `s` in the region `eu`, and a process there with the body of each run. Its calls come one by one.
-use Rattle.std.proofs.Common.{◌≡◌, ℕ, zero, suc, true, false, List, [], ◌∷◌, refl}
-use Rattle.std.specs.Prelude.{None, Some, codes}
+-- Worked runs: a store `s` and a service `w` in the region `eu`, and a process there with the body of each run. Its calls come one by one.
+use Rattle.std.proofs.Common.{◌≡◌, ℕ, zero, suc, Bool, true, false, List, [], ◌∷◌, refl}
+use Rattle.std.specs.Prelude.{None, Some, Ok, codes, length, nat_lt}
 use Rattle.std.specs.Fmt.{digits}
+use Rattle.anti_ids.specs.Ids.{with_ids}
 use Rattle.anti_ids.specs.List.{plain}
 use Rattle.anti_ids.specs.declared.id.WriteId.{WriteId}
+use Rattle.anti_ids.specs.declared.lineage.TheConstants.{MOST_IDS}
 use Rattle.anti_kind.specs.declared.call.Actor.TheVariants as actors
 use Rattle.anti_kind.specs.declared.call.Call.TheVariants as calls
 use Rattle.anti_kind.specs.declared.call.Entry.{Entry}
+use Rattle.anti_kind.specs.declared.call.Message.{Message}
+use Rattle.anti_kind.specs.declared.call.MessageKind.{MessageKind}
 use Rattle.anti_kind.specs.declared.call.MessageKind.TheVariants as kinds
 use Rattle.anti_kind.specs.declared.call.Reply.{Reply}
 use Rattle.anti_kind.specs.declared.call.Reply.TheVariants as replies
 use Rattle.anti_kind.specs.declared.call.Row.{Row}
 use Rattle.anti_kind.specs.declared.call.StoreKind.TheVariants.{Kv}
+use Rattle.anti_baggage.specs.Reading.{read_lineage}
 use Rattle.anti_lang.specs.Bodies.{block_from}
 use Rattle.anti_lang.specs.Program as statements
 use Rattle.anti_lang.specs.Program.{Step}
 use Rattle.anti_lang.specs.declared.statement.KeyWord.TheVariants as keys
-use Rattle.anti_lang.specs.declared.statement.ValueWord.TheVariants.{Input, Literal}
+use Rattle.anti_lang.specs.declared.statement.ValueWord.TheVariants.{Input, Literal, Of}
 use Rattle.anti_app.specs.declared.app.App.{App}
+use Rattle.anti_app.specs.declared.app.HandlerDef.{HandlerDef}
 use Rattle.anti_app.specs.declared.app.StoreDef.{StoreDef}
-use Rattle.anti_proc.specs.declared.want.End.TheVariants.{Fine, BadKey, LineageFull}
+use Rattle.anti_proc.specs.declared.given.Duty.{Duty}
+use Rattle.anti_proc.specs.declared.given.Duty.TheVariants.{Free, Answers}
+use Rattle.anti_proc.specs.declared.want.End.TheVariants.{Fine, Depth, BadKey, LineageFull}
 use Rattle.anti_proc.specs.declared.want.Want.{Want}
 use Rattle.anti_proc.specs.declared.want.Want.TheVariants.{Make, Over}
-use Rattle.anti_proc.specs.Local.{first_local}
-use Rattle.anti_proc.specs.Meaning.{body_tree, tree_of}
+use Rattle.anti_proc.specs.Brought.{brought, made}
+use Rattle.anti_proc.specs.Foreign.{is_foreign, is_foreign_birth}
+use Rattle.anti_proc.specs.Local.{Setting, first_local}
+use Rattle.anti_proc.specs.Meaning.{begun, body_tree, hear_call, setting_at, stated_in, tree_of}
 use Rattle.anti_proc.specs.Numbers.{stores_here}
-use Rattle.anti_proc.specs.Trees.{next_of}
+use Rattle.anti_proc.specs.Trees.{Ends, next_of}
 
 abbrev key : List ℕ
 key = codes "k"
@@ -50,12 +60,15 @@ read = statements.Read (codes "s") (keys.Plain key) x
 abbrev store_in : List ℕ → List ℕ → StoreDef
 store_in name regions = record { name = name; kind = Kv; replicas = plain regions; tries = 3 }
 
--- an application of these stores and a service in `eu` with a handler `none`, whose body is empty
+abbrev empty_handler : List ℕ → HandlerDef
+empty_handler name = record { name = name; body = plain [] }
+
+-- an application of these stores and a service `w` in `eu` with the handlers `none` and `h`, whose bodies are empty
 abbrev app_with : List StoreDef → App
 app_with stores = record {
   regions = plain (codes "eu" ∷ codes "us" ∷ []);
   stores = plain stores;
-  services = plain (record { name = codes "w"; region = 0; handlers = plain (record { name = codes "none"; body = plain [] } ∷ []) } ∷ []);
+  services = plain (record { name = codes "w"; region = 0; handlers = plain (empty_handler (codes "none") ∷ empty_handler (codes "h") ∷ []) } ∷ []);
   subs = plain [];
   requests = plain [];
   choices = plain [];
@@ -66,28 +79,41 @@ app_with stores = record {
 abbrev one_store : App
 one_store = app_with (store_in (codes "s") (0 ∷ []) ∷ [])
 
+abbrev message_of : MessageKind → ℕ → ℕ → List ℕ → List ℕ → List ℕ → Message
+message_of kind to depth handler value baggage =
+    record { kind = kind; to = to; depth = depth; handler = handler; value = value; baggage = plain baggage }
+
 -- the first message of the inbox is taken, which is the object behind the stores
-abbrev taken_at : ℕ → List ℕ → List ℕ → Entry
-taken_at inbox handler value = record {
+abbrev taken_with : Message → Entry
+taken_with message = record {
   stamp = 1;
-  object = inbox;
+  object = 1;
   place = 1;
   seat = 0;
-  actor = actors.Process (record { object = inbox; place = 1 });
+  actor = actors.Process (record { object = 1; place = 1 });
   span = 1;
   call = calls.Take 1;
-  reply = replies.Got 1 (record { kind = kinds.Request; to = 0; depth = 0; handler = handler; value = value; baggage = plain (codes "1;") });
+  reply = replies.Got 3 message;
 }
 
--- what a handler with this body in `eu` does next on a value, after these replies
+abbrev taken_at : List ℕ → List ℕ → Entry
+taken_at handler value = taken_with (message_of kinds.Request 0 0 handler value (codes "1;"))
+
+-- what a handler in `eu`, which owes something at its end, does next on a value of this depth, after these replies
+abbrev setting_in : App → Duty → ℕ → List ℕ → Setting
+setting_in app duty depth value = record { app = app; inbox = 1; handler = codes "here"; region = 0; depth = depth; duty = duty; input = value }
+
+abbrev owing : Duty → ℕ → List Step → List ℕ → List Reply → Want
+owing duty depth body value rs = next_of (body_tree (block_from body) (setting_in one_store duty depth value) first_local) rs
+
 abbrev does_in : App → List Step → List ℕ → List Reply → Want
-does_in app body value rs = next_of (body_tree (block_from body) (record { app = app; region = 0; input = value }) first_local) rs
+does_in app body value rs = next_of (body_tree (block_from body) (setting_in app Free 0 value) first_local) rs
 
 abbrev does : List Step → List ℕ → List Reply → Want
 does body value rs = does_in one_store body value rs
 
-abbrev id_at : ℕ → ℕ → WriteId
-id_at store version = record { store = store; key = key; version = version }
+abbrev its_id : ℕ → ℕ → WriteId
+its_id store version = record { store = store; key = key; version = version }
 
 abbrev row_of : ℕ → List WriteId → Row
 row_of version lineage = record { key = key; version = version; value = codes "a"; lineage = lineage }
@@ -117,14 +143,14 @@ end : does one [] (replies.Written key 1 ∷ row ∷ []) ≡ Over Fine
 end = refl
 
 -- an empty body, and a handler that is not there
-empty_body : next_of (tree_of one_store (taken_at 1 (codes "none") [])) [] ≡ Over Fine
+empty_body : next_of (tree_of one_store (taken_at (codes "none") [])) [] ≡ Over Fine
 empty_body = refl
 
-no_handler : next_of (tree_of one_store (taken_at 1 (codes "one") [])) [] ≡ Over Fine
+no_handler : next_of (tree_of one_store (taken_at (codes "one") [])) [] ≡ Over Fine
 no_handler = refl
 
 -- the second write carries the id of the first, and what was read is not carried
-carried : does (write ∷ read ∷ write ∷ []) [] (replies.Written key 4 ∷ row ∷ []) ≡ writes_in 1 (id_at 0 4 ∷ [])
+carried : does (write ∷ read ∷ write ∷ []) [] (replies.Written key 4 ∷ row ∷ []) ≡ writes_in 1 (its_id 0 4 ∷ [])
 carried = refl
 
 input : does (statements.Write (codes "s") keys.Input Input None false ∷ []) (codes "v") [] ≡ Make 0 1 (calls.Write (codes "v") (codes "v") [])
@@ -161,19 +187,19 @@ other_form = refl
 untracked : does (untracked_x ∷ write ∷ []) [] (replies.Written key 4 ∷ []) ≡ writes_in 1 []
 untracked = refl
 
-appended : does (untracked_x ∷ statements.Append x ∷ write ∷ []) [] (replies.Written key 4 ∷ []) ≡ writes_in 1 (id_at 0 4 ∷ [])
+appended : does (untracked_x ∷ statements.Append x ∷ write ∷ []) [] (replies.Written key 4 ∷ []) ≡ writes_in 1 (its_id 0 4 ∷ [])
 appended = refl
 
-taken_out : does (write ∷ write_x ∷ statements.Remove x ∷ write ∷ []) [] (replies.Written key 4 ∷ replies.Written key 5 ∷ []) ≡ writes_in 1 (id_at 0 4 ∷ [])
+taken_out : does (write ∷ write_x ∷ statements.Remove x ∷ write ∷ []) [] (replies.Written key 4 ∷ replies.Written key 5 ∷ []) ≡ writes_in 1 (its_id 0 4 ∷ [])
 taken_out = refl
 
 -- `transfer x` carries the ids of the rows and the lineages that are stored beside them; a row of version 0 has no id
-transferred : does (read ∷ statements.Transfer x ∷ write ∷ []) [] (replies.Shown (plain (row_of 3 (id_at 1 2 ∷ []) ∷ row_of 0 [] ∷ [])) ∷ [])
-    ≡ writes_in 1 (id_at 0 3 ∷ id_at 1 2 ∷ [])
+transferred : does (read ∷ statements.Transfer x ∷ write ∷ []) [] (replies.Shown (plain (row_of 3 (its_id 1 2 ∷ []) ∷ row_of 0 [] ∷ [])) ∷ [])
+    ≡ writes_in 1 (its_id 0 3 ∷ its_id 1 2 ∷ [])
 transferred = refl
 
 -- the version of a write in decimal, and the value of the first row, as keys
-by_version : does (write_x ∷ statements.Write (codes "s") (keys.Of x) Input None true ∷ []) [] (replies.Written key 12 ∷ []) ≡ Make 0 1 (calls.Write (codes "12") [] (id_at 0 12 ∷ []))
+by_version : does (write_x ∷ statements.Write (codes "s") (keys.Of x) Input None true ∷ []) [] (replies.Written key 12 ∷ []) ≡ Make 0 1 (calls.Write (codes "12") [] (its_id 0 12 ∷ []))
 unfolding digits
 by_version = refl
 
@@ -190,12 +216,16 @@ cell = refl
 no_plain_key : does (statements.Read (codes "s") keys.Input x ∷ []) (codes "a#1") [] ≡ Over BadKey
 no_plain_key = refl
 
+-- a key that stands in the line is tested as any other
+no_literal_key : does (statements.Write (codes "s") (keys.Plain (codes "a b")) Input None false ∷ []) [] [] ≡ Over BadKey
+no_literal_key = refl
+
 -- ---- blocks and spans
 
 nack_in_block : does (often 2 (often 3 (write ∷ statements.Nack ∷ []) ∷ []) ∷ read ∷ []) [] (replies.Written key 1 ∷ []) ≡ Over Fine
 nack_in_block = refl
 
-twice_three_times : does (often 2 (often 3 (read ∷ []) ∷ write ∷ []) ∷ []) [] (row ∷ row ∷ row ∷ replies.Written key 1 ∷ row ∷ row ∷ row ∷ []) ≡ writes_in 1 (id_at 0 1 ∷ [])
+twice_three_times : does (often 2 (often 3 (read ∷ []) ∷ write ∷ []) ∷ []) [] (row ∷ row ∷ row ∷ replies.Written key 1 ∷ row ∷ row ∷ row ∷ []) ≡ writes_in 1 (its_id 0 1 ∷ [])
 twice_three_times = refl
 
 abbrev if_absent : List Step
@@ -222,17 +252,17 @@ rooted_again = refl
 abbrev nothing : Reply
 nothing = replies.Missing [] []
 
-look : does (write ∷ statements.Barrier ∷ read ∷ []) [] (replies.Written key 7 ∷ []) ≡ Make 0 1 (calls.Look 0 (id_at 0 7 ∷ []) false)
+look : does (write ∷ statements.Barrier ∷ read ∷ []) [] (replies.Written key 7 ∷ []) ≡ Make 0 1 (calls.Look 0 (its_id 0 7 ∷ []) false)
 look = refl
 
 then_read : does (write ∷ statements.Barrier ∷ read ∷ []) [] (replies.Written key 7 ∷ nothing ∷ []) ≡ reads
 then_read = refl
 
 -- a dry run makes the same look as a dry one, and goes on whatever it finds
-dry_look : does (write ∷ statements.DryRun ∷ read ∷ []) [] (replies.Written key 7 ∷ []) ≡ Make 0 1 (calls.Look 0 (id_at 0 7 ∷ []) true)
+dry_look : does (write ∷ statements.DryRun ∷ read ∷ []) [] (replies.Written key 7 ∷ []) ≡ Make 0 1 (calls.Look 0 (its_id 0 7 ∷ []) true)
 dry_look = refl
 
-dry_goes_on : does (write ∷ statements.DryRun ∷ read ∷ []) [] (replies.Written key 7 ∷ replies.Missing (id_at 0 7 ∷ []) [] ∷ []) ≡ reads
+dry_goes_on : does (write ∷ statements.DryRun ∷ read ∷ []) [] (replies.Written key 7 ∷ replies.Missing (its_id 0 7 ∷ []) [] ∷ []) ≡ reads
 dry_goes_on = refl
 
 -- a barrier of the empty lineage makes no look
@@ -240,7 +270,7 @@ none_carried : does (statements.Barrier ∷ one) [] [] ≡ writes_in 1 []
 none_carried = refl
 
 -- a second barrier makes its own look
-looks_again : does (write ∷ statements.Barrier ∷ statements.Barrier ∷ []) [] (replies.Written key 7 ∷ nothing ∷ []) ≡ Make 0 1 (calls.Look 0 (id_at 0 7 ∷ []) false)
+looks_again : does (write ∷ statements.Barrier ∷ statements.Barrier ∷ []) [] (replies.Written key 7 ∷ nothing ∷ []) ≡ Make 0 1 (calls.Look 0 (its_id 0 7 ∷ []) false)
 looks_again = refl
 
 -- Three stores: `s` in `eu` and `us`, `t` in `us` alone, `u` in `eu` alone. The process runs in `eu`, writes to all three, to `u` first, and its
@@ -260,11 +290,175 @@ after_writes further = replies.Written key 5 ∷ replies.Written key 6 ∷ repli
 here : stores_here three_stores 0 ≡ 0 ∷ 2 ∷ []
 here = refl
 
-first_look : does_in three_stores spread [] (after_writes []) ≡ Make 0 1 (calls.Look 0 (id_at 0 7 ∷ []) false)
+first_look : does_in three_stores spread [] (after_writes []) ≡ Make 0 1 (calls.Look 0 (its_id 0 7 ∷ []) false)
 first_look = refl
 
-second_look : does_in three_stores spread [] (after_writes (nothing ∷ [])) ≡ Make 2 1 (calls.Look 0 (id_at 2 5 ∷ []) false)
+second_look : does_in three_stores spread [] (after_writes (nothing ∷ [])) ≡ Make 2 1 (calls.Look 0 (its_id 2 5 ∷ []) false)
 second_look = refl
 
 no_third_look : does_in three_stores spread [] (after_writes (nothing ∷ nothing ∷ [])) ≡ Over Fine
 no_third_look = refl
+
+-- ---- calls of handlers, and sends
+
+-- `call w none $in as x` and `send w none $in`
+abbrev call_x : Step
+call_x = statements.Call (codes "w") (codes "none") Input x
+
+abbrev send : Step
+send = statements.Send (codes "w") (codes "none") Input
+
+-- a message to the handler `none`, and the reply of it to the call 7
+abbrev posts : MessageKind → ℕ → List ℕ → List ℕ → Want
+posts kind depth value baggage = Make 1 1 (calls.Post (message_of kind 0 depth (codes "none") value baggage))
+
+abbrev heard : List ℕ → List ℕ → Reply
+heard value baggage = replies.Got 7 (message_of kinds.Reply 7 0 (codes "none") value baggage)
+
+abbrev call_write : List Step
+call_write = call_x ∷ statements.Write (codes "s") (keys.Of x) (Of x) None false ∷ []
+
+posted : does call_write (codes "v") [] ≡ posts kinds.Call 1 (codes "v") (codes "1;")
+posted = refl
+
+waits : does call_write [] (replies.Posted 7 ∷ []) ≡ Make 1 1 (calls.TakeReply 7)
+waits = refl
+
+-- a text states these ids of the store `s`
+abbrev States : List ℕ → List WriteId → Type 0
+States baggage ids = read_lineage (codes "s" ∷ []) baggage ≡ Ok ids
+
+-- The variable holds the value of the reply, and its lineage is carried.
+came_back : (baggage : List ℕ) → States baggage (its_id 0 4 ∷ [])
+    → does call_write [] (replies.Posted 7 ∷ heard (codes "v") baggage ∷ []) ≡ Make 0 1 (calls.Write (codes "v") (codes "v") (its_id 0 4 ∷ []))
+came_back baggage states = rw states refl
+
+-- a text that states no lineage brings nothing
+no_lineage : does call_write [] (replies.Posted 7 ∷ heard (codes "v") (codes "1") ∷ []) ≡ Make 0 1 (calls.Write (codes "v") (codes "v") [])
+no_lineage = refl
+
+-- the ids of what the variable holds are none
+transferred_reply : does (call_x ∷ statements.Transfer x ∷ write ∷ []) [] (replies.Posted 7 ∷ heard (codes "v") (codes "1;") ∷ []) ≡ writes_in 1 []
+transferred_reply = refl
+
+-- the lineage of the message stands before that of the reply
+brought_back : (baggage : List ℕ) → States baggage (its_id 0 4 ∷ [])
+    → brought one_store (its_id 0 2 ∷ []) 1 (made (body_tree (block_from call_write) (setting_in one_store Free 0 []) first_local) (replies.Posted 7 ∷ heard (codes "v") baggage ∷ []))
+    ≡ its_id 0 2 ∷ its_id 0 4 ∷ []
+brought_back baggage states = rw states refl
+
+-- Where a reply brings too many ids, the process ends.
+full_by_reply : (baggage : List ℕ) (ids carried : List WriteId) → States baggage ids → nat_lt MOST_IDS (length (with_ids ids carried)) ≡ true
+    → next_of (hear_call 1 7 x (setting_in one_store (Answers 3) 1 []) (record first_local { carried = carried }) (λ l. Ends Fine)) (heard (codes "v") baggage ∷ [])
+    ≡ Over LineageFull
+full_by_reply baggage ids carried states many = rw (states, many) refl
+
+-- the text in the message holds the id of the write before it
+in_baggage : does (write ∷ call_x ∷ []) [] (replies.Written key 4 ∷ []) ≡ posts kinds.Call 1 [] (codes "1;s/k@4")
+unfolding digits
+in_baggage = refl
+
+sent : does (write ∷ send ∷ read ∷ []) (codes "v") (replies.Written key 4 ∷ []) ≡ posts kinds.Send 1 (codes "v") (codes "1;s/k@4")
+unfolding digits
+sent = refl
+
+-- no reply is taken to a send
+goes_on : does (write ∷ send ∷ read ∷ []) [] (replies.Written key 4 ∷ replies.Posted 7 ∷ []) ≡ reads
+goes_on = refl
+
+-- ---- what a process owes
+
+-- the reply of the handler `here` to the call 3
+abbrev answers : ℕ → List ℕ → List ℕ → Want
+answers span value baggage = Make 1 span (calls.Post (message_of kinds.Reply 3 0 (codes "here") value baggage))
+
+answered : owing (Answers 3) 1 (write ∷ statements.Reply (Literal (codes "done")) ∷ []) [] (replies.Written key 4 ∷ []) ≡ answers 1 (codes "done") (codes "1;s/k@4")
+unfolding digits
+answered = refl
+
+then_over : owing (Answers 3) 1 (statements.Reply Input ∷ []) [] (replies.Posted 9 ∷ []) ≡ Over Fine
+then_over = refl
+
+nacked : owing (Answers 3) 1 (statements.Nack ∷ read ∷ []) [] [] ≡ answers 1 [] (codes "1;")
+nacked = refl
+
+-- Behind `root` the reply carries what came to the new span.
+rooted_reply : owing (Answers 3) 1 (write ∷ statements.Root ∷ statements.Reply Input ∷ []) (codes "v") (replies.Written key 4 ∷ []) ≡ answers 2 (codes "v") (codes "1;")
+rooted_reply = refl
+
+bad_key_answers : owing (Answers 3) 1 (statements.Reply (Literal (codes "set")) ∷ statements.Read (codes "s") keys.Input x ∷ []) [] [] ≡ answers 1 (codes "set") (codes "1;")
+bad_key_answers = refl
+
+bad_key_then : owing (Answers 3) 1 (statements.Reply (Literal (codes "set")) ∷ statements.Read (codes "s") keys.Input x ∷ []) [] (replies.Posted 9 ∷ []) ≡ Over BadKey
+bad_key_then = refl
+
+-- a message of depth 8 is the deepest
+deepest : owing (Answers 3) 7 (call_x ∷ []) [] [] ≡ posts kinds.Call 8 [] (codes "1;")
+deepest = refl
+
+too_deep : owing (Answers 3) 8 (write ∷ call_x ∷ []) [] (replies.Written key 4 ∷ []) ≡ answers 1 [] (codes "1;s/k@4")
+unfolding digits
+too_deep = refl
+
+then_deep : owing (Answers 3) 8 (write ∷ call_x ∷ []) [] (replies.Written key 4 ∷ replies.Posted 9 ∷ []) ≡ Over Depth
+then_deep = refl
+
+too_deep_send : owing Free 8 (send ∷ []) [] [] ≡ Over Depth
+too_deep_send = refl
+
+-- ---- births
+
+abbrev message_to : MessageKind → ℕ → List ℕ → List ℕ → Message
+message_to kind depth handler baggage = message_of kind 0 depth handler (codes "v") baggage
+
+-- the process of a call of a handler with an empty body
+at_once : next_of (tree_of one_store (taken_with (message_to kinds.Call 1 (codes "h") (codes "1;")))) []
+    ≡ Make 1 1 (calls.Post (message_of kinds.Reply 3 0 (codes "h") [] (codes "1;")))
+at_once = refl
+
+-- what a body does that is begun with what came with such a message
+abbrev begun_by : MessageKind → List Step → List ℕ → List Reply → Want
+begun_by kind body baggage rs =
+    next_of (begun (block_from body) (setting_at one_store 1 3 (message_to kind 1 (codes "h") baggage)) (stated_in one_store (message_to kind 1 (codes "h") baggage))) rs
+
+abbrev write_reply : List Step
+write_reply = write ∷ statements.Reply (Literal (codes "ok")) ∷ []
+
+-- It carries what came with its message, and so does its reply.
+first_carried : (baggage : List ℕ) → States baggage (its_id 0 2 ∷ []) → begun_by kinds.Call write_reply baggage [] ≡ writes_in 1 (its_id 0 2 ∷ [])
+first_carried baggage states = rw states refl
+
+its_reply : (baggage : List ℕ) → States baggage (its_id 0 2 ∷ [])
+    → begun_by kinds.Call write_reply baggage (replies.Written key 4 ∷ []) ≡ Make 1 1 (calls.Post (message_of kinds.Reply 3 0 (codes "h") (codes "ok") (codes "1;s/k@2,s/k@4")))
+unfolding digits
+its_reply baggage states = rw states refl
+
+-- a send and a request get none
+no_reply : begun_by kinds.Send write_reply (codes "1;") (replies.Written key 4 ∷ []) ≡ Over Fine
+no_reply = refl
+
+no_reply_either : begun_by kinds.Request write_reply (codes "1;") (replies.Written key 4 ∷ []) ≡ Over Fine
+no_reply_either = refl
+
+-- ---- what is foreign
+
+abbrev foreign_birth : ℕ → List ℕ → List ℕ → Bool
+foreign_birth depth handler baggage = is_foreign_birth one_store 1 (replies.Got 3 (message_to kinds.Call depth handler baggage))
+
+not_foreign : (baggage : List ℕ) → States baggage (its_id 0 2 ∷ []) → foreign_birth 8 (codes "h") baggage ≡ false
+not_foreign baggage states = rw states refl
+
+foreign_depth : foreign_birth 9 (codes "h") (codes "1;") ≡ true
+foreign_depth = refl
+
+foreign_handler : foreign_birth 8 (codes "g") (codes "1;") ≡ true
+foreign_handler = refl
+
+foreign_baggage : foreign_birth 8 (codes "h") (codes "1") ≡ true
+foreign_baggage = refl
+
+foreign_reply : is_foreign one_store (heard [] (codes "1")) ≡ true
+foreign_reply = refl
+
+foreign_row : is_foreign one_store (replies.Shown (plain (row_of 1 (its_id 1 2 ∷ []) ∷ []))) ≡ true
+foreign_row = refl

@@ -7,16 +7,25 @@ use Rattle.anti_kind.specs.declared.call.Call.{Call}
 use Rattle.anti_kind.specs.declared.call.Call.TheVariants as calls
 use Rattle.anti_kind.specs.declared.call.Reply.{Reply}
 use Rattle.anti_kind.specs.declared.call.Reply.TheVariants as replies
+use Rattle.anti_app.specs.declared.app.App.{App}
 use Rattle.anti_proc.specs.Local.{id_at, rows_ids}
+use Rattle.anti_proc.specs.Meaning.{stated_in}
 use Rattle.anti_proc.specs.Trees.{Tree, Ask, Asks, Ends, after}
 
--- The ids that an answered call of a store brings: a write its id, a read the ids of its rows and the lineages that are stored beside them.
-abbrev pub came : ℕ → Call → Reply → List WriteId
-came store (calls.Write key value lineage) (replies.Written written version) = id_at store written version
-came store (calls.Read region key) (replies.Shown rows) = rows_ids store rows.items
-came store (calls.Scan region prefix) (replies.Shown rows) = rows_ids store rows.items
-came store (calls.Poll region key) (replies.Shown rows) = rows_ids store rows.items
-came store call reply = []
+-- The ids that an answered call brings: a write its id, a read the ids of its rows and the lineages that are stored beside them, a reply its
+-- lineage.
+abbrev pub came : App → ℕ → Call → Reply → List WriteId
+came app object (calls.Write key value lineage) (replies.Written written version) = id_at object written version
+came app object (calls.Read region key) (replies.Shown rows) = rows_ids object rows.items
+came app object (calls.Scan region prefix) (replies.Shown rows) = rows_ids object rows.items
+came app object (calls.Poll region key) (replies.Shown rows) = rows_ids object rows.items
+came app object (calls.TakeReply number) (replies.Got got m) = stated_in app m
+came app object call reply = []
+
+-- the ids that came to a process with its message
+abbrev pub came_first : App → Reply → List WriteId
+came_first app (replies.Got number m) = stated_in app m
+came_first app _ = []
 
 -- an answered call
 pub record Made : Type 0 where
@@ -30,9 +39,13 @@ made (Asks ask go) (reply ∷ replies) = record { ask = ask; reply = reply } ∷
 made (Ends end) replies = []
 
 -- what came to a span by these calls
-abbrev pub brought : ℕ → List Made → List WriteId
-brought span [] = []
-brought span (m ∷ ms) = (if m.ask.span == span then came m.ask.object m.ask.call m.reply else []) ++ brought span ms
+abbrev pub brought_by : App → ℕ → List Made → List WriteId
+brought_by app span [] = []
+brought_by app span (m ∷ ms) = (if m.ask.span == span then came app m.ask.object m.ask.call m.reply else []) ++ brought_by app span ms
+
+-- and, to the first span, what came with the message
+abbrev pub brought : App → List WriteId → ℕ → List Made → List WriteId
+brought app first span ms = (if span == 1 then first else []) ++ brought_by app span ms
 
 -- the next call, where there is one
 abbrev pub ask_of : Tree → Option Ask
@@ -40,10 +53,10 @@ ask_of (Asks ask go) = Some ask
 ask_of (Ends end) = None
 
 -- Each id that the process carries into a call came to the call's span before.
-abbrev pub CarriesWhatCame : Tree → Type 0
-CarriesWhatCame tree =
+abbrev pub CarriesWhatCame : App → List WriteId → Tree → Type 0
+CarriesWhatCame app first tree =
     (replies : List Reply) (ask : Ask) → ask_of (after tree replies) ≡ Some ask
-    → (i : WriteId) → has_id i ask.carried ≡ true → has_id i (brought ask.span (made tree replies)) ≡ true
+    → (i : WriteId) → has_id i ask.carried ≡ true → has_id i (brought app first ask.span (made tree replies)) ≡ true
 
 -- The rows of a reply have lineages.
 abbrev pub HasLineages : Reply → Type 0

@@ -10,33 +10,35 @@ use Rattle.anti_proc.specs.declared.want.Want.TheVariants.{Make, Over}
 use Rattle.anti_proc.specs.Numbers.{is_store_here}
 use Rattle.anti_proc.specs.Trees.{Tree, Asks, Ends}
 
--- a write, a read, a scan, a poll or a look
-abbrev pub IsStoreCall : Call → Type 0
-IsStoreCall (calls.Write key value lineage) = Unit {0}
-IsStoreCall (calls.Read region key) = Unit {0}
-IsStoreCall (calls.Scan region prefix) = Unit {0}
-IsStoreCall (calls.Poll region key) = Unit {0}
-IsStoreCall (calls.Look region ids dry) = Unit {0}
-IsStoreCall _ = ⊥
+-- A write, a read, a scan, a poll or a look is made at a store; the number past the stores stands for a store that is not there. A post
+-- and the taking of a reply are made at an inbox; the number past the inboxes stands for one that is not there.
+abbrev pub IsMadeAt : App → ℕ → Call → Type 0
+IsMadeAt app o (calls.Write key value lineage) = o ≤ length app.stores.items
+IsMadeAt app o (calls.Read region key) = o ≤ length app.stores.items
+IsMadeAt app o (calls.Scan region prefix) = o ≤ length app.stores.items
+IsMadeAt app o (calls.Poll region key) = o ≤ length app.stores.items
+IsMadeAt app o (calls.Look region ids dry) = o ≤ length app.stores.items
+IsMadeAt app o (calls.Post message) = length app.stores.items ≤ o
+IsMadeAt app o (calls.TakeReply number) = length app.stores.items ≤ o
+IsMadeAt app o _ = ⊥
 
 -- a look is made at a store with a replica in the region, for ids of that store alone
 abbrev pub LooksWhereItMay : App → ℕ → Call → Type 0
 LooksWhereItMay app o (calls.Look region ids dry) = (is_store_here app region o ≡ true) × (list_all (λ id. id.store == o) ids ≡ true)
 LooksWhereItMay app o _ = Unit {0}
 
--- a call of a store of the application, in a span; the number past the stores stands for a store that is not there
-pub record IsOfStores (app : App) (o n : ℕ) (c : Call) : Type 0 where
-  pub object : o ≤ length app.stores.items
+-- a call that a process makes, in a span
+pub record IsOfProcess (app : App) (o n : ℕ) (c : Call) : Type 0 where
   pub span : 1 ≤ n
-  pub call : IsStoreCall c
+  pub call : IsMadeAt app o c
   pub look : LooksWhereItMay app o c
 
--- each call that the process makes, whatever it is answered, is one of a store
-abbrev pub AllOfStores : App → Tree → Type 0
-AllOfStores app (Asks ask go) = IsOfStores app ask.object ask.span ask.call × ((reply : Reply) → AllOfStores app (go reply))
-AllOfStores app (Ends end) = Unit {0}
+-- each call that the process makes, whatever it is answered, is such a call, where its message came to an inbox
+abbrev pub AllOfProcess : App → Tree → Type 0
+AllOfProcess app (Asks ask go) = IsOfProcess app ask.object ask.span ask.call × ((reply : Reply) → AllOfProcess app (go reply))
+AllOfProcess app (Ends end) = Unit {0}
 
 -- the same of the next call, where there is one
-abbrev pub WantsOfStores : App → Want → Type 0
-WantsOfStores app (Make object span call) = IsOfStores app object span call
-WantsOfStores app (Over end) = Unit {0}
+abbrev pub WantsOfProcess : App → Want → Type 0
+WantsOfProcess app (Make object span call) = IsOfProcess app object span call
+WantsOfProcess app (Over end) = Unit {0}

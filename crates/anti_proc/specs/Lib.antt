@@ -3,11 +3,14 @@ pub mod Barriers
 pub mod Births
 pub mod Brought
 pub mod Calls
+pub mod Foreign
+pub mod Known
 pub mod Local
 pub mod Meaning
 pub mod Numbers
 pub mod Places
 pub mod Running
 pub mod Standing
+pub mod Statements
 pub mod Trees
 pub mod Variables

@@ -12,14 +12,20 @@ use Rattle.anti_lang.specs.declared.statement.KeyWord.TheVariants as keys
 use Rattle.anti_lang.specs.declared.statement.ValueWord.{ValueWord}
 use Rattle.anti_lang.specs.declared.statement.ValueWord.TheVariants as values
 use Rattle.anti_app.specs.declared.app.App.{App}
+use Rattle.anti_proc.specs.declared.given.Duty.{Duty}
 use Rattle.anti_proc.specs.declared.variables.Held.{Held}
 use Rattle.anti_proc.specs.declared.variables.Held.TheVariants.{Wrote, Saw, Heard}
 use Rattle.anti_proc.specs.declared.variables.Variable.{Variable}
 
--- what does not change in a process: its application, the region of its service, and the value of its message
+-- what does not change in a process: its application, the inbox that its message came to, the name of its handler, the region of its
+-- service, the depth of its message, what it owes at its end, and the value of its message
 pub record Setting : Type 0 where
   pub app : App
+  pub inbox : ℕ
+  pub handler : List ℕ
   pub region : ℕ
+  pub depth : ℕ
+  pub duty : Duty
   pub input : List ℕ
 
 -- What changes: the span, counted from 1; whether a `stop` began it and no `root` came since; the lineage that the process carries; its
@@ -142,8 +148,8 @@ name_or (Err fault) = None
 abbrev pub any_name : List ℕ → Option (List ℕ)
 any_name text = name_or (name_of text)
 
--- the key of a word, where it is one, by the keys that texts are
+-- the key of a word, where its text is one, by the keys that texts are
 abbrev pub key_of : (List ℕ → Option (List ℕ)) → List ℕ → List Variable → KeyWord → Option (List ℕ)
 key_of named input variables keys.Input = named input
 key_of named input variables (keys.Of name) = named (held_text (held_in variables name))
-key_of named input variables (keys.Plain key) = Some key
+key_of named input variables (keys.Plain key) = named key

@@ -1,11 +1,18 @@
 -- What a handler does.
-use Rattle.std.specs.Prelude.{ℕ, zero, suc, ◌-◌, Bool, true, false, List, [], ◌∷◌, Option, Some, None, length, map, if◌then◌else◌, nat_lt}
+use Rattle.std.specs.Prelude.{ℕ, zero, suc, ◌+◌, Result, Ok, Err, Bool, true, false, List, [], ◌∷◌, Option, Some, None, length, map, if◌then◌else◌, nat_lt}
 use Rattle.anti_ids.specs.Ids.{with_ids}
+use Rattle.anti_ids.specs.List.{plain}
+use Rattle.anti_baggage.specs.declared.fault.BaggageFault.{BaggageFault}
+use Rattle.anti_baggage.specs.Reading.{read_lineage}
+use Rattle.anti_baggage.specs.Texts.{lineage_text}
 use Rattle.anti_ids.specs.declared.lineage.TheConstants.{MOST_IDS}
 use Rattle.anti_ids.specs.declared.id.WriteId.{WriteId}
 use Rattle.anti_kind.specs.declared.call.Call.{Call}
 use Rattle.anti_kind.specs.declared.call.Call.TheVariants as calls
 use Rattle.anti_kind.specs.declared.call.Entry.{Entry}
+use Rattle.anti_kind.specs.declared.call.Message.{Message}
+use Rattle.anti_kind.specs.declared.call.MessageKind.{MessageKind}
+use Rattle.anti_kind.specs.declared.call.MessageKind.TheVariants as kinds
 use Rattle.anti_kind.specs.declared.call.Reply.{Reply}
 use Rattle.anti_kind.specs.declared.call.Reply.TheVariants as replies
 use Rattle.anti_lang.specs.Program as program
@@ -14,11 +21,15 @@ use Rattle.anti_lang.specs.Texts.{plain_name}
 use Rattle.anti_app.specs.declared.app.App.{App}
 use Rattle.anti_shim.specs.declared.looks.PlannedLook.{PlannedLook}
 use Rattle.anti_shim.specs.Plans.{plan}
+use Rattle.anti_proc.specs.declared.given.TheConstants.{MOST_DEPTH}
+use Rattle.anti_proc.specs.declared.given.Duty.{Duty}
+use Rattle.anti_proc.specs.declared.given.Duty.TheVariants as duties
 use Rattle.anti_proc.specs.declared.variables.Held.{Held}
-use Rattle.anti_proc.specs.declared.variables.Held.TheVariants.{Wrote, Saw}
-use Rattle.anti_proc.specs.declared.want.End.TheVariants.{Fine, BadKey, LineageFull}
+use Rattle.anti_proc.specs.declared.variables.Held.TheVariants.{Wrote, Saw, Heard}
+use Rattle.anti_proc.specs.declared.want.End.{End}
+use Rattle.anti_proc.specs.declared.want.End.TheVariants.{Fine, Depth, BadKey, LineageFull}
 use Rattle.anti_proc.specs.Local.{Setting, Local, first_local, new_span, rooted, held, set, set_or, held_ids, removed, is_absent, text_of, any_name, key_of}
-use Rattle.anti_proc.specs.Numbers.{store_number, handler_number, body_of, region_of, stores_here}
+use Rattle.anti_proc.specs.Numbers.{store_number, store_names, handler_number, service_at, inbox_of, body_of, region_of, stores_here}
 use Rattle.anti_proc.specs.Trees.{Tree, Asks, Ends, after}
 
 -- what comes next
@@ -62,10 +73,77 @@ write_call store value variable untracked l go key =
 abbrev pub read_call : ℕ → (List ℕ → Call) → List ℕ → Local → Go → List ℕ → Tree
 read_call store call variable l go key = asks store (call key) l (after_read store variable l go)
 
+-- A message to a handler, one deeper than the process, with what the process carries.
+abbrev pub message : MessageKind → Setting → Local → List ℕ → List ℕ → Message
+message kind s l handler value = record {
+  kind = kind;
+  to = 0;
+  depth = s.depth + 1;
+  handler = handler;
+  value = value;
+  baggage = plain (lineage_text (store_names s.app) l.carried);
+}
+
+-- The reply to the call of a number, with the value that was set last and what the process carries.
+abbrev pub answer : Setting → Local → ℕ → Message
+answer s l number = record {
+  kind = kinds.Reply;
+  to = number;
+  depth = 0;
+  handler = s.handler;
+  value = l.reply;
+  baggage = plain (lineage_text (store_names s.app) l.carried);
+}
+
+-- The end. A process that answers a call posts the reply first.
+abbrev pub answers : ℕ → Setting → End → Go
+answers number s end l = asks s.inbox (calls.Post (answer s l number)) l (λ reply. Ends end)
+
+abbrev pub leave_by : Duty → Setting → End → Go
+leave_by duties.Free s end l = Ends end
+leave_by (duties.Answers number) s end l = answers number s end l
+
+abbrev pub leave : Setting → End → Go
+leave s end l = leave_by s.duty s end l
+
 -- goes on with a key, where there is one
-abbrev pub with_key : Option (List ℕ) → (List ℕ → Tree) → Tree
-with_key None go = Ends BadKey
-with_key (Some key) go = go key
+abbrev pub with_key : Setting → Local → Option (List ℕ) → (List ℕ → Tree) → Tree
+with_key s l None go = leave s BadKey l
+with_key s l (Some key) go = go key
+
+-- the lineage that a text states; a text that states none brings nothing
+abbrev pub stated : Result (List WriteId) BaggageFault → List WriteId
+stated (Ok ids) = ids
+stated (Err fault) = []
+
+abbrev pub stated_in : App → Message → List WriteId
+stated_in app m = stated (read_lineage (store_names app) m.baggage.items)
+
+-- A reply brings its lineage, and its variable holds its value.
+abbrev pub after_reply : Setting → List ℕ → Local → Go → Reply → Tree
+after_reply s variable l go (replies.Got number m) = carry (with_ids (stated_in s.app m) l.carried) (set variable (Heard m.value) l) go
+after_reply s variable l go _ = go l
+
+-- takes the reply to the call of a number
+abbrev pub hear_call : ℕ → ℕ → List ℕ → Setting → Local → Go → Tree
+hear_call inbox number variable s l go = asks inbox (calls.TakeReply number) l (after_reply s variable l go)
+
+-- A call has a variable, which its reply sets; a send has none, and no reply.
+abbrev pub kind_of : Option (List ℕ) → MessageKind
+kind_of (Some variable) = kinds.Call
+kind_of None = kinds.Send
+
+abbrev pub after_post : ℕ → Option (List ℕ) → Setting → Local → Go → Reply → Tree
+after_post inbox (Some variable) s l go (replies.Posted number) = hear_call inbox number variable s l go
+after_post inbox _ s l go _ = go l
+
+abbrev pub post_call : ℕ → List ℕ → List ℕ → Option (List ℕ) → Setting → Local → Go → Tree
+post_call inbox handler value variable s l go =
+    asks inbox (calls.Post (message (kind_of variable) s l handler value)) l (after_post inbox variable s l go)
+
+-- goes on where the message would not be too deep
+abbrev pub if_deep : Setting → Local → Tree → Tree
+if_deep s l tree = if nat_lt s.depth MOST_DEPTH then tree else leave s Depth l
 
 -- the looks of a barrier: one at each store with a replica in the region of which the process carries ids
 abbrev pub planned : Setting → Local → List PlannedLook
@@ -85,22 +163,23 @@ abbrev mutual
   -- what a statement does, and then what follows it
   pub step_tree : Step → Setting → Local → Go → Tree
   step_tree (program.Write store key value variable untracked) s l go =
-      with_key (key_of plain_name s.input l.variables key) (write_call (store_number s.app store) (text_of s.input l.variables value) variable untracked l go)
+      with_key s l (key_of plain_name s.input l.variables key) (write_call (store_number s.app store) (text_of s.input l.variables value) variable untracked l go)
   step_tree (program.Append variable) s l go = add (held l variable) l go
   step_tree (program.Remove variable) s l go = go (record l { carried = removed (held l variable) l.carried })
   step_tree (program.Transfer variable) s l go = add (held l variable) l go
   step_tree program.Barrier s l go = looks s.region false (planned s l) l go
   step_tree program.DryRun s l go = looks s.region true (planned s l) l go
   step_tree (program.Read store key variable) s l go =
-      with_key (key_of plain_name s.input l.variables key) (read_call (store_number s.app store) (calls.Read s.region) variable l go)
+      with_key s l (key_of plain_name s.input l.variables key) (read_call (store_number s.app store) (calls.Read s.region) variable l go)
   step_tree (program.Scan store prefix variable) s l go = read_call (store_number s.app store) (calls.Scan s.region) variable l go prefix
   step_tree (program.Poll store key variable) s l go =
-      with_key (key_of any_name s.input l.variables key) (read_call (store_number s.app store) (calls.Poll s.region) variable l go)
-  -- calls and sends are not built yet, and no application has one: they are passed over
-  step_tree (program.Call service handler value variable) s l go = go l
-  step_tree (program.Send service handler value) s l go = go l
+      with_key s l (key_of any_name s.input l.variables key) (read_call (store_number s.app store) (calls.Poll s.region) variable l go)
+  step_tree (program.Call service handler value variable) s l go =
+      if_deep s l (post_call (inbox_of s.app service) handler (text_of s.input l.variables value) (Some variable) s l go)
+  step_tree (program.Send service handler value) s l go =
+      if_deep s l (post_call (inbox_of s.app service) handler (text_of s.input l.variables value) None s l go)
   step_tree (program.Reply value) s l go = go (record l { reply = text_of s.input l.variables value })
-  step_tree program.Nack s l go = Ends Fine
+  step_tree program.Nack s l go = leave s Fine l
   step_tree program.Root s l go = go (rooted l.stopped l)
   step_tree program.Stop s l go = go (new_span true l)
   step_tree (program.Repeat count block) s l go = turns count (block_tree block s) l go
@@ -111,28 +190,44 @@ abbrev mutual
   block_tree program.End s l go = go l
   block_tree (program.Then first rest) s l go = step_tree first s l (λ l. block_tree rest s l go)
 
--- the end of a process that a request started
-abbrev pub ends : Go
-ends l = Ends Fine
-
 -- a body, run to its end
 abbrev pub body_tree : Block → Setting → Go
-body_tree body s l = block_tree body s l ends
+body_tree body s l = block_tree body s l (leave s Fine)
 
--- the body of a handler of a service, run on a value
-abbrev pub process_tree : App → ℕ → ℕ → List ℕ → Tree
-process_tree app service handler input =
-    body_tree (body_of app service handler) (record { app = app; region = region_of app service; input = input }) first_local
+-- A process that takes a call answers it at its end; one that takes another message owes nothing.
+abbrev pub duty_of : MessageKind → ℕ → Duty
+duty_of kinds.Call number = duties.Answers number
+duty_of _ number = duties.Free
+
+-- a process whose message, of this number, was taken from the inbox of a service
+abbrev pub setting_at : App → ℕ → ℕ → Message → Setting
+setting_at app inbox number m = record {
+  app = app;
+  inbox = inbox;
+  handler = m.handler;
+  region = region_of app (service_at app inbox);
+  depth = m.depth;
+  duty = duty_of m.kind number;
+  input = m.value;
+}
+
+-- a body that is begun with a lineage
+abbrev pub begun : Block → Setting → List WriteId → Tree
+begun body s ids = carry ids first_local (body_tree body s)
+
+-- the handler that the message names, with the lineage that came with it
+abbrev pub process_tree : App → ℕ → ℕ → Message → Tree
+process_tree app inbox number m =
+    begun (body_of app (service_at app inbox) (handler_number app (service_at app inbox) m.handler)) (setting_at app inbox number m) (stated_in app m)
 
 -- what the reply to a call on an inbox starts: a message that was got starts the handler that it names
 abbrev pub started : App → ℕ → Reply → Tree
-started app service (replies.Got number message) =
-    process_tree app service (handler_number app service message.handler) message.value
-started app service _ = Ends Fine
+started app inbox (replies.Got number m) = process_tree app inbox number m
+started app inbox _ = Ends Fine
 
 -- the process that an entry starts
 abbrev pub tree_of : App → Entry → Tree
-tree_of app e = started app (e.object - length app.stores.items) e.reply
+tree_of app e = started app e.object e.reply
 
 abbrev pub reply_of : Entry → Reply
 reply_of e = e.reply

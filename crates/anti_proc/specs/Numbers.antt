@@ -1,7 +1,9 @@
 -- The numbers of objects and handlers. The stores come first, in the order of the application, and then the inboxes of its
 -- services.
-use Rattle.std.specs.Prelude.{ℕ, ◌+◌, suc, ◌==◌, Bool, true, false, List, [], ◌∷◌, Option, Some, None, length, slice_get, if◌then◌else◌}
+use Rattle.std.specs.Prelude.{ℕ, ◌+◌, suc, ◌==◌, Bool, true, false, List, [], ◌∷◌, Option, Some, None, length, map, slice_get, ◌-◌, if◌then◌else◌}
 use Rattle.std.specs.List.{list_any}
+use Rattle.std.specs.Option.{option_map_or}
+use Rattle.anti_app.specs.Sound.{has_named}
 use Rattle.std.specs.Str.{bytes_eq}
 use Rattle.anti_lang.specs.Bodies.{block_of}
 use Rattle.anti_lang.specs.Program.{Block, End}
@@ -20,6 +22,15 @@ abbrev pub handler_among : List HandlerDef → List ℕ → ℕ
 handler_among [] name = 0
 handler_among (h ∷ hs) name = if bytes_eq h.name name then 0 else suc (handler_among hs name)
 
+-- the same of a service
+abbrev pub service_among : List ServiceDef → List ℕ → ℕ
+service_among [] name = 0
+service_among (s ∷ ss) name = if bytes_eq s.name name then 0 else suc (service_among ss name)
+
+-- the names of the stores, by their numbers
+abbrev pub store_names : App → List (List ℕ)
+store_names app = map (λ s. s.name) app.stores.items
+
 -- the number of the store with a name
 abbrev pub store_number : App → List ℕ → ℕ
 store_number app name = store_among app.stores.items name
@@ -32,6 +43,14 @@ object_count app = length app.stores.items + length app.services.items
 abbrev pub inbox_number : App → ℕ → ℕ
 inbox_number app service = length app.stores.items + service
 
+-- the service of an inbox
+abbrev pub service_at : App → ℕ → ℕ
+service_at app inbox = inbox - length app.stores.items
+
+-- the inbox of the service with a name
+abbrev pub inbox_of : App → List ℕ → ℕ
+inbox_of app name = inbox_number app (service_among app.services.items name)
+
 -- the number of the handler with a name, in its service
 abbrev pub handler_in : Option ServiceDef → List ℕ → ℕ
 handler_in None name = 0
@@ -39,6 +58,10 @@ handler_in (Some s) name = handler_among s.handlers.items name
 
 abbrev pub handler_number : App → ℕ → List ℕ → ℕ
 handler_number app service name = handler_in (slice_get app.services.items service) name
+
+-- whether a service has a handler with a name
+abbrev pub has_handler : App → ℕ → List ℕ → Bool
+has_handler app service name = option_map_or (λ s. has_named name s.handlers.items) (slice_get app.services.items service) false
 
 -- the body of a handler by its number; the empty one, where there is no such handler
 abbrev pub body_in : Option HandlerDef → Block

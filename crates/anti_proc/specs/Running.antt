@@ -1,22 +1,25 @@
 -- Which applications can be run, and that the spans of a process are counted in 32 bits.
-use Rattle.std.specs.Prelude.{ℕ, ◌+◌, ◌^◌, ◌<◌, ◌≤◌, length}
+use Rattle.std.specs.Prelude.{ℕ, ◌+◌, ◌^◌, ◌<◌, ◌≤◌}
 use Rattle.anti_lang.specs.Bodies.{block_from}
 use Rattle.anti_lang.specs.Spans.{spans_of}
 use Rattle.anti_app.specs.declared.app.App.{App}
+use Rattle.anti_proc.specs.declared.given.TheConstants.{MOST_DEPTH}
 use Rattle.anti_proc.specs.declared.process.Process.{Process}
 use Rattle.anti_proc.specs.declared.run.Run.{Run}
-use Rattle.anti_proc.specs.Numbers.{body_of}
+use Rattle.anti_proc.specs.Numbers.{body_of, object_count}
 use Rattle.anti_proc.specs.Standing.{left_to_run}
 
--- The numbers of its stores fit, and no body begins more than 64 spans.
+-- The numbers of its objects fit, and no body begins more than 64 spans.
 pub record CanRun (app : App) : Type 0 where
-  pub stores : length app.stores.items < 2 ^ 32
+  pub objects : object_count app < 2 ^ 32
   pub spans : (service handler : ℕ) → spans_of (body_of app service handler) ≤ 64
 
 -- the number of the last span of a run fits
 abbrev pub HasSpans : App → Run → Type 0
 HasSpans app r = r.state.span + spans_of (block_from (left_to_run app r)) < 2 ^ 32
 
--- The process is one of the application, as far as a call on it asks for that: the number of its last span fits.
-abbrev pub IsRunOf : App → Process → Type 0
-IsRunOf app p = HasSpans app p.run
+-- The process is one of the application, as far as a call on it asks for that: the number of its last span fits, and its message was
+-- not too deep.
+pub record IsRunOf (app : App) (p : Process) : Type 0 where
+  pub spans : HasSpans app p.run
+  pub depth : p.run.given.depth ≤ MOST_DEPTH

@@ -16,12 +16,20 @@ use Rattle.anti_proc.specs.declared.statements.Does.{Does}
 use Rattle.anti_proc.specs.declared.statements.Does.TheVariants as does
 use Rattle.anti_proc.specs.Numbers.{body_of}
 use Rattle.anti_proc.specs.Local.{Setting, Local}
-use Rattle.anti_proc.specs.Meaning.{Go, block_tree, body_tree, looks, read_call, turns, write_call}
+use Rattle.anti_proc.specs.Meaning.{Go, answers, block_tree, body_tree, hear_call, looks, post_call, read_call, turns, write_call}
 use Rattle.anti_proc.specs.Places.{block_weight, left_at}
 use Rattle.anti_proc.specs.Trees.{Tree, Ends}
 
 abbrev pub setting : App → Given → Setting
-setting app given = record { app = app; region = given.region; input = given.input }
+setting app given = record {
+  app = app;
+  inbox = given.inbox;
+  handler = given.handler;
+  region = given.region;
+  depth = given.depth;
+  duty = given.duty;
+  input = given.input;
+}
 
 abbrev pub setting_of : App → Run → Setting
 setting_of app r = setting app r.given
@@ -48,6 +56,9 @@ next_tree (nexts.Read store key variable) s l go = read_call store (calls.Read s
 next_tree (nexts.Scan store prefix variable) s l go = read_call store (calls.Scan s.region) variable l go prefix
 next_tree (nexts.Poll store key variable) s l go = read_call store (calls.Poll s.region) variable l go key
 next_tree (nexts.Look look later dry) s l go = looks s.region dry (look ∷ reverse later.items) l go
+next_tree (nexts.Post inbox handler value variable) s l go = post_call inbox handler value variable s l go
+next_tree (nexts.Hear inbox number variable) s l go = hear_call inbox number variable s l go
+next_tree (nexts.Answer number end) s l go = answers number s end l
 next_tree (nexts.Over end) s l go = Ends end
 
 -- the same, where there may be no call before what follows

@@ -1,7 +1,9 @@
-ghost use Rattle.std.specs.Prelude.{◌≡◌, IfOk, option_map};
+ghost use Rattle.std.specs.Prelude.{◌≡◌, List, IfOk, option_map};
+ghost use Rattle.anti_ids.specs.Ids.{with_ids};
+ghost use Rattle.anti_ids.specs.declared.id.WriteId.{WriteId};
 ghost use Rattle.anti_proc.specs.Adding.{Adds};
 ghost use Rattle.anti_proc.specs.Local.{Setting, Local, all_absent, held_ids, id_at, row_ids, rows_ids};
-ghost use Rattle.anti_proc.specs.Meaning.{Go, add};
+ghost use Rattle.anti_proc.specs.Meaning.{Go, add, carry};
 ghost use Rattle.anti_proc.specs.Standing.{next_or};
 
 use crate::next::Next;
@@ -57,12 +59,12 @@ fn add_held(carried: &mut Lineage, held: Option<&Held>) -> Result<(), LineageRef
     }
 }
 
-/// Adds the ids of what a variable holds to a lineage. Where they are too many the process ends, and some may be added.
-pub fn add(carried: &mut Lineage, held: Option<&Held>) -> Result<Option<Next>, NoMemory>
-    ensures { IfOk result (λ next. (s : Setting) (l : Local) (go : Go) → l.carried ≡ carried.old
-        → next_or next s (record l { carried = carried.new }) go ≡ add (option_map (λ h. h.now) held.entry) l go) }
+// What is next where ids were added to what is carried: nothing, or the end, where they were too many.
+fn next_with(carried: &Lineage, added: Result<(), LineageRefused>) -> Result<Option<Next>, NoMemory>
+    ensures { (ids old : List WriteId) → Adds ids old carried.now added → IfOk result (λ next. (s : Setting) (l : Local) (go : Go)
+        → next_or next s (record l { carried = carried.now }) go ≡ carry (with_ids ids old) l go) }
 {
-    match add_held(carried, held) {
+    match added {
         Ok(()) => {
             // as each lineage
             let short = carried.len() as usize <= MOST_IDS;
@@ -72,6 +74,24 @@ pub fn add(carried: &mut Lineage, held: Option<&Held>) -> Result<Option<Next>, N
         Err(LineageRefused::Full) => Ok(Some(Next::Over(End::LineageFull))),
         Err(LineageRefused::NoMemory) => Err(NoMemory),
     }
+}
+
+/// Adds the ids of what a variable holds to a lineage. Where they are too many the process ends, and some may be added.
+pub fn add(carried: &mut Lineage, held: Option<&Held>) -> Result<Option<Next>, NoMemory>
+    ensures { IfOk result (λ next. (s : Setting) (l : Local) (go : Go) → l.carried ≡ carried.old
+        → next_or next s (record l { carried = carried.new }) go ≡ add (option_map (λ h. h.now) held.entry) l go) }
+{
+    let added = add_held(carried, held);
+    next_with(carried, added)
+}
+
+/// Adds the ids of another lineage to a lineage. Where they are too many the process ends.
+pub fn carry(carried: &mut Lineage, more: &Lineage) -> Result<Option<Next>, NoMemory>
+    ensures { IfOk result (λ next. (s : Setting) (l : Local) (go : Go)
+        → next_or next s (record l { carried = carried.new }) go ≡ carry (with_ids more.now carried.old) l go) }
+{
+    let added = carried.transfer(more);
+    next_with(carried, added)
 }
 
 /// Whether none of these rows has a version.

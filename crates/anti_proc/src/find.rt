@@ -1,8 +1,9 @@
 ghost use Rattle.std.specs.Prelude.{◌≡◌, ◌≤◌, Some, length, option_map, slice_get, IfOk};
 ghost use Rattle.anti_lang.specs.Bodies.{list_of};
+ghost use Rattle.anti_app.specs.Sound.{has_named};
 ghost use Rattle.anti_proc.specs.Running.{CanRun};
 ghost use Rattle.anti_proc.specs.Places.{steps_of};
-ghost use Rattle.anti_proc.specs.Numbers.{body_among, body_of, handler_among, handler_number, is_here, region_of, store_among, store_number, stores_here};
+ghost use Rattle.anti_proc.specs.Numbers.{body_among, body_of, handler_among, handler_number, has_handler, inbox_of, is_here, region_of, service_among, service_at, store_among, store_names, store_number, stores_here};
 
 use anti_app::{App, HandlerDef, ServiceDef, StoreDef};
 use anti_ids::{Name, NoMemory};
@@ -39,6 +40,19 @@ fn handler_among(handlers: &[HandlerDef], name: &Name) -> usize
         }
     }
     handlers.len()
+}
+
+// The place of the service with a name among these, or how many they are.
+fn service_among(services: &[ServiceDef], name: &Name) -> usize
+    ensures place { result ≡ service_among services.now name.now }
+    ensures within { result ≤ length services.now }
+{
+    for (place, service) in services.iter().enumerate() {
+        if service.name == *name {
+            return place;
+        }
+    }
+    services.len()
 }
 
 // The body of a handler of a service by its number; the empty one, where there is no such handler.
@@ -82,12 +96,55 @@ pub fn handler_number(app: &App, service: usize, name: &Name) -> usize
     }
 }
 
+// Whether one of these handlers has a name.
+fn has_named(handlers: &[HandlerDef], name: &Name) -> bool
+    ensures { result ≡ has_named name.now handlers.now }
+{
+    handlers.iter().any(|handler| handler.name == *name)
+}
+
+// Whether a service has a handler with a name.
+pub fn has_handler(app: &App, service: usize, name: &Name) -> bool
+    ensures { result ≡ has_handler app.now service name.now }
+{
+    match item_at(app.services.as_slice(), service) {
+        Some(service) => has_named(service.handlers.as_slice(), name),
+        None => false,
+    }
+}
+
+// The service of an inbox.
+pub fn service_at(app: &App, inbox: u32) -> usize
+    ensures { result ≡ service_at app.now inbox }
+{
+    (inbox as usize).saturating_sub(app.stores.len())
+}
+
+// The number of the inbox of the service with a name.
+pub fn inbox_of(app: &App, name: &Name) -> u32
+    requires { CanRun app.now }
+    ensures { result ≡ inbox_of app.now name.now }
+{
+    (app.stores.len() + service_among(app.services.as_slice(), name)) as u32
+}
+
 // The number of the store with a name.
 pub fn store_number(app: &App, name: &Name) -> u32
     requires { CanRun app.now }
     ensures { result ≡ store_number app.now name.now }
 {
     store_among(app.stores.as_slice(), name) as u32
+}
+
+// The names of the stores, by their numbers.
+pub fn store_names(alloc: Global, app: &App) -> Result<Vec<Name>, NoMemory>
+    ensures { IfOk result (λ names. names.items ≡ store_names app.now) }
+{
+    let names = app.stores.as_slice().iter().map(|store| store.name);
+    match names.collect(alloc) {
+        Ok(names) => Ok(names),
+        Err(_) => Err(NoMemory),
+    }
 }
 
 // Whether a store has a replica in a region.

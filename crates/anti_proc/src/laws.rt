@@ -1,33 +1,44 @@
-ghost use Rattle.std.specs.Prelude.{ℕ, true, false};
+ghost use Rattle.std.specs.Prelude.{ℕ, ◌≤◌, List, true, false, length, IsTrue};
+ghost use Rattle.anti_ids.specs.Ids.{IsLineage};
 ghost use Rattle.anti_ids.specs.declared.id.WriteId.{WriteId};
 ghost use Rattle.anti_kind.specs.declared.call.Entry.{Entry};
+ghost use Rattle.anti_app.specs.Sound.{is_sound};
 ghost use Rattle.anti_app.specs.declared.app.App.{App};
 ghost use Rattle.anti_lang.specs.Program.{Block, Barrier, DryRun};
 ghost use Rattle.anti_proc.specs.Barriers.{AsksFor, GoesOver, LooksOnceAt};
-ghost use Rattle.anti_proc.specs.Brought.{CarriesLineages, CarriesWhatCame};
-ghost use Rattle.anti_proc.specs.Calls.{AllOfStores};
-ghost use Rattle.anti_proc.specs.Local.{Local, Setting, first_local};
-ghost use Rattle.anti_proc.specs.Meaning.{body_tree, step_tree, tree_of};
+ghost use Rattle.anti_proc.specs.Brought.{CarriesLineages, CarriesWhatCame, came_first};
+ghost use Rattle.anti_proc.specs.Calls.{AllOfProcess};
+ghost use Rattle.anti_proc.specs.Known.{AllKnown, IsReplyAt};
+ghost use Rattle.anti_proc.specs.Local.{Local, Setting};
+ghost use Rattle.anti_proc.specs.Meaning.{begun, step_tree, tree_of};
 
-/// What holds of the calls of every process, and of the looks of its barriers. It does nothing.
+/// What holds of the calls of every process whose message came to an inbox, and of the looks of its barriers. It does nothing.
 pub fn laws_of_processes()
-    ensures stores { (app : App) (birth : Entry) → AllOfStores app (tree_of app birth) }
+    ensures calls { (app : App) (birth : Entry) → length app.stores.items ≤ birth.object → AllOfProcess app (tree_of app birth) }
     ensures barrier { (s : Setting) (l : Local) → GoesOver s l false (step_tree Barrier s l) }
     ensures dry_run { (s : Setting) (l : Local) → GoesOver s l true (step_tree DryRun s l) }
     ensures once { (s : Setting) (l : Local) (store : ℕ) → LooksOnceAt s l store }
     ensures covers { (s : Setting) (l : Local) (i : WriteId) → AsksFor s l i }
 {}
 
-/// What a process carries into a call came to the call's span before, for every body, every value and every list of replies. It does
-/// nothing.
+/// What a process carries into a call came to the call's span before, or came with its message to the first span, for every body, every
+/// value and every list of replies. It does nothing.
 pub fn carries_what_came()
-    ensures bodies { (body : Block) (s : Setting) → CarriesWhatCame (body_tree body s first_local) }
-    ensures processes { (app : App) (birth : Entry) → CarriesWhatCame (tree_of app birth) }
+    ensures bodies { (body : Block) (s : Setting) (ids : List WriteId) → CarriesWhatCame s.app ids (begun body s ids) }
+    ensures processes { (app : App) (birth : Entry) → CarriesWhatCame app (came_first app birth.reply) (tree_of app birth) }
 {}
 
 /// What a process carries into a call is a lineage, for every body and every value, where the rows that it was shown have lineages. It
 /// does nothing.
 pub fn carries_lineages()
-    ensures bodies { (body : Block) (s : Setting) → CarriesLineages (body_tree body s first_local) }
+    ensures bodies { (body : Block) (s : Setting) (ids : List WriteId) → IsLineage ids → CarriesLineages (begun body s ids) }
     ensures processes { (app : App) (birth : Entry) → CarriesLineages (tree_of app birth) }
+{}
+
+/// A process of a sound application, whose message came to an inbox and is known, makes known calls as long as the replies to them are
+/// known: it writes to keys that are names, it writes, looks for and carries lineages over the application's stores, and what it posts is
+/// for a handler that is there, is not too deep and states such a lineage. It does nothing.
+pub fn calls_are_known()
+    ensures { (app : App) (birth : Entry) → IsTrue (is_sound app) → length app.stores.items ≤ birth.object
+        → IsReplyAt app birth.object birth.reply → AllKnown app (tree_of app birth) }
 {}

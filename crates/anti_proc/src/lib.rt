@@ -2,9 +2,12 @@
 #![tactic(auto)]
 
 mod adding;
+mod calls;
 mod find;
+mod foreign;
 mod given;
 mod laws;
+mod messages;
 mod next;
 mod place;
 mod process;
@@ -15,6 +18,7 @@ mod variables;
 mod want;
 mod words;
 
-pub use laws::{carries_lineages, carries_what_came, laws_of_processes};
+pub use given::MOST_DEPTH;
+pub use laws::{calls_are_known, carries_lineages, carries_what_came, laws_of_processes};
 pub use process::Process;
-pub use want::{End, Want};
+pub use want::{End, ProcFault, Want};

@@ -1,8 +1,9 @@
 ghost use Rattle.std.specs.Prelude.{◌≡◌, reverse, IfOk};
 ghost use Rattle.anti_proc.specs.Local.{Setting, Local};
-ghost use Rattle.anti_proc.specs.Meaning.{Go, looks};
-ghost use Rattle.anti_proc.specs.Standing.{next_or};
+ghost use Rattle.anti_proc.specs.Meaning.{Go, leave_by, looks};
+ghost use Rattle.anti_proc.specs.Standing.{next_or, next_tree};
 
+use crate::given::Duty;
 use crate::want::End;
 use anti_ids::{Copies, List, Name, NoMemory, Value};
 use anti_shim::{Looks, PlannedLook};
@@ -42,6 +43,24 @@ pub enum Next {
         look: PlannedLook,
         later: Looks,
         dry: bool,
+    },
+    /// Posts a message for a handler to an inbox: a call, whose reply sets the variable, or a send, which has none.
+    Post {
+        inbox: u32,
+        handler: Name,
+        value: Value,
+        variable: Option<Name>,
+    },
+    /// Takes the reply to the call of a number, which sets the variable.
+    Hear {
+        inbox: u32,
+        number: u32,
+        variable: Name,
+    },
+    /// Posts the reply to the call of a number, which the process owes. It is then at its end.
+    Answer {
+        number: u32,
+        end: End,
     },
     /// There is no further call.
     Over(End),
@@ -102,8 +121,45 @@ impl Copies for Next {
                     dry: *dry,
                 })
             }
+            Next::Post {
+                inbox,
+                handler,
+                value,
+                variable,
+            } => {
+                let value = value.copy(alloc)?;
+                Ok(Next::Post {
+                    inbox: *inbox,
+                    handler: *handler,
+                    value,
+                    variable: *variable,
+                })
+            }
+            Next::Hear {
+                inbox,
+                number,
+                variable,
+            } => Ok(Next::Hear {
+                inbox: *inbox,
+                number: *number,
+                variable: *variable,
+            }),
+            Next::Answer { number, end } => Ok(Next::Answer {
+                number: *number,
+                end: *end,
+            }),
             Next::Over(end) => Ok(Next::Over(*end)),
         }
+    }
+}
+
+// The end. A process that owes a reply posts it first.
+pub fn leave(duty: Duty, end: End) -> Next
+    ensures { (s : Setting) (l : Local) (go : Go) → next_tree result s l go ≡ leave_by duty s end l }
+{
+    match duty {
+        Duty::Free => Next::Over(end),
+        Duty::Answers(number) => Next::Answer { number, end },
     }
 }
 

@@ -1,13 +1,14 @@
-ghost use Rattle.std.specs.Prelude.{◌≡◌, ℕ, Some, None, IfOk, OnOk, OnErr};
+ghost use Rattle.std.specs.Prelude.{◌≡◌, ℕ, Some, None, Err, true, false, IfOk, OnOk, OnErr};
 ghost use Rattle.anti_app.specs.declared.app.App.{App};
 ghost use Rattle.anti_proc.specs.Births.{birth_at};
+ghost use Rattle.anti_proc.specs.Foreign.{is_foreign, is_foreign_birth};
 ghost use Rattle.anti_proc.specs.Meaning.{tree_of};
 ghost use Rattle.anti_proc.specs.Running.{CanRun, IsRunOf};
 ghost use Rattle.anti_proc.specs.Standing.{birth_of, clock_of, full_of, process_of};
 ghost use Rattle.anti_proc.specs.Trees.{IsAskedAt, branch, want_of, end_of};
 
 use crate::run::Run;
-use crate::want::{End, Want};
+use crate::want::{End, ProcFault, Want};
 use anti_app::App;
 use anti_ids::{Copies, NoMemory};
 use anti_kind::{Birth, Entry, Reply};
@@ -24,17 +25,20 @@ pub struct Process {
 }
 
 impl Process {
-    /// The process that an entry of the application starts. One that starts none gives a process with nothing to do.
-    pub fn born(alloc: Global, app: &App, entry: &Entry) -> Result<Process, NoMemory>
+    /// The process that an entry of the application starts. `Foreign` comes exactly where its message is not of the application: it names
+    /// no handler of the service, or is too deep, or has baggage that is no text of a lineage over the stores. An entry that takes no
+    /// message gives a process with nothing to do.
+    pub fn born(alloc: Global, app: &App, entry: &Entry) -> Result<Process, ProcFault>
         requires { CanRun app.now }
         ensures run { IfOk result (λ p. IsRunOf app.now p) }
         ensures stands { IfOk result (λ p. process_of app.now p ≡ tree_of app.now entry.now) }
         ensures clock { IfOk result (λ p. clock_of p ≡ entry.now.stamp) }
         ensures birth { IfOk result (λ p. birth_of p ≡ birth_at entry.now) }
         ensures full { IfOk result (λ p. full_of p ≡ None) }
+        ensures known { IfOk result (λ p. is_foreign_birth app.now entry.now.object entry.now.reply ≡ false) }
+        ensures foreign { result ≡ Err ProcFault.Foreign → is_foreign_birth app.now entry.now.object entry.now.reply ≡ true }
     {
-        let service = (entry.object as usize).saturating_sub(app.stores.len());
-        let run = Run::started(alloc, app, service, &entry.reply)?;
+        let run = Run::started(alloc, app, entry.object, &entry.reply)?;
         Ok(Process {
             birth: Birth {
                 object: entry.object,
@@ -47,13 +51,15 @@ impl Process {
     }
 
     /// The next call, or the end.
-    pub fn next(&self, _app: &App) -> Result<Want, NoMemory>
-        ensures going { full_of self.now ≡ None → IfOk result (λ w. w ≡ want_of (process_of _app.now self.now)) }
+    pub fn next(&self, app: &App) -> Result<Want, NoMemory>
+        requires app { CanRun app.now }
+        requires run { IsRunOf app.now self.now }
+        ensures going { full_of self.now ≡ None → IfOk result (λ w. w ≡ want_of (process_of app.now self.now)) }
         ensures full { (object : ℕ) → full_of self.now ≡ Some object → IfOk result (λ w. w ≡ Want.Over (End.StoreFull object)) }
     {
         match self.full {
             Some(object) => Ok(Want::Over(End::StoreFull(object))),
-            None => self.run.next(),
+            None => self.run.next(app),
         }
     }
 
@@ -68,8 +74,10 @@ impl Process {
         }
     }
 
-    /// Takes the reply to its next call, with the stamp of the entry. Where memory is wanting the process is as it was.
-    pub fn feed(&mut self, app: &App, stamp: u64, reply: &Reply) -> Result<(), NoMemory>
+    /// Takes the reply to its next call, with the stamp of the entry. `Foreign` comes exactly where the reply's message has baggage that is
+    /// no text of a lineage over the stores, or a lineage in the reply has an id of a store that the application has not. After a refusal
+    /// the process is as it was.
+    pub fn feed(&mut self, app: &App, stamp: u64, reply: &Reply) -> Result<(), ProcFault>
         requires app { CanRun app.now }
         requires run { IsRunOf app.now self.old }
         ensures run { IsRunOf app.now self.new }
@@ -77,9 +85,12 @@ impl Process {
         ensures clock { OnOk result (clock_of self.new ≡ stamp) }
         ensures birth { birth_of self.new ≡ birth_of self.old }
         ensures full { full_of self.new ≡ full_of self.old }
+        ensures known { OnOk result (is_foreign app.now reply.now ≡ false) }
+        ensures foreign { result ≡ Err ProcFault.Foreign → is_foreign app.now reply.now ≡ true }
         ensures refused { OnErr result (self.new ≡ self.old) }
     {
-        self.run = self.run.after(app, reply)?;
+        let run = self.run.after(app, reply)?;
+        self.run = run;
         self.clock = stamp;
         Ok(())
     }

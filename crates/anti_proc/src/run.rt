@@ -1,20 +1,26 @@
-ghost use Rattle.std.specs.Prelude.{◌≡◌, ◌+◌, ◌^◌, ◌<◌, ◌≤◌, length, IfOk, OnOk};
+ghost use Rattle.std.specs.Prelude.{◌≡◌, ◌<◌, ◌≤◌, Err, true, false, IfOk, OnOk};
 ghost use Rattle.anti_app.specs.declared.app.App.{App};
-ghost use Rattle.anti_proc.specs.Meaning.{after_read, after_write, process_tree, started};
+ghost use Rattle.anti_proc.specs.Brought.{came_first};
+ghost use Rattle.anti_proc.specs.Foreign.{is_foreign, is_foreign_birth, is_foreign_to};
+ghost use Rattle.anti_proc.specs.Meaning.{after_read, after_reply, after_write, begun, process_tree, started};
+ghost use Rattle.anti_proc.specs.Numbers.{body_of, handler_number, service_at};
 ghost use Rattle.anti_proc.specs.Running.{CanRun, HasSpans};
-ghost use Rattle.anti_proc.specs.Standing.{going, local_of, next_or, next_tree, run_of, setting_of};
-ghost use Rattle.anti_proc.specs.Trees.{branch, end_of, want_of};
+ghost use Rattle.anti_proc.specs.Standing.{going, local_of, next_or, next_tree, run_of, setting, setting_of};
+ghost use Rattle.anti_proc.specs.Trees.{Ends, branch, end_of, want_of};
 
-use crate::find::{body_of, handler_number, region_of};
-use crate::given::Given;
-use crate::next::{Next, look_of};
+use crate::calls::want;
+use crate::find::{body_of, handler_number, service_at};
+use crate::foreign::{brought, brought_to};
+use crate::given::{Duty, Given, MOST_DEPTH};
+use crate::messages::hear;
+use crate::next::{Next, leave, look_of};
 use crate::place::Place;
 use crate::state::State;
 use crate::statements::{Does, run};
-use crate::want::{End, Want};
+use crate::want::{End, ProcFault, Want};
 use anti_app::App;
-use anti_ids::{Copies, Name, NoMemory, Value};
-use anti_kind::{Call, Reply};
+use anti_ids::{Copies, Lineage, MOST_IDS, Name, NoMemory, Value};
+use anti_kind::{Message, Reply};
 use std::alloc::Global;
 
 /// A handler between two of its calls: how far it is in its body, what it knows, and its next call.
@@ -30,49 +36,93 @@ pub struct Run {
 }
 
 impl Run {
-    // The run of a handler on a value, from its first statement on.
-    fn begun(
-        alloc: Global,
-        app: &App,
-        service: usize,
-        handler: usize,
-        input: Value,
-    ) -> Result<Run, NoMemory>
+    // The run of the handler that is given, from its first statement on, which carries what came with its message.
+    fn begun(app: &App, given: Given, carried: Lineage) -> Result<Run, NoMemory>
         requires { CanRun app.now }
-        ensures tree { IfOk result (λ r. run_of app.now r ≡ process_tree app.now service handler input) }
+        ensures tree { IfOk result (λ r. run_of app.now r
+            ≡ begun (body_of app.now (service_at app.now given.inbox) (handler_number app.now (service_at app.now given.inbox) given.handler)) (setting app.now given) carried) }
         ensures spans { IfOk result (λ r. HasSpans app.now r) }
+        ensures stays { IfOk result (λ r. r.given ≡ given) }
     {
-        let region = region_of(app, service);
+        // as each lineage
+        let short = carried.len() as usize <= MOST_IDS;
+        prove!(short);
+        let service = service_at(app, given.inbox);
+        let handler = handler_number(app, service, &given.handler);
         let mut run = Run {
             service,
             handler,
-            given: Given {
-                alloc,
-                region,
-                input,
-            },
-            place: Place::start(alloc),
-            state: State::first(alloc),
+            place: Place::start(given.alloc),
+            state: State::first(given.alloc, carried),
             next: Next::Over(End::Fine),
+            given,
         };
         run.settle(app)?;
         Ok(run)
     }
 
-    // The run that the reply to a call on the inbox of a service starts. One that starts none has nothing to do.
-    pub fn started(alloc: Global, app: &App, service: usize, reply: &Reply) -> Result<Run, NoMemory>
+    // The run that a message starts that was taken from the inbox of a service.
+    fn of_message(
+        alloc: Global,
+        app: &App,
+        inbox: u32,
+        number: u32,
+        message: &Message,
+    ) -> Result<Run, ProcFault>
         requires { CanRun app.now }
-        ensures tree { IfOk result (λ r. run_of app.now r ≡ started app.now service reply.now) }
+        ensures tree { IfOk result (λ r. run_of app.now r ≡ process_tree app.now inbox number message.now) }
         ensures spans { IfOk result (λ r. HasSpans app.now r) }
+        ensures depth { IfOk result (λ r. r.given.depth ≤ MOST_DEPTH) }
+        ensures known { OnOk result (is_foreign_to app.now inbox message.now ≡ false) }
+        ensures foreign { result ≡ Err ProcFault.Foreign → is_foreign_to app.now inbox message.now ≡ true }
     {
-        match reply {
-            Reply::Got { message, .. } => {
-                let handler = handler_number(app, service, &message.handler);
-                let input = message.value.copy(alloc)?;
-                Run::begun(alloc, app, service, handler, input)
-            }
-            _ => Run::begun(alloc, app, app.services.len(), 0, Value::empty(alloc)),
+        let carried = brought_to(alloc, app, inbox, message)?;
+        let given = Given::of(alloc, app, inbox, number, message)?;
+        Ok(Run::begun(app, given, carried)?)
+    }
+
+    // The run that has nothing to do.
+    fn idle(alloc: Global) -> Run
+        ensures tree { (app : App) → run_of app result ≡ Ends End.Fine }
+        ensures spans { (app : App) → CanRun app → HasSpans app result }
+        ensures depth { result.given.depth ≡ 0 }
+    {
+        // it posts nothing, so the name is told to no one
+        let Ok(handler) = Name::new(b"none") else {
+            unreachable!()
+        };
+        Run {
+            service: 0,
+            handler: 0,
+            given: Given {
+                alloc,
+                inbox: 0,
+                handler,
+                region: 0,
+                depth: 0,
+                duty: Duty::Free,
+                input: Value::empty(alloc),
+            },
+            place: Place::start(alloc),
+            state: State::first(alloc, Lineage::root(alloc)),
+            next: Next::Over(End::Fine),
         }
+    }
+
+    /// The run that the reply to a call on an inbox starts. One that takes no message has nothing to do.
+    pub fn started(alloc: Global, app: &App, inbox: u32, reply: &Reply) -> Result<Run, ProcFault>
+        requires { CanRun app.now }
+        ensures tree { IfOk result (λ r. run_of app.now r ≡ started app.now inbox reply.now) }
+        ensures spans { IfOk result (λ r. HasSpans app.now r) }
+        ensures depth { IfOk result (λ r. r.given.depth ≤ MOST_DEPTH) }
+        ensures known { OnOk result (is_foreign_birth app.now inbox reply.now ≡ false) }
+        ensures foreign { result ≡ Err ProcFault.Foreign → is_foreign_birth app.now inbox reply.now ≡ true }
+    {
+        if let Reply::Got { number, message } = reply {
+            return Run::of_message(alloc, app, inbox, *number, message);
+        }
+        brought(alloc, app, reply)?;
+        Ok(Run::idle(alloc))
     }
 
     // Goes on to the next call of the body, past the statements that make none.
@@ -81,6 +131,7 @@ impl Run {
         requires spans { HasSpans app.now self.old }
         ensures goes { OnOk result (run_of app.now self.new ≡ going app.now self.old (local_of self.old.state)) }
         ensures spans { OnOk result (HasSpans app.now self.new) }
+        ensures stays { OnOk result (self.new.given ≡ self.old.given) }
     {
         let body = body_of(app, self.service, self.handler);
         while let Some(statement) = self.place.next_line(body) {
@@ -93,53 +144,16 @@ impl Run {
                 Does::Block(turns) => self.place.enter(turns)?,
             }
         }
-        self.next = Next::Over(End::Fine);
+        self.next = leave(self.given.duty, End::Fine);
         Ok(())
     }
 
     /// The next call, or the end.
-    pub fn next(&self) -> Result<Want, NoMemory>
-        ensures { (app : App) → IfOk result (λ w. w ≡ want_of (run_of app self.now)) }
+    pub fn next(&self, app: &App) -> Result<Want, NoMemory>
+        requires { self.now.given.depth ≤ MOST_DEPTH }
+        ensures { IfOk result (λ w. w ≡ want_of (run_of app.now self.now)) }
     {
-        let region = self.given.region;
-        let (object, call) = match &self.next {
-            Next::Write {
-                store,
-                key,
-                value,
-                ..
-            } => (
-                *store,
-                Call::Write {
-                    key: *key,
-                    value: value.copy(self.given.alloc)?,
-                    lineage: self.state.carried.copy(self.given.alloc)?,
-                },
-            ),
-            Next::Read { store, key, .. } => (*store, Call::Read { region, key: *key }),
-            Next::Scan { store, prefix, .. } => (
-                *store,
-                Call::Scan {
-                    region,
-                    prefix: *prefix,
-                },
-            ),
-            Next::Poll { store, key, .. } => (*store, Call::Poll { region, key: *key }),
-            Next::Look { look, dry, .. } => (
-                look.store,
-                Call::Look {
-                    region,
-                    ids: look.ids.copy(self.given.alloc)?,
-                    dry: *dry,
-                },
-            ),
-            Next::Over(end) => return Ok(Want::Over(*end)),
-        };
-        Ok(Want::Make {
-            object,
-            span: self.state.span,
-            call,
-        })
+        want(&self.given, &self.state, app, &self.next)
     }
 
     /// How it ended, where it has no further call. It takes no memory.
@@ -158,6 +172,7 @@ impl Run {
         requires spans { HasSpans app.now self.old }
         ensures goes { OnOk result (run_of app.now self.new ≡ next_or next (setting_of app.now self.old) (local_of self.old.state) (going app.now self.old)) }
         ensures spans { OnOk result (HasSpans app.now self.new) }
+        ensures stays { OnOk result (self.new.given ≡ self.old.given) }
     {
         match next {
             Some(next) => {
@@ -174,6 +189,7 @@ impl Run {
         requires spans { HasSpans app.now self.old }
         ensures goes { OnOk result (run_of app.now self.new ≡ after_read store variable (local_of self.old.state) (going app.now self.old) reply.now) }
         ensures spans { OnOk result (HasSpans app.now self.new) }
+        ensures stays { OnOk result (self.new.given ≡ self.old.given) }
     {
         self.state.saw(self.given.alloc, store, variable, reply)?;
         self.settle(app)
@@ -192,17 +208,46 @@ impl Run {
         requires spans { HasSpans app.now self.old }
         ensures goes { OnOk result (run_of app.now self.new ≡ after_write store variable untracked (local_of self.old.state) (going app.now self.old) reply.now) }
         ensures spans { OnOk result (HasSpans app.now self.new) }
+        ensures stays { OnOk result (self.new.given ≡ self.old.given) }
     {
         let next = self.state.wrote(store, variable, untracked, reply)?;
         self.go_on(app, next)
     }
 
-    // Takes the reply to a call, and goes on.
-    fn take(&mut self, app: &App, call: &Next, reply: &Reply) -> Result<(), NoMemory>
+    // Takes the reply to a call of a handler, which brings a lineage, and goes on.
+    fn heard(
+        &mut self,
+        app: &App,
+        variable: Name,
+        brought: &Lineage,
+        reply: &Reply,
+    ) -> Result<(), NoMemory>
         requires app { CanRun app.now }
         requires spans { HasSpans app.now self.old }
+        requires brought { brought.now ≡ came_first app.now reply.now }
+        ensures goes { OnOk result (run_of app.now self.new ≡ after_reply (setting_of app.now self.old) variable (local_of self.old.state) (going app.now self.old) reply.now) }
+        ensures spans { OnOk result (HasSpans app.now self.new) }
+        ensures stays { OnOk result (self.new.given ≡ self.old.given) }
+    {
+        let alloc = self.given.alloc;
+        let next = self.state.heard(alloc, variable, brought, reply)?;
+        self.go_on(app, next)
+    }
+
+    // Takes the reply to a call, which brings a lineage, and goes on.
+    fn take(
+        &mut self,
+        app: &App,
+        call: &Next,
+        brought: &Lineage,
+        reply: &Reply,
+    ) -> Result<(), NoMemory>
+        requires app { CanRun app.now }
+        requires spans { HasSpans app.now self.old }
+        requires brought { brought.now ≡ came_first app.now reply.now }
         ensures goes { OnOk result (run_of app.now self.new ≡ branch (next_tree call.now (setting_of app.now self.old) (local_of self.old.state) (going app.now self.old)) reply.now) }
         ensures spans { OnOk result (HasSpans app.now self.new) }
+        ensures stays { OnOk result (self.new.given ≡ self.old.given) }
     {
         match call {
             Next::Write {
@@ -215,13 +260,13 @@ impl Run {
                 store,
                 variable,
                 ..
-            } => self.saw(app, *store, *variable, reply),
-            Next::Scan {
+            }
+            | Next::Scan {
                 store,
                 variable,
                 ..
-            } => self.saw(app, *store, *variable, reply),
-            Next::Poll {
+            }
+            | Next::Poll {
                 store,
                 variable,
                 ..
@@ -230,22 +275,33 @@ impl Run {
                 let left = later.copy(self.given.alloc)?;
                 self.go_on(app, look_of(left, *dry))
             }
-            Next::Over(end) => {
+            Next::Post {
+                inbox,
+                variable,
+                ..
+            } => self.go_on(app, hear(*inbox, *variable, reply)),
+            Next::Hear { variable, .. } => self.heard(app, *variable, brought, reply),
+            Next::Answer { end, .. } | Next::Over(end) => {
                 self.next = Next::Over(*end);
                 Ok(())
             }
         }
     }
 
-    /// The run after the reply to its next call.
-    pub fn after(&self, app: &App, reply: &Reply) -> Result<Run, NoMemory>
+    /// The run after the reply to its next call. `Foreign` comes exactly where the reply is foreign.
+    pub fn after(&self, app: &App, reply: &Reply) -> Result<Run, ProcFault>
         requires app { CanRun app.now }
         requires spans { HasSpans app.now self.now }
         ensures goes { IfOk result (λ r. run_of app.now r ≡ branch (run_of app.now self.now) reply.now) }
         ensures spans { IfOk result (λ r. HasSpans app.now r) }
+        ensures stays { IfOk result (λ r. r.given ≡ self.now.given) }
+        ensures known { OnOk result (is_foreign app.now reply.now ≡ false) }
+        ensures foreign { result ≡ Err ProcFault.Foreign → is_foreign app.now reply.now ≡ true }
     {
-        let mut run = self.copy(self.given.alloc)?;
-        run.take(app, &self.next, reply)?;
+        let alloc = self.given.alloc;
+        let brought = brought(alloc, app, reply)?;
+        let mut run = self.copy(alloc)?;
+        run.take(app, &self.next, &brought, reply)?;
         Ok(run)
     }
 }

@@ -1,9 +1,10 @@
 ghost use Rattle.std.specs.Prelude.{◌≡◌, ◌+◌, ◌^◌, ◌<◌, ◌≤◌, true, IfOk, OnOk};
-ghost use Rattle.anti_proc.specs.Local.{Setting, Local, first_local, is_absent, new_span, removed, held, rooted, set_or};
-ghost use Rattle.anti_proc.specs.Meaning.{Go, add, after_read, after_write, wrote};
+ghost use Rattle.anti_proc.specs.Brought.{came_first};
+ghost use Rattle.anti_proc.specs.Local.{Setting, first_local, is_absent, new_span, removed, held, rooted, set_or};
+ghost use Rattle.anti_proc.specs.Meaning.{Go, add, after_read, after_reply, after_write, wrote};
 ghost use Rattle.anti_proc.specs.Standing.{local_of, next_or};
 
-use crate::adding::{add, all_absent};
+use crate::adding::{add, all_absent, carry};
 use crate::next::Next;
 use crate::variables::{Held, Variables, held_in, set};
 use anti_ids::{Copies, Lineage, List, Name, NoMemory, Value, WriteId};
@@ -24,14 +25,14 @@ pub struct State {
 }
 
 impl State {
-    /// What a process knows at its birth. It takes no memory.
-    pub fn first(alloc: Global) -> State
-        ensures { local_of result ≡ first_local }
+    /// What a process knows at its birth, when it carries what came with its message. It takes no memory.
+    pub fn first(alloc: Global, carried: Lineage) -> State
+        ensures { local_of result ≡ record first_local { carried = carried } }
     {
         State {
             span: 1,
             stopped: false,
-            carried: Lineage::root(alloc),
+            carried,
             variables: List::new(alloc),
             reply: Value::empty(alloc),
         }
@@ -171,6 +172,29 @@ impl State {
                 set(&mut self.variables, variable, Held::Saw { store, rows })
             }
             _ => Ok(()),
+        }
+    }
+
+    /// Takes the reply to a call, which brings the ids of a lineage. Where they are too many the process ends.
+    pub fn heard(
+        &mut self,
+        alloc: Global,
+        variable: Name,
+        brought: &Lineage,
+        reply: &Reply,
+    ) -> Result<Option<Next>, NoMemory>
+        ensures goes { IfOk result (λ next. (s : Setting) (go : Go) → brought.now ≡ came_first s.app reply.now → next_or next s (local_of self.new) go
+            ≡ after_reply s variable (local_of self.old) go reply.now) }
+        ensures span { OnOk result (self.new.span ≡ self.old.span) }
+    {
+        match reply {
+            Reply::Got { message, .. } => {
+                let value = message.value.copy(alloc)?;
+                let next = carry(&mut self.carried, brought)?;
+                set(&mut self.variables, variable, Held::Heard(value))?;
+                Ok(next)
+            }
+            _ => Ok(None),
         }
     }
 }

@@ -1,25 +1,26 @@
-ghost use Rattle.std.specs.Prelude.{◌≡◌, ◌+◌, ◌^◌, ◌<◌, ◌≤◌, IfOk};
+ghost use Rattle.std.specs.Prelude.{◌≡◌, ◌+◌, ◌^◌, ◌<◌, ◌≤◌, true, IfOk};
 ghost use Rattle.anti_app.specs.declared.app.App.{App};
-ghost use Rattle.anti_kind.specs.declared.call.Call.TheVariants as calls;
 ghost use Rattle.anti_lang.specs.Bodies.{step_of};
-ghost use Rattle.anti_lang.specs.Program.{Block};
+ghost use Rattle.anti_lang.specs.Program as program;
 ghost use Rattle.anti_lang.specs.Program.{Block};
 ghost use Rattle.anti_lang.specs.Spans.{spans_in};
-ghost use Rattle.anti_proc.specs.Local.{Setting, Local};
-ghost use Rattle.anti_proc.specs.Meaning.{Go, looks, planned, read_call, step_tree, with_key, write_call};
+ghost use Rattle.anti_proc.specs.Local.{Setting, Local, text_of};
+ghost use Rattle.anti_proc.specs.Meaning.{Go, if_deep, looks, planned, post_call, step_tree, with_key, write_call};
+ghost use Rattle.anti_proc.specs.Numbers.{inbox_of};
 ghost use Rattle.anti_proc.specs.Places.{block_in, step_weight};
 ghost use Rattle.anti_proc.specs.Running.{CanRun};
 ghost use Rattle.anti_proc.specs.Standing.{does_or, does_tree, local_of, next_or, next_tree, setting, spans_done, weight_done};
+ghost use Rattle.anti_proc.specs.Statements.{is_at_store};
 
-use crate::find::{store_number, stores_here};
-use crate::given::Given;
-use crate::next::{Next, last_first, look_of};
+use crate::find::{inbox_of, store_number, stores_here};
+use crate::given::{Given, MOST_DEPTH};
+use crate::next::{Next, last_first, leave, look_of};
 use crate::state::State;
 use crate::want::End;
 use crate::words::{cell_key, plain_key, text_of};
 use anti_app::App;
 use anti_ids::{Name, NoMemory, Value};
-use anti_lang::Statement;
+use anti_lang::{KeyWord, Statement, ValueWord};
 use anti_shim::plan;
 
 /// What a statement comes to.
@@ -46,13 +47,15 @@ fn does_or(next: Option<Next>) -> Does
 
 // A write of a store under a key, where it is one.
 fn write(
+    given: &Given,
     store: u32,
     key: Option<Name>,
     value: Value,
     variable: Option<Name>,
     untracked: bool,
 ) -> Next
-    ensures { (s : Setting) (l : Local) (go : Go) → next_tree result s l go ≡ with_key key (write_call store value variable untracked l go) }
+    ensures { (app : App) (l : Local) (go : Go) → next_tree result (setting app given.now) l go
+        ≡ with_key (setting app given.now) l key (write_call store value variable untracked l go) }
 {
     match key {
         Some(key) => Next::Write {
@@ -62,36 +65,82 @@ fn write(
             variable,
             untracked,
         },
-        None => Next::Over(End::BadKey),
+        None => leave(given.duty, End::BadKey),
     }
 }
 
 // A read of a key of a store, where it is one.
-fn read(store: u32, key: Option<Name>, variable: Name) -> Next
-    ensures { (s : Setting) (l : Local) (go : Go) → next_tree result s l go ≡ with_key key (read_call store (calls.Read s.region) variable l go) }
+fn read(
+    given: &Given,
+    state: &State,
+    app: &App,
+    store: &Name,
+    key: &KeyWord,
+    variable: Name,
+) -> Result<Next, NoMemory>
+    requires { CanRun app.now }
+    ensures { IfOk result (λ next. (go : Go) → next_tree next (setting app.now given.now) (local_of state.now) go
+        ≡ step_tree (program.Read store.now key.now variable) (setting app.now given.now) (local_of state.now) go) }
 {
-    match key {
-        Some(key) => Next::Read {
-            store,
+    match plain_key(given, &state.variables, key)? {
+        Some(key) => Ok(Next::Read {
+            store: store_number(app, store),
             key,
             variable,
-        },
-        None => Next::Over(End::BadKey),
+        }),
+        None => Ok(leave(given.duty, End::BadKey)),
     }
 }
 
 // A poll of a cell of a store, where its key is one.
-fn poll(store: u32, key: Option<Name>, variable: Name) -> Next
-    ensures { (s : Setting) (l : Local) (go : Go) → next_tree result s l go ≡ with_key key (read_call store (calls.Poll s.region) variable l go) }
+fn poll(
+    given: &Given,
+    state: &State,
+    app: &App,
+    store: &Name,
+    key: &KeyWord,
+    variable: Name,
+) -> Result<Next, NoMemory>
+    requires { CanRun app.now }
+    ensures { IfOk result (λ next. (go : Go) → next_tree next (setting app.now given.now) (local_of state.now) go
+        ≡ step_tree (program.Poll store.now key.now variable) (setting app.now given.now) (local_of state.now) go) }
 {
-    match key {
-        Some(key) => Next::Poll {
-            store,
+    match cell_key(given, &state.variables, key)? {
+        Some(key) => Ok(Next::Poll {
+            store: store_number(app, store),
             key,
             variable,
-        },
-        None => Next::Over(End::BadKey),
+        }),
+        None => Ok(leave(given.duty, End::BadKey)),
     }
+}
+
+// A message to a handler of a service, where it would not be too deep.
+fn post(
+    given: &Given,
+    state: &State,
+    app: &App,
+    service: &Name,
+    handler: &Name,
+    value: &ValueWord,
+    variable: Option<Name>,
+) -> Result<Next, NoMemory>
+    requires { CanRun app.now }
+    ensures { IfOk result (λ next. (go : Go) → next_tree next (setting app.now given.now) (local_of state.now) go
+        ≡ if_deep (setting app.now given.now) (local_of state.now)
+        (post_call (inbox_of app.now service.now) handler.now (text_of given.now.input state.now.variables.items value.now) variable
+        (setting app.now given.now) (local_of state.now) go)) }
+{
+    if given.depth >= MOST_DEPTH {
+        return Ok(leave(given.duty, End::Depth));
+    }
+    let value = text_of(given, &state.variables, value)?;
+    Ok(Next::Post {
+        inbox: inbox_of(app, service),
+        handler: *handler,
+        value,
+        variable,
+    })
 }
 
 // The first look of a barrier; `None` where it makes none.
@@ -104,6 +153,49 @@ fn first_look(given: &Given, state: &State, app: &App, dry: bool) -> Result<Opti
     let planned = plan(given.alloc, here.as_slice(), &state.carried)?;
     let left = last_first(given.alloc, planned)?;
     Ok(look_of(left, dry))
+}
+
+// The call of a statement that is a write or a read of a store, or the end.
+fn call_of(given: &Given, state: &State, app: &App, statement: &Statement) -> Result<Next, NoMemory>
+    requires app { CanRun app.now }
+    requires store { is_at_store (step_of statement.now) ≡ true }
+    ensures { IfOk result (λ next. (go : Go) → next_tree next (setting app.now given.now) (local_of state.now) go
+        ≡ step_tree (step_of statement.now) (setting app.now given.now) (local_of state.now) go) }
+{
+    match statement {
+        Statement::Write {
+            store,
+            key,
+            value,
+            variable,
+            untracked,
+        } => {
+            let store = store_number(app, store);
+            let key = plain_key(given, &state.variables, key)?;
+            let value = text_of(given, &state.variables, value)?;
+            Ok(write(given, store, key, value, *variable, *untracked))
+        }
+        Statement::Read {
+            store,
+            key,
+            variable,
+        } => read(given, state, app, store, key, *variable),
+        Statement::Scan {
+            store,
+            prefix,
+            variable,
+        } => Ok(Next::Scan {
+            store: store_number(app, store),
+            prefix: *prefix,
+            variable: *variable,
+        }),
+        Statement::Poll {
+            store,
+            key,
+            variable,
+        } => poll(given, state, app, store, key, *variable),
+        _ => unreachable!(),
+    }
 }
 
 /// Runs a statement as far as its first call or its block.
@@ -120,20 +212,7 @@ pub fn run(
     ensures weight { IfOk result (λ does. weight_done does (block_in (step_of statement.now)) < step_weight (step_of statement.now)) }
     ensures spans { IfOk result (λ does. state.new.span + spans_done does (block_in (step_of statement.now)) ≤ state.old.span + spans_in (step_of statement.now)) }
 {
-    let alloc = given.alloc;
     match statement {
-        Statement::Write {
-            store,
-            key,
-            value,
-            variable,
-            untracked,
-        } => {
-            let key = plain_key(given, &state.variables, key)?;
-            let value = text_of(given, &state.variables, value)?;
-            let store = store_number(app, store);
-            Ok(Does::Next(write(store, key, value, *variable, *untracked)))
-        }
         Statement::Append(variable) => Ok(does_or(state.add(variable)?)),
         Statement::Remove(variable) => {
             state.remove(variable);
@@ -142,49 +221,36 @@ pub fn run(
         Statement::Transfer(variable) => Ok(does_or(state.add(variable)?)),
         Statement::Barrier => Ok(does_or(first_look(given, state, app, false)?)),
         Statement::DryRun => Ok(does_or(first_look(given, state, app, true)?)),
-        Statement::Read {
-            store,
-            key,
+        Statement::Call {
+            service,
+            handler,
+            value,
             variable,
-        } => {
-            let key = plain_key(given, &state.variables, key)?;
-            Ok(Does::Next(read(store_number(app, store), key, *variable)))
-        }
-        Statement::Scan {
-            store,
-            prefix,
-            variable,
-        } => Ok(Does::Next(Next::Scan {
-            store: store_number(app, store),
-            prefix: *prefix,
-            variable: *variable,
-        })),
-        Statement::Poll {
-            store,
-            key,
-            variable,
-        } => {
-            let key = cell_key(given, &state.variables, key)?;
-            Ok(Does::Next(poll(store_number(app, store), key, *variable)))
-        }
-        // calls and sends are not built yet, and no application has one: they are passed over
-        Statement::Call { .. } => Ok(Does::On),
-        Statement::Send { .. } => Ok(Does::On),
+        } => Ok(Does::Next(post(given, state, app, service, handler, value, Some(*variable))?)),
+        Statement::Send {
+            service,
+            handler,
+            value,
+        } => Ok(Does::Next(post(given, state, app, service, handler, value, None)?)),
         Statement::Reply(value) => {
             state.reply = text_of(given, &state.variables, value)?;
             Ok(Does::On)
         }
-        Statement::Nack => Ok(Does::Next(Next::Over(End::Fine))),
+        Statement::Nack => Ok(Does::Next(leave(given.duty, End::Fine))),
         Statement::Root => {
-            state.root(alloc);
+            state.root(given.alloc);
             Ok(Does::On)
         }
         Statement::Stop => {
-            state.stop(alloc);
+            state.stop(given.alloc);
             Ok(Does::On)
         }
         Statement::Repeat { count, .. } => Ok(Does::Block(*count)),
         Statement::IfAbsent { variable, .. } if state.is_absent(variable) => Ok(Does::Block(1)),
         Statement::IfAbsent { .. } => Ok(Does::On),
+        Statement::Write { .. }
+        | Statement::Read { .. }
+        | Statement::Scan { .. }
+        | Statement::Poll { .. } => Ok(Does::Next(call_of(given, state, app, statement)?)),
     }
 }

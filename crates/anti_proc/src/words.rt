@@ -83,7 +83,7 @@ pub fn plain_key(
             let text = text_of_variable(given.alloc, variables, name)?;
             Ok(plain_name(text.bytes()))
         }
-        KeyWord::Plain(key) => Ok(Some(*key)),
+        KeyWord::Plain(key) => Ok(plain_name(key.bytes())),
     }
 }
 
@@ -101,6 +101,6 @@ pub fn cell_key(
             let text = text_of_variable(given.alloc, variables, name)?;
             Ok(any_name(text.bytes()))
         }
-        KeyWord::Plain(key) => Ok(Some(*key)),
+        KeyWord::Plain(key) => Ok(any_name(key.bytes())),
     }
 }

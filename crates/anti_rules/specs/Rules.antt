@@ -2,14 +2,12 @@
 -- is meant, and None where it fails it nowhere.
 use Rattle.std.specs.Prelude.{ℕ, codes, List, [], ◌∷◌, length, Bool, true, false, not, ◌&&◌, ◌||◌, nat_le, Option, Some, None, is_some, if◌then◌else◌}
 use Rattle.std.specs.Option.{option_map_or}
-use Rattle.std.specs.Str.{bytes_eq}
 use Rattle.toml.specs.Data.{Data, Members, as_table}
 use Rattle.anti_ids.specs.Names.{is_plain}
-use Rattle.anti_lang.specs.Words.{words}
 use Rattle.anti_lang.specs.declared.fault.LangCode.TheVariants.{Unknown, Block, Variable}
 use Rattle.anti_rules.specs.Trees.{text_of, text_at, has_text, member_in, things_at, things_in, is_one_of, is_among, are_among, are_distinct, name_in, is_named, named, stores_in, services_in, regions_in}
 use Rattle.anti_rules.specs.Keys.{keys_of, are_listed, are_there, all_fit, has_type, has_count, has_range, is_text}
-use Rattle.anti_rules.specs.Statements.{next, body_fault, line_with, bad_line, store_fits, has_handler, handler_exists, is_built}
+use Rattle.anti_rules.specs.Statements.{next, body_fault, line_with, bad_line, store_fits, has_handler, handler_exists}
 use Rattle.anti_rules.specs.declared.rule.Rule.{Rule}
 use Rattle.anti_rules.specs.declared.rule.Rule.TheVariants as rules
 use Rattle.anti_rules.specs.declared.place.Part.{Part}
@@ -163,18 +161,10 @@ abbrev pub rule_24 : Members → Part → Data → Option ℕ
 rule_24 doc Handler d = bad_line (handler_exists doc) d
 rule_24 doc _ d = None
 
--- whether the first of some words is this one
-abbrev pub begins_with : List ℕ → List (List ℕ) → Bool
-begins_with word [] = false
-begins_with word (first ∷ rest) = bytes_eq first word
-
--- 25. Nothing that is not built yet is needed: all stores are kv, there is no sub, no `call` and no `send`, and no choice begins with
---     `repost`.
+-- 25. Nothing that is not built yet is needed: all stores are kv, and there is no sub.
 abbrev pub rule_25 : Part → Data → Option ℕ
 rule_25 Store d = wants (has_text (codes "kind") (codes "kv") d)
 rule_25 Sub d = wants false
-rule_25 Handler d = bad_line is_built d
-rule_25 Choice d = wants (not (begins_with (codes "repost") (words (text_of d))))
 rule_25 _ d = None
 
 -- The rules on a table of a part.

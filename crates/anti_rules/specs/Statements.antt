@@ -74,15 +74,8 @@ handler_exists doc (Does (Call service handler value variable)) = has_handler do
 handler_exists doc (Does (Send service handler value)) = has_handler doc service handler
 handler_exists doc _ = true
 
--- Whether a statement is built yet.
-abbrev pub is_built : Line → Bool
-is_built (Does (Call service handler value variable)) = false
-is_built (Does (Send service handler value)) = false
-is_built _ = true
-
 -- The test that a rule makes of each line of a body.
 abbrev pub line_fits : Rule → Members → List ℕ → Line → Bool
 line_fits rules.StatementStores doc home line = store_fits doc home line
 line_fits rules.StatementHandlers doc home line = handler_exists doc line
-line_fits rules.Built doc home line = is_built line
 line_fits _ doc home line = true

@@ -2,12 +2,11 @@ ghost use Rattle.std.specs.Prelude.{◌≡◌, [], false, map, IfOk, option_map}
 ghost use Rattle.std.specs.Option.{option_map_or};
 ghost use Rattle.toml.specs.View.{view, table_view};
 ghost use Rattle.anti_ids.specs.Names.{is_plain};
-ghost use Rattle.anti_lang.specs.Words.{words};
 ghost use Rattle.anti_rules.specs.Trees.{text_of};
 ghost use Rattle.anti_rules.specs.Keys.{keys_of, fits, all_fit};
 ghost use Rattle.toml.specs.Data.{as_table};
 ghost use Rattle.anti_rules.specs.Statements.{line_with, body_fault, line_fits};
-ghost use Rattle.anti_rules.specs.Rules.{wants, first_other, other_line, is_pulled, home_of, replicas_of, begins_with, table_line, typed_line, shape_line, rule_line, rule_1, rule_2, rule_3, rule_4, rule_5, rule_6, rule_7, rule_8, rule_9, rule_10, rule_11, rule_12, rule_13, rule_14, rule_15, rule_16, rule_17, rule_18, rule_19, rule_20, rule_21, rule_22, rule_23, rule_24, rule_25};
+ghost use Rattle.anti_rules.specs.Rules.{wants, first_other, other_line, is_pulled, home_of, replicas_of, table_line, typed_line, shape_line, rule_line, rule_1, rule_2, rule_3, rule_4, rule_5, rule_6, rule_7, rule_8, rule_9, rule_10, rule_11, rule_12, rule_13, rule_14, rule_15, rule_16, rule_17, rule_18, rule_19, rule_20, rule_21, rule_22, rule_23, rule_24, rule_25};
 
 use crate::body::{bad_line, body_fault, next};
 use crate::keys::keys_of;
@@ -21,7 +20,7 @@ use crate::tree::{
     regions_in, services_in, stores_in, text_at, text_of, things_at, things_in,
 };
 use anti_ids::NoMemory;
-use anti_lang::{LangCode, LangFault, plain_name, words};
+use anti_lang::{LangCode, LangFault, plain_name};
 use std::alloc::Global;
 use toml::{Table, Value};
 
@@ -381,30 +380,14 @@ fn rule_24(alloc: Global, doc: &Table, part: Part, value: &Value) -> Result<Opti
     }
 }
 
-// Whether the first word of a text is this one.
-fn begins_with(alloc: Global, text: &str, word: &str) -> Result<bool, NoMemory>
-    ensures { IfOk result (λ begins. begins ≡ begins_with word.now (words text.now)) }
-{
-    let found = words(alloc, text.as_bytes())?;
-    match found.as_slice() {
-        [first, ..] => Ok(*first == word.as_bytes()),
-        [] => Ok(false),
-    }
-}
-
 // 25. Nothing that is not built yet is needed.
-fn rule_25(alloc: Global, doc: &Table, part: Part, value: &Value) -> Result<Option<u32>, NoMemory>
-    ensures { IfOk result (λ line. line ≡ rule_25 part (view value.now)) }
+fn rule_25(part: Part, value: &Value) -> Option<u32>
+    ensures { result ≡ rule_25 part (view value.now) }
 {
     match part {
-        Part::Store => Ok(wants(has_text(value, "kind", "kv"))),
-        Part::Sub => Ok(wants(false)),
-        Part::Handler => bad_line(alloc, Rule::Built, doc, "", value),
-        Part::Choice => {
-            let begins = begins_with(alloc, text_of(value), "repost")?;
-            Ok(wants(!begins))
-        },
-        _ => Ok(None),
+        Part::Store => wants(has_text(value, "kind", "kv")),
+        Part::Sub => wants(false),
+        _ => None,
     }
 }
 
@@ -491,6 +474,6 @@ pub fn rule_line(
         Rule::Variables => rule_22(alloc, part, value),
         Rule::StatementStores => rule_23(alloc, doc, home, part, value),
         Rule::StatementHandlers => rule_24(alloc, doc, part, value),
-        Rule::Built => rule_25(alloc, doc, part, value),
+        Rule::Built => Ok(rule_25(part, value)),
     }
 }

@@ -3,7 +3,7 @@ ghost use Rattle.toml.specs.View.{view, table_view};
 ghost use Rattle.anti_lang.specs.Lines.{Does};
 ghost use Rattle.anti_lang.specs.Bodies.{step_of};
 ghost use Rattle.anti_lang.specs.Stated.{stated};
-ghost use Rattle.anti_rules.specs.Statements.{is_read_at, is_read, store_fits, has_handler, handler_exists, is_built, line_fits};
+ghost use Rattle.anti_rules.specs.Statements.{is_read_at, is_read, store_fits, has_handler, handler_exists, line_fits};
 
 use crate::rule::Rule;
 use crate::tree::{
@@ -91,26 +91,6 @@ fn handler_exists(doc: &Table, statement: &Statement) -> bool
     }
 }
 
-// Whether a statement is built yet.
-fn is_built(statement: &Statement) -> bool
-    ensures { result ≡ is_built (Does (step_of statement.now)) }
-{
-    match statement {
-        Statement::Call {
-            service: _,
-            handler: _,
-            value: _,
-            variable: _,
-        } => false,
-        Statement::Send {
-            service: _,
-            handler: _,
-            value: _,
-        } => false,
-        _ => true,
-    }
-}
-
 // The test that a rule makes of a statement.
 fn statement_fits(rule: Rule, doc: &Table, home: &str, statement: &Statement) -> bool
     ensures { result ≡ line_fits rule (table_view doc.now) home.now (Does (step_of statement.now)) }
@@ -118,7 +98,6 @@ fn statement_fits(rule: Rule, doc: &Table, home: &str, statement: &Statement) ->
     match rule {
         Rule::StatementStores => store_fits(doc, home, statement),
         Rule::StatementHandlers => handler_exists(doc, statement),
-        Rule::Built => is_built(statement),
         _ => true,
     }
 }

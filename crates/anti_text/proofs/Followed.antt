@@ -1,5 +1,5 @@
 -- A process followed through the front of a trace is followed through one more entry, and what it wants at the end.
-use Rattle.std.proofs.Common.{IfSome, if◌then◌else◌, ◌≡◌, ℕ, ◌+◌, ◌<◌, Bool, true, false, cond, List, [], ◌∷◌, ◌++◌, length, map, take, get_or, Some, None, Option, refl, ap, sym, subst, ◌∙◌, append-nil}
+use Rattle.std.proofs.Common.{IfSome, if◌then◌else◌, ◌≡◌, ℕ, ◌+◌, ◌<◌, Bool, true, false, cond, List, [], ◌∷◌, ◌++◌, length, map, take, get_or, Some, None, Option, Result, Err, refl, ap, sym, subst, ◌∙◌, append-nil}
 use Rattle.std.proofs.lemmas.List.Elements.{filter_more}
 use Rattle.anti_kind.specs.declared.call.Actor.TheVariants as actors
 use Rattle.anti_kind.specs.declared.call.Birth.{Birth}
@@ -10,6 +10,8 @@ use Rattle.anti_proc.specs.declared.process.Process.{Process}
 use Rattle.anti_kind.specs.declared.call.Call.{Call}
 use Rattle.anti_object.specs.Starts.{start_of}
 use Rattle.anti_proc.specs.declared.want.End.TheVariants.{Fine, StoreFull}
+use Rattle.anti_proc.specs.declared.want.ProcFault.{ProcFault}
+use Rattle.anti_proc.specs.declared.want.ProcFault.TheVariants.{Foreign}
 use Rattle.anti_proc.specs.declared.want.Want.{Want}
 use Rattle.anti_proc.specs.declared.want.Want.TheVariants.{Make}
 use Rattle.anti_proc.specs.Meaning.{reply_of, tree_of, process_after}
@@ -22,6 +24,11 @@ use Rattle.anti_text.specs.Processes.{ended_in, end_in, is_full_after}
 after-more : (tree : Tree) (es : List Entry) (e : Entry) → after tree (map reply_of (es ++ e ∷ [])) ≡ branch (after tree (map reply_of es)) e.reply
 after-more tree [] e = refl
 after-more tree (d ∷ es) e = after-more (branch tree d.reply) es e
+
+-- a message or a reply that is of the application is not refused as foreign
+pub not_foreign : {T : Type 0} (result : Result T ProcFault) (fault : ProcFault) (foreign : Bool) → foreign ≡ false → (result ≡ Err Foreign → foreign ≡ true)
+    → result ≡ Err fault → fault ≡ Foreign → ⊥
+not_foreign result fault foreign known told is which = let wrong : foreign ≡ true = told (is ∙ ap Err which) in cc
 
 pub followed_first : (app : App) (e : Entry) (new : Process) → process_of app new ≡ tree_of app e → full_of new ≡ None → IsRunOf app new → IsFollowed app None e new
 followed_first app e new is open' runs [] none = (ap (λ (t : Tree). Some t) (sym is), open', runs)

@@ -1,14 +1,14 @@
 -- An object is replayed through one more entry of its history.
-use Rattle.std.proofs.Common.{Option, Some, None, MatchOption, ◌≡◌, ℕ, ◌+◌, ◌<◌, ◌≤◌, Bool, true, false, cond, List, [], ◌∷◌, ◌++◌, length, take, drop, get_or, refl, ap, sym, subst, ◌∙◌, append-nil, append_assoc, arith}
+use Rattle.std.proofs.Common.{Option, Some, None, MatchOption, ◌≡◌, ℕ, ◌+◌, ◌<◌, ◌≤◌, Bool, true, false, cond, List, [], ◌∷◌, ◌++◌, length, take, drop, get_or, ap, sym, subst, ◌∙◌, append-nil, append_assoc, arith}
 use Rattle.std.proofs.lemmas.List.{take-append-drop}
 use Rattle.std.proofs.lemmas.List.Elements.{filter_more, filter-append}
 use Rattle.anti_kind.specs.declared.call.Call.{Call}
 use Rattle.anti_kind.specs.declared.call.Entry.{Entry}
 use Rattle.anti_kind.specs.Objects.{Start, Follows, IsLegal}
-use Rattle.anti_kind.proofs.Histories.{legal_more, follows_in}
+use Rattle.anti_kind.proofs.Histories.{follows_in}
 use Rattle.anti_app.specs.declared.app.App.{App}
 use Rattle.anti_object.specs.declared.object.Object.{Object}
-use Rattle.anti_object.specs.Standing.{object_start, ObjectStands, ObjectAt, MayMake, IsNew}
+use Rattle.anti_object.specs.Standing.{object_start, ObjectAt, MayMake, IsNew}
 use Rattle.anti_object.specs.Starts.{start_of}
 use Rattle.anti_object.proofs.Starts.{start_past, start_there}
 use Rattle.anti_proc.specs.Numbers.{object_count}
@@ -36,7 +36,7 @@ follows_there start o trace i e lt is on l =
     ∙ append_assoc (entries_on o (take i trace)) (e ∷ []) (entries_on o (drop (i + 1) trace)) in
     follows_in start (entries_on o (take i trace)) e (entries_on o (drop (i + 1) trace)) (subst (IsLegal start) whole l)
 
-module _ (first old new : Object) (o : ℕ) (trace : List Entry) (i : ℕ) (e : Entry)
+module _ (first old : Object) (o : ℕ) (trace : List Entry) (i : ℕ) (e : Entry)
     (lt : i < length trace) (is : e ≡ get_or trace i e) (l : IsLegal (object_start first) (entries_on o trace)) (same : object_start old ≡ object_start first) (at : ObjectAt old (entries_on o (take i trace))) where
   follows : is_on o e ≡ true → Follows (object_start old) (entries_on o (take i trace)) e
   follows on = follows_there (object_start old) o trace i e lt is on (subst (λ (s : Start). IsLegal s (entries_on o trace)) (sym same) l)
@@ -45,18 +45,9 @@ module _ (first old new : Object) (o : ℕ) (trace : List Entry) (i : ℕ) (e : 
   pub may_make : is_on o e ≡ true → MayMake old e.call
   may_make on = let f = follows on in record { history = entries_on o (take i trace); stands_for = at; is_ready = f.is_ready; fits = f.fits }
 
-  pub replayed : is_on o e ≡ true → object_start new ≡ object_start old
-      → ((h : List Entry) (d : Entry) → ObjectAt old h → Follows (object_start old) h d → d.call ≡ e.call → ObjectStands new (h ++ d ∷ []))
+  pub replayed : (new : Object) → is_on o e ≡ true → ((h : List Entry) → ObjectAt old h → Follows (object_start old) h e → ObjectAt new (h ++ e ∷ []))
       → ObjectAt new (entries_on o (take (i + 1) trace))
-  replayed on kept stands =
-      let f = follows on in
-      let h : List Entry = entries_on o (take i trace) in
-      let legal : IsLegal (object_start old) (h ++ e ∷ []) = legal_more (object_start old) h e at.legal f in
-      subst (ObjectAt new) (sym (entries_more o trace i e true lt is on)) (record {
-        sane = rw kept at.sane;
-        legal = rw kept legal;
-        state = stands h e at f refl;
-      })
+  replayed new on stands = subst (ObjectAt new) (sym (entries_more o trace i e true lt is on)) (stands (entries_on o (take i trace)) at (follows on))
 
   pub passed : is_on o e ≡ false → ObjectAt old (entries_on o (take (i + 1) trace))
   passed off = subst (ObjectAt old) (sym (entries_more o trace i e false lt is off ∙ append-nil (entries_on o (take i trace)))) at

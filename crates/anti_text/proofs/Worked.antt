@@ -21,7 +21,7 @@ use Rattle.anti_app.specs.declared.app.StoreDef.{StoreDef}
 use Rattle.anti_text.specs.Entries.{entry_line, wait_line}
 use Rattle.anti_text.specs.Processes.{process_line}
 use Rattle.percent_encoding.specs.Percent.{percent_encode_byte}
-use Rattle.anti_proc.specs.declared.want.End.TheVariants.{Fine, StoreFull}
+use Rattle.anti_proc.specs.declared.want.End.TheVariants.{Fine, Depth, StoreFull}
 use Rattle.std.specs.List.{flat_map}
 use Rattle.anti_text.specs.Words.{lineage_text}
 use Rattle.anti_text.specs.Record.{text_of}
@@ -87,6 +87,10 @@ pub full : process_line app taken (Some (StoreFull 0)) ≡ codes "process w.1 w 
 unfolding digits
 full = refl
 
+pub deep : process_line app taken (Some Depth) ≡ codes "process w.1 w one depth\n"
+unfolding digits
+deep = refl
+
 pub open-yet : process_line app taken None ≡ codes "process w.1 w one open\n"
 unfolding digits
 open-yet = refl
@@ -99,6 +103,6 @@ pub waits : wait_line app 3 ≡ codes "wait 3 ship s eu 1\n"
 unfolding digits
 waits = refl
 
-pub ids : lineage_text app (id_k ∷ record { store = 0; key = codes "j"; version = 12 } ∷ []) ≡ codes "1;s/k@1,s/j@12"
-unfolding digits
+pub ids : lineage_text app (id_k ∷ record { store = 0; key = codes "n#1"; version = 12 } ∷ []) ≡ codes "1;s/k@1,s/n%231@12"
+unfolding digits percent_encode_byte
 ids = refl

@@ -1,6 +1,5 @@
 pub mod Calls
 pub mod Entries
-pub mod Escapes
 pub mod Following
 pub mod Processes
 pub mod Record

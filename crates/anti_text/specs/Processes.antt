@@ -16,7 +16,7 @@ use Rattle.anti_proc.specs.Trees.{want_of}
 use Rattle.anti_proc.specs.declared.want.Want.{Want}
 use Rattle.anti_proc.specs.declared.want.Want.TheVariants.{Make, Over}
 use Rattle.anti_proc.specs.declared.want.End.{End}
-use Rattle.anti_proc.specs.declared.want.End.TheVariants.{Fine, BadKey, LineageFull, StoreFull}
+use Rattle.anti_proc.specs.declared.want.End.TheVariants.{Fine, Depth, BadKey, LineageFull, StoreFull}
 use Rattle.anti_trace.specs.Traces.{is_on, entries_on, entries_by}
 use Rattle.anti_text.specs.Words.{service_name, object_name, mark_text}
 
@@ -38,6 +38,7 @@ end_in app trace birth = ended_in app trace (want_of (process_after app (entries
 
 abbrev pub end_text : App → Option End → List ℕ
 end_text app (Some Fine) = codes "fine"
+end_text app (Some Depth) = codes "depth"
 end_text app (Some BadKey) = codes "badkey"
 end_text app (Some LineageFull) = codes "lineage"
 end_text app (Some (StoreFull object)) = codes "store " ++ object_name app object

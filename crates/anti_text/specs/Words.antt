@@ -1,10 +1,11 @@
 -- The words of the printed record: names, values, ids and lineages.
 use Rattle.std.specs.Prelude.{ℕ, List, [], ◌++◌, ◌-◌, length, codes, decimal, if◌then◌else◌, nat_lt, slice_get}
-use Rattle.std.specs.List.{join_by}
 use Rattle.std.specs.Option.{option_map_or}
 use Rattle.anti_ids.specs.declared.id.WriteId.{WriteId}
 use Rattle.anti_app.specs.declared.app.App.{App}
-use Rattle.anti_text.specs.Escapes.{escaped}
+use Rattle.anti_proc.specs.Numbers.{store_names}
+use Rattle.anti_baggage.specs.Escapes.{escaped}
+use Rattle.anti_baggage.specs.Texts as texts
 
 -- the name of a store, of a service, of a sub and of a region by its number; no text where there is none
 abbrev pub store_name : App → ℕ → List ℕ
@@ -32,10 +33,6 @@ mark_text app object place = object_name app object ++ codes "." ++ decimal plac
 abbrev pub quoted : List ℕ → List ℕ
 quoted value = codes "\"" ++ escaped value ++ codes "\""
 
--- an id, as `posts/p1@3`; the names that an application may have today need no escape
-abbrev pub id_text : App → WriteId → List ℕ
-id_text app id = store_name app id.store ++ codes "/" ++ id.key ++ codes "@" ++ decimal id.version
-
--- a lineage, as `1;posts/p1@3,posts/p2@4`
+-- a lineage, as `1;posts/p1@3,posts/n%231@4`
 abbrev pub lineage_text : App → List WriteId → List ℕ
-lineage_text app ids = codes "1;" ++ join_by (id_text app) (codes ",") ids
+lineage_text app ids = texts.lineage_text (store_names app) ids

@@ -2,7 +2,8 @@ ghost use Rattle.std.specs.Prelude.{◌≡◌, ◌++◌, OnOk};
 ghost use Rattle.anti_text.specs.Calls.{kind_text, value_and_baggage, handler_and_rest, posted_text, key_at_region, part_at_region, call_text};
 
 use crate::output::Output;
-use crate::words::{lineage_text, quoted, region_name};
+use crate::printer::Printer;
+use crate::words::{quoted, region_name};
 use anti_app::App;
 use anti_ids::{Name, NoMemory};
 use anti_kind::{Call, Message, MessageKind};
@@ -85,9 +86,10 @@ fn part_at_region(
 }
 
 /// Writes a call.
-pub fn call_text(out: &mut Output, app: &App, call: &Call) -> Result<(), NoMemory>
-    ensures { OnOk result (out.new ≡ out.old ++ call_text app.now call.now) }
+pub fn call_text(out: &mut Output, printer: &Printer, call: &Call) -> Result<(), NoMemory>
+    ensures { OnOk result (out.new ≡ out.old ++ call_text printer.now.app.now call.now) }
 {
+    let app = printer.app;
     match call {
         Call::Write {
             key,
@@ -99,7 +101,7 @@ pub fn call_text(out: &mut Output, app: &App, call: &Call) -> Result<(), NoMemor
             out.put(b" ")?;
             quoted(out, value.bytes())?;
             out.put(b" ")?;
-            lineage_text(out, app, lineage)
+            printer.lineage(out, lineage)
         }
         Call::Read { region, key } => {
             out.put(b"read ")?;
@@ -121,7 +123,7 @@ pub fn call_text(out: &mut Output, app: &App, call: &Call) -> Result<(), NoMemor
             }
             region_name(out, app, *region)?;
             out.put(b" ")?;
-            lineage_text(out, app, ids)
+            printer.lineage(out, ids)
         }
         Call::Ship {
             region,

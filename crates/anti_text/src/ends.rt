@@ -1,10 +1,10 @@
-ghost use Rattle.std.specs.Prelude.{◌≡◌, List, IfOk, IfSome};
+ghost use Rattle.std.specs.Prelude.{◌≡◌, List, All, IfOk, IfSome};
 ghost use Rattle.std.specs.Option.{option_map};
 ghost use Rattle.anti_kind.specs.declared.call.Entry.{Entry};
 ghost use Rattle.anti_app.specs.declared.app.App.{App};
 ghost use Rattle.anti_object.specs.Starts.{start_of};
-ghost use Rattle.anti_object.specs.Standing.{IsCallOfRun};
 ghost use Rattle.anti_trace.specs.Traces.{entries_on};
+ghost use Rattle.anti_proc.specs.Known.{IsEntryOf, IsReplyAt};
 ghost use Rattle.anti_proc.specs.Numbers.{object_count};
 ghost use Rattle.anti_proc.specs.Running.{CanRun, IsRunOf};
 ghost use Rattle.anti_text.specs.Following.{IsLeftAfter, IsFollowed};
@@ -13,9 +13,9 @@ ghost use Rattle.anti_text.specs.Replays.{AreAfter};
 
 use anti_app::App;
 use anti_ids::NoMemory;
-use anti_kind::{Actor, Birth, Call, Entry};
+use anti_kind::{Actor, Birth, Call, Entry, Machine};
 use anti_object::Object;
-use anti_proc::{End, Process, Want};
+use anti_proc::{End, ProcFault, Process, Want};
 use anti_trace::is_by;
 use std::alloc::Global;
 
@@ -28,14 +28,20 @@ fn followed(
 ) -> Result<Process, NoMemory>
     requires app { CanRun app.now }
     requires process { IfSome process (IsRunOf app.now) }
+    requires known { IsReplyAt app.now entry.now.object entry.now.reply }
     ensures { IfOk result (IsFollowed app.now process entry.now) }
 {
     match process {
-        None => Process::born(alloc, app, entry),
-        Some(mut process) => {
-            process.feed(app, entry.stamp, &entry.reply)?;
-            Ok(process)
-        }
+        None => match Process::born(alloc, app, entry) {
+            Ok(process) => Ok(process),
+            Err(ProcFault::Foreign) => unreachable!(),
+            Err(ProcFault::NoMemory) => Err(NoMemory),
+        },
+        Some(mut process) => match process.feed(app, entry.stamp, &entry.reply) {
+            Ok(()) => Ok(process),
+            Err(ProcFault::Foreign) => unreachable!(),
+            Err(ProcFault::NoMemory) => Err(NoMemory),
+        },
     }
 }
 
@@ -46,7 +52,8 @@ fn process_in(
     trace: &[Entry],
     birth: Birth,
 ) -> Result<Option<Process>, NoMemory>
-    requires { CanRun app.now }
+    requires app { CanRun app.now }
+    requires known { All (IsEntryOf app.now) trace.now }
     ensures { IfOk result (IsLeftAfter app.now trace.now birth) }
 {
     let mut process = None;
@@ -60,7 +67,6 @@ fn process_in(
 
 // Whether a call is ready after the whole history of its object, and does not fit there.
 fn is_full(objects: &[Object], object: u32, call: &Call) -> bool
-    requires { IsCallOfRun call.now }
     ensures { (app : App) (trace : List Entry) → AreAfter app trace (object_count app) objects.now
         → result ≡ is_full_after (entries_on object trace) call.now (start_of app object) }
 {
@@ -80,6 +86,7 @@ pub fn end_in(
     birth: Birth,
 ) -> Result<Option<End>, NoMemory>
     requires runs { CanRun app.now }
+    requires known { All (IsEntryOf app.now) trace.now }
     requires objects { AreAfter app.now trace.now (object_count app.now) objects.now }
     ensures { IfOk result (λ end. end ≡ end_in app.now trace.now birth) }
 {

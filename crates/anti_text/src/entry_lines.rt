@@ -3,6 +3,7 @@ ghost use Rattle.anti_text.specs.Entries.{actor_text, entry_line};
 
 use crate::call_words::call_text;
 use crate::output::Output;
+use crate::printer::Printer;
 use crate::reply_words::reply_text;
 use crate::words::mark_text;
 use anti_app::App;
@@ -28,17 +29,18 @@ fn actor_text(out: &mut Output, app: &App, actor: Actor, span: u32) -> Result<()
 }
 
 /// Writes the line of an entry.
-pub fn entry_line(out: &mut Output, app: &App, entry: &Entry) -> Result<(), NoMemory>
-    ensures { OnOk result (out.new ≡ out.old ++ entry_line app.now entry.now) }
+pub fn entry_line(out: &mut Output, printer: &Printer, entry: &Entry) -> Result<(), NoMemory>
+    ensures { OnOk result (out.new ≡ out.old ++ entry_line printer.now.app.now entry.now) }
 {
+    let app = printer.app;
     out.number(entry.stamp)?;
     out.put(b" ")?;
     mark_text(out, app, entry.object, entry.place)?;
     out.put(b" ")?;
     actor_text(out, app, entry.actor, entry.span)?;
     out.put(b" ")?;
-    call_text(out, app, &entry.call)?;
+    call_text(out, printer, &entry.call)?;
     out.put(b" = ")?;
-    reply_text(out, app, &entry.reply)?;
+    reply_text(out, printer, &entry.reply)?;
     out.put(b"\n")
 }

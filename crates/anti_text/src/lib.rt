@@ -4,9 +4,9 @@
 mod call_words;
 mod ends;
 mod entry_lines;
-mod escape;
 mod output;
 mod printed;
+mod printer;
 mod process_lines;
 mod replay;
 mod reply_words;

@@ -1,6 +1,8 @@
 ghost use Rattle.std.specs.Prelude.{◌≡◌, [], ◌++◌, decimal, OnOk};
 ghost use Rattle.anti_ids.specs.List.{plain};
+ghost use Rattle.anti_baggage.specs.Escapes.{escaped};
 
+use anti_baggage::escape;
 use anti_ids::{Bytes, NoMemory};
 use itoa::Buffer;
 use std::alloc::Global;
@@ -37,6 +39,13 @@ impl Output {
         ensures { OnOk result (self.new ≡ self.old ++ bytes.now) }
     {
         self.bytes.append(bytes)
+    }
+
+    /// Adds bytes at the end, each that is not unreserved escaped.
+    pub fn escaped(&mut self, bytes: &[u8]) -> Result<(), NoMemory>
+        ensures { OnOk result (self.new ≡ self.old ++ escaped bytes.now) }
+    {
+        escape(&mut self.bytes, bytes)
     }
 
     /// Adds a number in decimal at the end.

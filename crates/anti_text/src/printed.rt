@@ -7,6 +7,7 @@ ghost use Rattle.anti_text.specs.Replays.{IsReplayable};
 
 use crate::entry_lines::entry_line;
 use crate::output::Output;
+use crate::printer::Printer;
 use crate::process_lines::process_lines;
 use crate::wait_lines::wait_line;
 use anti_app::{App, Waits};
@@ -16,11 +17,11 @@ use anti_trace::Trace;
 use std::alloc::Global;
 
 // Writes the lines of the entries.
-fn entry_lines(out: &mut Output, app: &App, trace: &[Entry]) -> Result<(), NoMemory>
-    ensures { OnOk result (out.new ≡ out.old ++ flat_map (entry_line app.now) trace.now) }
+fn entry_lines(out: &mut Output, printer: &Printer, trace: &[Entry]) -> Result<(), NoMemory>
+    ensures { OnOk result (out.new ≡ out.old ++ flat_map (entry_line printer.now.app.now) trace.now) }
 {
     for entry in trace {
-        entry_line(out, app, entry)?;
+        entry_line(out, printer, entry)?;
     }
     Ok(())
 }
@@ -41,10 +42,11 @@ pub fn text(alloc: Global, app: &App, trace: &Trace, waits: &Waits) -> Result<By
     requires { IsReplayable app.now trace.now }
     ensures { IfOk result (λ t. t ≡ plain (text_of app.now trace.now waits.now.items)) }
 {
+    let printer = Printer::new(alloc, app)?;
     let mut out = Output::new(alloc);
     let entries = trace.as_slice();
     out.put(b"record 1\n")?;
-    entry_lines(&mut out, app, entries)?;
+    entry_lines(&mut out, &printer, entries)?;
     wait_lines(&mut out, app, waits.as_slice())?;
     process_lines(alloc, &mut out, app, entries)?;
     out.put(b"end ")?;

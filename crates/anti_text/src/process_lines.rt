@@ -1,6 +1,7 @@
-ghost use Rattle.std.specs.Prelude.{◌≡◌, ◌++◌, OnOk};
+ghost use Rattle.std.specs.Prelude.{◌≡◌, ◌++◌, All, OnOk};
 ghost use Rattle.std.specs.List.{flat_map};
 ghost use Rattle.anti_proc.specs.Births.{birth_at, is_birth};
+ghost use Rattle.anti_proc.specs.Known.{IsEntryOf};
 ghost use Rattle.anti_proc.specs.Numbers.{object_count};
 ghost use Rattle.anti_proc.specs.Running.{CanRun};
 ghost use Rattle.anti_text.specs.Processes.{end_text, handler_text, service_text, birth_text, process_line, birth_line, process_lines};
@@ -44,6 +45,7 @@ fn end_text(out: &mut Output, app: &App, end: Option<End>) -> Result<(), NoMemor
 {
     match end {
         Some(End::Fine) => out.put(b"fine"),
+        Some(End::Depth) => out.put(b"depth"),
         Some(End::BadKey) => out.put(b"badkey"),
         Some(End::LineageFull) => out.put(b"lineage"),
         Some(End::StoreFull(object)) => {
@@ -109,6 +111,7 @@ fn birth_line(
     entry: &Entry,
 ) -> Result<(), NoMemory>
     requires runs { CanRun app.now }
+    requires known { All (IsEntryOf app.now) trace.now }
     requires objects { AreAfter app.now trace.now (object_count app.now) objects.now }
     ensures { OnOk result (out.new ≡ out.old ++ birth_line app.now trace.now object entry.now) }
 {
@@ -130,6 +133,7 @@ fn lines_on(
     object: u32,
 ) -> Result<(), NoMemory>
     requires runs { CanRun app.now }
+    requires known { All (IsEntryOf app.now) trace.now }
     requires objects { AreAfter app.now trace.now (object_count app.now) objects.now }
     ensures { OnOk result (out.new ≡ out.old ++ flat_map (birth_line app.now trace.now object) trace.now) }
 {

@@ -1,28 +1,38 @@
-ghost use Rattle.std.specs.Prelude.{◌≡◌, ◌<◌, [], All, IfOk, OnOk};
-ghost use Rattle.anti_kind.specs.Objects.{IsLegal};
-ghost use Rattle.anti_object.specs.Standing.{object_start, ObjectAt, IsCallOfRun};
+ghost use Rattle.std.specs.Prelude.{◌≡◌, ◌<◌, List, [], ◌∷◌, ◌++◌, IfOk, OnOk};
+ghost use Rattle.anti_kind.specs.declared.call.Entry.{Entry};
+ghost use Rattle.anti_kind.specs.Objects.{Follows, IsLegal};
+ghost use Rattle.anti_object.specs.Standing.{object_start, ObjectAt, MayMake};
 ghost use Rattle.anti_trace.specs.Traces.{entries_on};
 ghost use Rattle.anti_proc.specs.Numbers.{object_count};
 ghost use Rattle.anti_text.specs.Replays.{AreAfter, IsAfter, IsReplayable};
 
 use anti_app::App;
 use anti_ids::NoMemory;
-use anti_kind::Entry;
+use anti_kind::{Entry, Machine};
 use anti_object::Object;
 use anti_trace::is_on;
 use std::alloc::Global;
+
+// Makes the call of an entry that follows on what an object stands for.
+fn make(object: &mut Object, entry: &Entry) -> Result<(), NoMemory>
+    requires { MayMake object.old entry.now.call }
+    ensures stands { (h : List Entry) → ObjectAt object.old h → Follows (object_start object.old) h entry.now → OnOk result (ObjectAt object.new (h ++ entry.now ∷ [])) }
+    ensures start { object_start object.new ≡ object_start object.old }
+{
+    let _reply = object.apply(&entry.call)?;
+    Ok(())
+}
 
 // Makes the calls that a trace has on an object, on which nothing has happened yet.
 fn replay(object: &mut Object, number: u32, trace: &[Entry]) -> Result<(), NoMemory>
     requires first { ObjectAt object.old [] }
     requires legal { IsLegal (object_start object.old) (entries_on number trace.now) }
-    requires calls { All (λ e. IsCallOfRun e.call) trace.now }
     ensures after { OnOk result (ObjectAt object.new (entries_on number trace.now)) }
     ensures start { object_start object.new ≡ object_start object.old }
 {
     for entry in trace {
         if is_on(number, entry) {
-            object.apply(&entry.call)?;
+            make(object, entry)?;
         }
     }
     Ok(())

@@ -3,8 +3,8 @@ ghost use Rattle.anti_text.specs.Calls.{taken_text, version_text, row_text, rows
 
 use crate::call_words::{handler_and_rest, kind_text, value_and_baggage};
 use crate::output::Output;
-use crate::words::{lineage_text, quoted};
-use anti_app::App;
+use crate::printer::Printer;
+use crate::words::quoted;
 use anti_ids::{Lineage, Name, NoMemory};
 use anti_kind::{Message, MessageKind, Reply, Row};
 
@@ -39,8 +39,8 @@ fn version_text(out: &mut Output, key: &Name, version: u64) -> Result<(), NoMemo
 }
 
 // Writes a row.
-fn row_text(out: &mut Output, app: &App, row: &Row) -> Result<(), NoMemory>
-    ensures { OnOk result (out.new ≡ out.old ++ row_text app.now row.now) }
+fn row_text(out: &mut Output, printer: &Printer, row: &Row) -> Result<(), NoMemory>
+    ensures { OnOk result (out.new ≡ out.old ++ row_text printer.now.app.now row.now) }
 {
     if row.version == 0 {
         out.put(row.key.bytes())?;
@@ -50,20 +50,20 @@ fn row_text(out: &mut Output, app: &App, row: &Row) -> Result<(), NoMemory>
     out.put(b" ")?;
     quoted(out, row.value.bytes())?;
     out.put(b" ")?;
-    lineage_text(out, app, &row.lineage)
+    printer.lineage(out, &row.lineage)
 }
 
 // Writes rows.
-fn rows_text(out: &mut Output, app: &App, rows: &[Row]) -> Result<(), NoMemory>
-    ensures { OnOk result (out.new ≡ out.old ++ rows_text app.now rows.now) }
+fn rows_text(out: &mut Output, printer: &Printer, rows: &[Row]) -> Result<(), NoMemory>
+    ensures { OnOk result (out.new ≡ out.old ++ rows_text printer.now.app.now rows.now) }
 {
     let Some((first, rest)) = rows.split_first() else {
         return out.put(b"none");
     };
-    row_text(out, app, first)?;
+    row_text(out, printer, first)?;
     for row in rest {
         out.put(b" + ")?;
-        row_text(out, app, row)?;
+        row_text(out, printer, row)?;
     }
     Ok(())
 }
@@ -71,33 +71,33 @@ fn rows_text(out: &mut Output, app: &App, rows: &[Row]) -> Result<(), NoMemory>
 // Writes what a look named.
 fn look_text(
     out: &mut Output,
-    app: &App,
+    printer: &Printer,
     missing: &Lineage,
     unwritten: &Lineage,
 ) -> Result<(), NoMemory>
-    ensures { OnOk result (out.new ≡ out.old ++ look_text app.now missing.now unwritten.now) }
+    ensures { OnOk result (out.new ≡ out.old ++ look_text printer.now.app.now missing.now unwritten.now) }
 {
     match (missing.as_slice(), unwritten.as_slice()) {
         ([], []) => out.put(b"clear"),
         _ => {
             out.put(b"missing ")?;
-            lineage_text(out, app, missing)?;
+            printer.lineage(out, missing)?;
             out.put(b" unwritten ")?;
-            lineage_text(out, app, unwritten)
+            printer.lineage(out, unwritten)
         }
     }
 }
 
 /// Writes a reply.
-pub fn reply_text(out: &mut Output, app: &App, reply: &Reply) -> Result<(), NoMemory>
-    ensures { OnOk result (out.new ≡ out.old ++ reply_text app.now reply.now) }
+pub fn reply_text(out: &mut Output, printer: &Printer, reply: &Reply) -> Result<(), NoMemory>
+    ensures { OnOk result (out.new ≡ out.old ++ reply_text printer.now.app.now reply.now) }
 {
     match reply {
         Reply::Written { key, version } => version_text(out, key, *version),
-        Reply::Shown(rows) => rows_text(out, app, rows.as_slice()),
-        Reply::Missing { missing, unwritten } => look_text(out, app, missing, unwritten),
+        Reply::Shown(rows) => rows_text(out, printer, rows.as_slice()),
+        Reply::Missing { missing, unwritten } => look_text(out, printer, missing, unwritten),
         Reply::Moved => out.put(b"moved"),
-        Reply::Pulled(row) => row_text(out, app, row),
+        Reply::Pulled(row) => row_text(out, printer, row),
         Reply::Posted(number) => {
             out.put(b"posted ")?;
             out.number(u64::from(*number))

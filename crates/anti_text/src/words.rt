@@ -1,10 +1,9 @@
 ghost use Rattle.std.specs.Prelude.{◌≡◌, ◌++◌, OnOk};
-ghost use Rattle.anti_text.specs.Words.{store_name, service_name, sub_name, region_name, object_name, mark_text, quoted, id_text, lineage_text};
+ghost use Rattle.anti_text.specs.Words.{store_name, service_name, sub_name, region_name, object_name, mark_text, quoted};
 
-use crate::escape::escaped;
 use crate::output::Output;
 use anti_app::App;
-use anti_ids::{Lineage, NoMemory, WriteId};
+use anti_ids::NoMemory;
 
 /// Writes the name of a store, by its number.
 pub fn store_name(out: &mut Output, app: &App, store: usize) -> Result<(), NoMemory>
@@ -73,33 +72,6 @@ pub fn quoted(out: &mut Output, value: &[u8]) -> Result<(), NoMemory>
     ensures { OnOk result (out.new ≡ out.old ++ quoted value.now) }
 {
     out.put(b"\"")?;
-    escaped(out, value)?;
+    out.escaped(value)?;
     out.put(b"\"")
-}
-
-// Writes an id.
-fn id_text(out: &mut Output, app: &App, id: &WriteId) -> Result<(), NoMemory>
-    ensures { OnOk result (out.new ≡ out.old ++ id_text app.now id.now) }
-{
-    store_name(out, app, id.store as usize)?;
-    out.put(b"/")?;
-    out.put(id.key.bytes())?;
-    out.put(b"@")?;
-    out.number(id.version)
-}
-
-/// Writes a lineage.
-pub fn lineage_text(out: &mut Output, app: &App, lineage: &Lineage) -> Result<(), NoMemory>
-    ensures { OnOk result (out.new ≡ out.old ++ lineage_text app.now lineage.now) }
-{
-    out.put(b"1;")?;
-    let Some((first, rest)) = lineage.as_slice().split_first() else {
-        return Ok(());
-    };
-    id_text(out, app, first)?;
-    for id in rest {
-        out.put(b",")?;
-        id_text(out, app, id)?;
-    }
-    Ok(())
 }

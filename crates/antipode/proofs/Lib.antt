@@ -1,2 +1,2 @@
-mod Objects
+pub mod Objects
 pub mod Here

@@ -4,7 +4,13 @@ use Rattle.anti_kind.specs.declared.call.Entry.{Entry}
 use Rattle.anti_app.specs.declared.app.App.{App}
 use Rattle.anti_app.specs.Sound.{is_sound}
 use Rattle.anti_play.specs.Runs.{IsRun}
+use Rattle.anti_proc.specs.Running.{CanRun}
+use Rattle.anti_proc.proofs.Runnable as runnable
 use Rattle.anti_text.specs.Replays.{IsReplayable}
 
 pub replayable : (app : App) (trace : List Entry) → IsTrue (is_sound app) → IsRun app trace → IsReplayable app trace
-replayable app trace sound run = record { sound = sound; legal = run.legal; calls = run.calls }
+replayable app trace sound run = record { sound = sound; legal = run.legal; known = run.known }
+
+-- a sound application can be run
+pub runs : (app : App) → IsTrue (is_sound app) → CanRun app
+runs app sound = runnable.can_run app sound

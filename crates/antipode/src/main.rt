@@ -4,6 +4,8 @@
 ghost use Rattle.std.specs.Prelude.{◌≡◌, IfOk};
 ghost use Rattle.antipode.specs.Words.{word_of};
 
+#[cfg(test)]
+mod call_tests;
 mod command;
 mod fault;
 mod outcome;

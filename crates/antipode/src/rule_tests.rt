@@ -259,7 +259,7 @@ request = [{service = 'a', handler = 'h', value = '",
 ];
 
 // Documents that fail a rule on bodies, and what is not built yet, and the line that each is refused with.
-static BODIES: [(&str, &str); 32] = [
+static BODIES: [(&str, &str); 33] = [
     (
         "regions = ['us']
 store = [{name = 's', kind = 'kv', replicas = ['us']}]
@@ -430,14 +430,23 @@ service = [{name = 'a', region = 'us', handler = [{name = 'h', body = []}]}]",
     ),
     (
         "regions = ['us']
-store = [{name = 's', kind = 'kv', replicas = ['us']}]
-service = [{name = 'a', region = 'us', handler = [{name = 'h', body = ['call a h v as x']}]}]",
+choices = ['finish', ' repost a 1']
+service = [{name = 'a', region = 'us', handler = [{name = 'h', body = ['call a h v as x', 'send a h $x', 'reply $x']}]}]
+store = [{name = 's', kind = 'topic', replicas = ['us']}]",
         "app 25 top 0 0\n",
     ),
     (
         "regions = ['us']
-choices = ['finish', ' repost a 1']",
-        "app 25 top 0 0\n",
+choices = ['finish', ' repost b 1', 'repost a 0']
+service = [{name = 'b', region = 'us', handler = [{name = 'h', body = ['call b h v as x']}]}]",
+        "choice 3\n",
+    ),
+    (
+        "regions = ['us']
+choices = ['repost a 1', 'repost s 1']
+store = [{name = 's', kind = 'kv', replicas = ['us']}]
+service = [{name = 'a', region = 'us', handler = [{name = 'h', body = ['send a h v']}]}]",
+        "choice 2\n",
     ),
     (
         "regions = ['us']

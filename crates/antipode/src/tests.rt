@@ -11,9 +11,6 @@ const STORE_ALONE: &[u8] =
 
 const NOTHING_HAPPENED: &[u8] = b"record 1\nend 0\n";
 
-// What a document is refused with that has something that is not built yet.
-const NOT_BUILT: &[u8] = b"app 25 top 0 0\n";
-
 // The choices and the first body of a process that writes, waits, and reads what it wrote once that is shipped; and the record.
 const CHOICES: &[u8] = b"\"take w 1\", \"go w.1\", \"ship s eu 1\", \"go w.1\", \"go w.1\"";
 
@@ -268,6 +265,15 @@ pub fn step<'a>(document: &'a [u8], status: u8, out: &'a [u8], err: &'a [u8]) ->
         out,
         more: false,
         err,
+    }
+}
+
+// The same of a long record, which ends as given.
+pub fn step_to<'a>(document: &'a [u8], end: &'a [u8]) -> Row<'a> {
+    Row {
+        most: 5000,
+        more: true,
+        ..step(document, 0, end, b"")
     }
 }
 
@@ -637,13 +643,10 @@ fn each_fault_of_a_body_is_told(rt: HostRuntime) -> Result<(), Fail> {
             b"\"send v one v\"".as_slice(),
             b"app 24 handler 1 1\n".as_slice(),
         ),
-        (
-            b"\"send w two v\"".as_slice(),
-            b"app 25 top 0 0\n".as_slice(),
-        ),
+        (b"\"send w two v\"".as_slice(), b"choice 1\n".as_slice()),
         (
             b"\"call w two v as x\"".as_slice(),
-            b"app 25 top 0 0\n".as_slice(),
+            b"choice 1\n".as_slice(),
         ),
     ];
     for (i, (body, line)) in bodies.iter().enumerate() {
@@ -670,6 +673,9 @@ fn choices_without_a_form_are_told(rt: HostRuntime) -> Result<(), Fail> {
         b"\"finish\", \"take w +1\"".as_slice(),
         b"\"finish\", \"take s 1\"".as_slice(),
         b"\"finish\", \"take w\"".as_slice(),
+        b"\"finish\", \"repost w 0\"".as_slice(),
+        b"\"finish\", \"repost s 1\"".as_slice(),
+        b"\"finish\", \"repost w\"".as_slice(),
         b"\"finish\", \"pull w\"".as_slice(),
         b"\"finish\", \"repull w 1\"".as_slice(),
         b"\"finish\", \"ship s us 1\"".as_slice(),
@@ -690,16 +696,6 @@ fn choices_without_a_form_are_told(rt: HostRuntime) -> Result<(), Fail> {
     }
     let document = served(rt.alloc(), TWO_REQUESTS, b"\"go s\"", b"", b"").ok_or("no memory")?;
     let row = step(document.bytes(), 5, b"", b"choice 1\n");
-    assert_eq!(rt; ends_as(rt.alloc(), &row), Some(true));
-    let document = served(
-        rt.alloc(),
-        TWO_REQUESTS,
-        b"\"go s\", \"repost w 1\"",
-        b"",
-        b"",
-    )
-    .ok_or("no memory")?;
-    let row = step(document.bytes(), 5, b"", NOT_BUILT);
     assert_eq!(rt; ends_as(rt.alloc(), &row), Some(true));
     Ok(())
 }
@@ -737,11 +733,7 @@ fn a_run_is_finished_on_a_full_store(rt: HostRuntime) -> Result<(), Fail> {
         b"\"nack\"",
     )
     .ok_or("no memory")?;
-    let row = Row {
-        most: 5000,
-        more: true,
-        ..step(document.bytes(), 0, ONE_ID_TOO_MANY, b"")
-    };
+    let row = step_to(document.bytes(), ONE_ID_TOO_MANY);
     assert_eq!(rt; ends_as(rt.alloc(), &row), Some(true));
     let mut requests = Bytes::new(rt.alloc());
     for number in 1..=9_u32 {
@@ -754,11 +746,7 @@ fn a_run_is_finished_on_a_full_store(rt: HostRuntime) -> Result<(), Fail> {
     let document = served(rt.alloc(), requests.bytes(), b"\"finish\"", writes, b"").ok_or(
         "no memory",
     )?;
-    let row = Row {
-        most: 5000,
-        more: true,
-        ..step(document.bytes(), 0, NINTH_FINDS_NO_ROOM, b"")
-    };
+    let row = step_to(document.bytes(), NINTH_FINDS_NO_ROOM);
     assert_eq!(rt; ends_as(rt.alloc(), &row), Some(true));
     Ok(())
 }
@@ -766,18 +754,10 @@ fn a_run_is_finished_on_a_full_store(rt: HostRuntime) -> Result<(), Fail> {
 #[test]
 fn a_full_store_still_takes_each_shipment(rt: HostRuntime) -> Result<(), Fail> {
     let document = filled(rt.alloc(), 454, 0).ok_or("no memory")?;
-    let row = Row {
-        most: 5000,
-        more: true,
-        ..step(document.bytes(), 0, FULL_AND_SHIPPED, b"")
-    };
+    let row = step_to(document.bytes(), FULL_AND_SHIPPED);
     assert_eq!(rt; ends_as(rt.alloc(), &row), Some(true));
     let document = filled(rt.alloc(), 453, 8).ok_or("no memory")?;
-    let row = Row {
-        most: 5000,
-        more: true,
-        ..step(document.bytes(), 0, FULL_AND_TRIED, b"")
-    };
+    let row = step_to(document.bytes(), FULL_AND_TRIED);
     assert_eq!(rt; ends_as(rt.alloc(), &row), Some(true));
     let document = filled(rt.alloc(), 454, 1).ok_or("no memory")?;
     let row = Row {

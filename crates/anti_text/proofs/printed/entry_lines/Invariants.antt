@@ -5,4 +5,4 @@ use Rattle.anti_text.proofs.printed.entry_lines.Given as goal
 
 -- the entries so far are written
 abbrev pub invariant-loop-entry : goal.invariant-loop-entry
-invariant-loop-entry l = l.out ≡ l.initial.out ++ flat_map (entry_line l.app) (take l.entry-index l.trace)
+invariant-loop-entry l = l.out ≡ l.initial.out ++ flat_map (entry_line l.printer.app.now) (take l.entry-index l.trace)

@@ -1,21 +1,21 @@
 use Rattle.std.proofs.Common.{OnOk, sym, subst}
 use Rattle.anti_app.specs.declared.app.Choice.{Choice}
 use Rattle.anti_play.specs.Standing.{StopsBy}
-use Rattle.anti_app.specs.declared.app.Choice.TheVariants.{Repost, Pull, Repull}
-use Rattle.anti_play.proofs.Steps.{take_named, none_such}
+use Rattle.anti_app.specs.declared.app.Choice.TheVariants.{Pull, Repull}
+use Rattle.anti_play.proofs.Steps.{take_named, repost_named, choice_is}
 use Rattle.anti_play.proofs.world.World.choose.Goals as goal
 
 pub take-requires-clause-named : goal.take-requires-clause-named
 take-requires-clause-named c = take_named c.args.app.now c.args.choice.now c.in-Take.service c.in-Take.nth c.in-Take.is c.requires.named
 
-pub unreachable-requires-in-Repost : goal.unreachable-requires-in-Repost
-unreachable-requires-in-Repost c = none_such c.args.app.now c.args.choice.now (Repost c.in-Repost.service c.in-Repost.number) c.in-Repost.is c.requires.named
+pub inbox_number-requires-clause-named : goal.inbox_number-requires-clause-named
+inbox_number-requires-clause-named c = repost_named c.args.app.now c.args.choice.now c.in-Repost.service c.in-Repost.number c.in-Repost.is c.requires.named
 
 pub unreachable-requires-in-Pull : goal.unreachable-requires-in-Pull
-unreachable-requires-in-Pull c = none_such c.args.app.now c.args.choice.now (Pull c.in-Pull.sub) c.in-Pull.is c.requires.named
+unreachable-requires-in-Pull c = choice_is c.args.app.now c.args.choice.now (Pull c.in-Pull.sub) c.in-Pull.is c.requires.named
 
 pub unreachable-requires-in-Repull : goal.unreachable-requires-in-Repull
-unreachable-requires-in-Repull c = none_such c.args.app.now c.args.choice.now (Repull c.in-Repull.sub c.in-Repull.version) c.in-Repull.is c.requires.named
+unreachable-requires-in-Repull c = choice_is c.args.app.now c.args.choice.now (Repull c.in-Repull.sub c.in-Repull.version) c.in-Repull.is c.requires.named
 
 pub returns-in-Go-clause-ended : goal.returns-in-Go-clause-ended
 returns-in-Go-clause-ended c = λ trace s.

@@ -1,14 +1,16 @@
 use Rattle.std.proofs.Common.{List, ◌≡◌, ℕ, refl, sym, ◌∙◌, subst}
 use Rattle.anti_kind.specs.declared.call.Entry.{Entry}
-use Rattle.anti_proc.specs.Standing.{clock_of}
+use Rattle.anti_proc.specs.Standing.{clock_of, process_of}
+use Rattle.anti_proc.specs.Trees.{IsAskedAt}
+use Rattle.anti_proc.specs.declared.process.Process.{Process}
+use Rattle.anti_proc.proofs.Runnable.{can_run}
 use Rattle.anti_proc.specs.declared.want.Want.TheVariants.{Over}
 use Rattle.anti_play.specs.declared.outcome.Outcome.{Outcome}
 use Rattle.anti_play.specs.declared.outcome.Outcome.TheVariants as outcomes
 use Rattle.anti_play.specs.Standing.{IsOutcome, WorldStands, born_at}
 use Rattle.anti_play.proofs.Births.{same_itself}
 use Rattle.anti_proc.specs.Running.{IsRunOf}
-use Rattle.anti_proc.proofs.Runnable.{can_run}
-use Rattle.anti_play.proofs.Steps.{Goes, goes_run, ended_goes, which_end, copy_is, outcome_is, going, call_of, may_grow, goes_clock, goes_born, goes_call, go_over, go_done, go_waits, go_ended, stops_over, stops_made, stops_waits, stops_ended, chose_kept}
+use Rattle.anti_play.proofs.Steps.{Goes, goes_run, lives_found, is_asked, ended_goes, which_end, copy_is, outcome_is, going, reply_of, may_grow, goes_clock, goes_born, goes_call, go_over, go_done, go_waits, go_ended, stops_over, stops_made, stops_waits, stops_ended, chose_kept}
 use Rattle.anti_play.proofs.world.World.go_on.Goals as goal
 use Rattle.anti_play.proofs.world.World.go_on.Goals.{In_ok-object, In_ok-entry}
 
@@ -36,11 +38,24 @@ returns-in_default c =
       ended = λ trace s. stops_over c.args.app.now c.args.self.now trace c.args.birth c.args.at p c.in_ok-object.field-0 (clock_of p) s g c.in_default.field-0 c.in_default.is;
     }
 
-pub outcome-requires-clause-call : goal.outcome-requires-clause-call
-outcome-requires-clause-call c =
-    let g = goes ((goal.at.outcome-requires-clause-call c).In_ok-object) c.clock-clock.result c.clock-clock.ensures in
-    goes_call c.args.app.now c.args.self.now c.requires.world.trace c.args.birth c.args.at c.process-process.result.now c.in_ok-object.field-0 c.clock-clock.result c.requires.world.stands g
-    c.in-Make.object c.in-Make.span c.in-Make.call c.in-Make.is
+pub next-requires-clause-app : goal.next-requires-clause-app
+next-requires-clause-app c = can_run c.args.app.now c.requires.sound
+
+pub next-requires-clause-run : goal.next-requires-clause-run
+next-requires-clause-run c =
+    (lives_found c.args.app.now c.args.self.now c.requires.world.trace c.args.birth c.args.at c.process-process.result.now c.requires.world.stands c.requires.found c.process-process.ensures).run
+
+pub full-requires-clause-asks : goal.full-requires-clause-asks
+full-requires-clause-asks c =
+    let g = goes ((goal.at.full-requires-clause-asks c).In_ok-object) c.clock-clock.result c.clock-clock.ensures in
+    let p = c.process-process.result.now in
+    let copied = c.in_ok-process-in-Full.process in
+    let same : copied ≡ p = copy_is (born_at c.args.self.now.processes.items c.args.birth.object) c.args.at p c.process-in-Full.result.now copied c.process-process.ensures c.process-in-Full.ensures c.in_ok-process-in-Full.ensures in (
+      c.args.app.now,
+      subst (λ (x : Process). IsAskedAt c.in-Make.object (process_of c.args.app.now x)) (sym same)
+          (is_asked c.args.app.now c.args.self.now c.requires.world.trace c.args.birth c.args.at p c.in_ok-object.field-0 c.clock-clock.result c.requires.world.stands g
+          c.in-Make.object c.in-Make.span c.in-Make.call c.in-Make.is),
+    )
 
 pub outcome-requires-clause-clock : goal.outcome-requires-clause-clock
 outcome-requires-clause-clock c = record {
@@ -71,9 +86,6 @@ returns-in-NotYet c =
           c.in-Make.object c.in-Make.span c.in-Make.call c.in-Make.is c.args.self.now.processes.items ((came at trace s g outcomes.NotYet c.in-NotYet.is).1);
     }
 
-pub feed-requires-clause-app : goal.feed-requires-clause-app
-feed-requires-clause-app c = can_run c.args.app.now c.requires.sound
-
 pub feed-requires-clause-run : goal.feed-requires-clause-run
 feed-requires-clause-run c =
     let g = goes ((goal.at.feed-requires-clause-run c).In_ok-object) c.clock-clock.result c.clock-clock.ensures in
@@ -83,24 +95,24 @@ feed-requires-clause-run c =
     subst (IsRunOf c.args.app.now) (sym same)
     (goes_run c.args.app.now c.args.self.now c.requires.world.trace c.args.birth c.args.at p c.in_ok-object.field-0 c.clock-clock.result c.requires.world.stands g)
 
-pub add-requires-clause-call : goal.add-requires-clause-call
-add-requires-clause-call c =
-    let g = goes ((goal.at.add-requires-clause-call c).In_ok-object) c.clock-clock.result c.clock-clock.ensures in
-    let at = (goal.at.add-requires-clause-call c).In_ok-entry in
+pub feed-requires-clause-known : goal.feed-requires-clause-known
+feed-requires-clause-known c =
+    let g = goes ((goal.at.feed-requires-clause-known c).In_ok-object) c.clock-clock.result c.clock-clock.ensures in
+    let at = (goal.at.feed-requires-clause-known c).In_ok-entry in
     let trace = c.requires.world.trace in
     let s = c.requires.world.stands in
-    call_of c.args.app.now c.args.self.now trace s (going c.args.birth c.in-Make.object c.in-Make.span c.in-Make.call)
+    reply_of c.args.app.now c.requires.sound c.args.self.now trace s (going c.args.birth c.in-Make.object c.in-Make.span c.in-Make.call)
     (goes_born c.args.app.now c.args.self.now trace c.args.birth c.args.at c.process-process.result.now c.in_ok-object.field-0 c.clock-clock.result s g)
     (goes_call c.args.app.now c.args.self.now trace c.args.birth c.args.at c.process-process.result.now c.in_ok-object.field-0 c.clock-clock.result s g c.in-Make.object c.in-Make.span c.in-Make.call c.in-Make.is)
     c.in-Makes.entry (came at trace s g (outcomes.Makes c.in-Makes.entry) c.in-Makes.is)
 
-pub add-requires-clause-grows : goal.add-requires-clause-grows
-add-requires-clause-grows c =
-    let g = goes ((goal.at.add-requires-clause-grows c).In_ok-object) c.clock-clock.result c.clock-clock.ensures in
-    let at = (goal.at.add-requires-clause-grows c).In_ok-entry in
+pub add-requires : goal.add-requires
+add-requires c =
+    let g = goes ((goal.at.add-requires c).In_ok-object) c.clock-clock.result c.clock-clock.ensures in
+    let at = (goal.at.add-requires c).In_ok-entry in
     let trace = c.requires.world.trace in
     let s = c.requires.world.stands in
-    may_grow c.args.app.now c.args.self.now trace s (going c.args.birth c.in-Make.object c.in-Make.span c.in-Make.call)
+    may_grow c.args.app.now c.requires.sound c.args.self.now trace s (going c.args.birth c.in-Make.object c.in-Make.span c.in-Make.call)
     (goes_born c.args.app.now c.args.self.now trace c.args.birth c.args.at c.process-process.result.now c.in_ok-object.field-0 c.clock-clock.result s g)
     (goes_call c.args.app.now c.args.self.now trace c.args.birth c.args.at c.process-process.result.now c.in_ok-object.field-0 c.clock-clock.result s g c.in-Make.object c.in-Make.span c.in-Make.call c.in-Make.is)
     c.in-Makes.entry (came at trace s g (outcomes.Makes c.in-Makes.entry) c.in-Makes.is)
@@ -119,7 +131,7 @@ returns-in_ok-add-in-Makes c =
     record {
       chose = λ trace s.
           go_done c.args.app.now c.args.self.now trace c.args.birth c.args.at p c.in_ok-object.field-0 c.clock-clock.result s g
-          c.in-Make.object c.in-Make.span c.in-Make.call c.in-Make.is _ c.in-Makes.entry copied c.feed.new.self same (came at trace s g (outcomes.Makes c.in-Makes.entry) c.in-Makes.is)
+          c.in-Make.object c.in-Make.span c.in-Make.call c.in-Make.is c.requires.sound _ c.in-Makes.entry copied c.feed.new.process same (came at trace s g (outcomes.Makes c.in-Makes.entry) c.in-Makes.is)
           (c.in_ok-add-in-Makes.ensures.stand c.args.app.now) c.set_process.ensures refl
           c.in_ok-feed-in-Makes.ensures.goes c.in_ok-feed-in-Makes.ensures.clock c.feed.ensures.birth c.feed.ensures.full c.feed.ensures.run;
       ended = λ trace s.

@@ -1,35 +1,31 @@
-use Rattle.std.proofs.Common.{◌≡◌, ◌<◌, length, vec_len, arith, ◌+◌, ◌++◌, ◌∷◌, [], List, ap, refl, subst}
+use Rattle.std.proofs.Common.{◌≡◌, ◌<◌, length, vec_len, arith, ◌++◌, ◌∷◌, [], List, refl, subst}
 use Rattle.anti_proc.specs.declared.process.Process.{Process}
 use Rattle.anti_play.specs.declared.outcome.Outcome.TheVariants.{Makes}
 use Rattle.anti_play.specs.Standing.{born_at, Changes}
 use Rattle.anti_play.proofs.Births.{changes_then, same_changed}
-use Rattle.anti_play.proofs.Steps.{outcome_is, call_of, may_grow, has_list, taking, take_done, chose_kept}
-use Rattle.anti_proc.proofs.Runnable.{can_run}
+use Rattle.anti_play.proofs.Steps.{outcome_is, reply_of, may_grow, has_list, taking, take_done, chose_kept}
 use Rattle.anti_play.proofs.world.World.take.Goals as goal
 
-pub born-requires : goal.born-requires
-born-requires c = can_run c.args.app.now c.requires.sound
-
-pub add-requires-clause-call : goal.add-requires-clause-call
-add-requires-clause-call c =
-    let q = taking (c.len.result + c.args.service) c.args.nth in
+pub born-requires-clause-known : goal.born-requires-clause-known
+born-requires-clause-known c =
+    let q = taking c.inbox_number.result c.args.nth in
     let trace = c.requires.world.trace in
-    call_of c.args.app.now c.args.self.now trace c.requires.world.stands q tt tt c.in-Makes.entry
+    reply_of c.args.app.now c.requires.sound c.args.self.now trace c.requires.world.stands q tt tt c.in-Makes.entry
     (outcome_is c.args.app.now trace q c.in_ok-entry.field-0 (Makes c.in-Makes.entry) c.in-Makes.is (c.in_ok-entry.ensures trace c.requires.world.stands refl))
 
-pub add-requires-clause-grows : goal.add-requires-clause-grows
-add-requires-clause-grows c =
-    let q = taking (c.len.result + c.args.service) c.args.nth in
+pub add-requires : goal.add-requires
+add-requires c =
+    let q = taking c.inbox_number.result c.args.nth in
     let trace = c.requires.world.trace in
-    may_grow c.args.app.now c.args.self.now trace c.requires.world.stands q tt tt c.in-Makes.entry
+    may_grow c.args.app.now c.requires.sound c.args.self.now trace c.requires.world.stands q tt tt c.in-Makes.entry
     (outcome_is c.args.app.now trace q c.in_ok-entry.field-0 (Makes c.in-Makes.entry) c.in-Makes.is (c.in_ok-entry.ensures trace c.requires.world.stands refl))
 
 pub make_room-requires : goal.make_room-requires
 make_room-requires c =
     let count : vec_len c.args.self.now.processes ≡ length c.args.self.now.processes.items = c.args.self.now.processes.ok.0 in
-    let q = taking (c.len.result + c.args.service) c.args.nth in
+    let q = taking c.inbox_number.result c.args.nth in
     let trace = c.requires.world.trace in
-    let within : c.in-Makes.entry.object < length c.args.self.now.processes.items = has_list c.args.app.now c.args.self.now trace c.requires.world.stands q tt tt c.in-Makes.entry
+    let within : c.in-Makes.entry.object < length c.args.self.now.processes.items = has_list c.args.app.now c.requires.sound c.args.self.now trace c.requires.world.stands q tt tt c.in-Makes.entry
     (outcome_is c.args.app.now trace q c.in_ok-entry.field-0 (Makes c.in-Makes.entry) c.in-Makes.is (c.in_ok-entry.ensures trace c.requires.world.stands refl)) in
     omega arith
 
@@ -52,9 +48,9 @@ returns c = λ trace s.
     let added : Changes before after object (born_at before object ++ p ∷ []) =
     changes_then before c.make_room.new.processes.items after object (born_at before object ++ p ∷ []) room
     (subst (λ (xs : List Process). Changes c.make_room.new.processes.items after object (xs ++ p ∷ [])) room.here_are c.put_process.ensures) in
-    take_done c.args.app.now c.args.self.now _ trace (c.len.result + c.args.service) c.args.service c.args.nth c.in-Makes.entry p
-    s (ap (λ n. n + c.args.service) c.len.ensures)
-    (outcome_is c.args.app.now trace (taking (c.len.result + c.args.service) c.args.nth) c.in_ok-entry.field-0 (Makes c.in-Makes.entry) c.in-Makes.is (c.in_ok-entry.ensures trace s refl))
+    take_done c.args.app.now c.requires.sound c.args.self.now _ trace c.inbox_number.result c.args.service c.args.nth c.in-Makes.entry p
+    s c.inbox_number.ensures
+    (outcome_is c.args.app.now trace (taking c.inbox_number.result c.args.nth) c.in_ok-entry.field-0 (Makes c.in-Makes.entry) c.in-Makes.is (c.in_ok-entry.ensures trace s refl))
     (c.in_ok-add.ensures.stand c.args.app.now)
     added refl
     c.in_ok-process.ensures.stands c.in_ok-process.ensures.clock c.in_ok-process.ensures.birth c.in_ok-process.ensures.full c.in_ok-process.ensures.run

@@ -1,0 +1,192 @@
+-- Each call of a process of a sound application is known, where its message and its replies are.
+use Rattle.std.proofs.Common.{◌≡◌, ℕ, ◌≤◌, true, List, ◌&&◌, cond, false, Bool, [], ◌∷◌, length, IsTrue, refl, sym, ap, ◌∙◌, subst, arith, ◌<◌, map}
+use Rattle.std.specs.Prelude.{All, ◌==◌, nat_lt}
+use Rattle.std.proofs.lemmas.Bool.{and_from, and_parts, lt-ltb, ltb-true}
+use Rattle.std.proofs.lemmas.List.{length-map}
+use Rattle.std.proofs.lemmas.List.Elements.{All-head, All-tail}
+use Rattle.anti_ids.specs.Each.{Each}
+use Rattle.anti_ids.specs.Ids.{with_ids}
+use Rattle.anti_ids.specs.declared.id.WriteId.{WriteId}
+use Rattle.anti_ids.specs.declared.lineage.TheConstants.{MOST_IDS}
+use Rattle.anti_ids.proofs.IdLemmas.{each_filter, each_with_ids, lineage_ids_of, lineage_with_ids, lineage_without}
+use Rattle.anti_kind.specs.declared.call.Call.{Call}
+use Rattle.anti_kind.specs.declared.call.Call.TheVariants as calls
+use Rattle.anti_kind.specs.declared.call.Entry.{Entry}
+use Rattle.anti_kind.specs.declared.call.Message.{Message}
+use Rattle.anti_kind.specs.declared.call.Reply.{Reply}
+use Rattle.anti_kind.specs.declared.call.Reply.TheVariants as replies
+use Rattle.anti_kind.specs.declared.call.Row.{Row}
+use Rattle.anti_lang.specs.Program.{Block}
+use Rattle.anti_baggage.specs.Over.{IsIdOver}
+use Rattle.anti_baggage.specs.Reading.{read_lineage}
+use Rattle.anti_baggage.specs.Texts.{lineage_text}
+use Rattle.anti_baggage.proofs.TextLaws.{states_its_lineage}
+use Rattle.anti_app.specs.declared.app.App.{App}
+use Rattle.anti_app.specs.declared.app.StoreDef.{StoreDef}
+use Rattle.anti_app.specs.Sound.{is_sound}
+use Rattle.anti_app.proofs.SoundLemmas.{SoundApp, app_known}
+use Rattle.anti_proc.specs.Brought.{came}
+use Rattle.anti_proc.specs.Calls.{IsOfProcess}
+use Rattle.anti_proc.specs.Foreign.{has_baggage, states}
+use Rattle.anti_proc.specs.Known.{AllKnown, IsEntryOf, AreIdsOf, IsCallAt, IsOverApp, IsReplyAt, IsRowOf}
+use Rattle.anti_proc.specs.Local.{Setting, id_at, row_ids, rows_ids}
+use Rattle.anti_proc.specs.Meaning.{begun, setting_at, started, stated_in, tree_of, process_after, reply_of}
+use Rattle.anti_proc.specs.Numbers.{body_of, handler_number, service_at, store_names}
+use Rattle.anti_proc.specs.Trees.{Tree, Asks, Ends, Ask, after}
+use Rattle.anti_proc.proofs.Keeping.{Good, IsMade, Keeps, begun_good}
+use Rattle.anti_proc.proofs.Lineages.{Written, each_append, none_lineage, stated_over, written_at}
+use Rattle.anti_proc.proofs.ProcessCalls.{of_process}
+use Rattle.anti_proc.proofs.Served.{HasInbox, HasStore, body_there, stores_named}
+
+-- ---- what is carried and held is over the stores
+
+module _ (app : App) where
+  -- whether a call that brings ids of its object is made at a store that is there
+  abbrev is_placed : ℕ → Call → Bool
+  is_placed o (calls.Write key value lineage) = nat_lt o (length app.stores.items)
+  is_placed o (calls.Read region key) = nat_lt o (length app.stores.items)
+  is_placed o (calls.Scan region prefix) = nat_lt o (length app.stores.items)
+  is_placed o (calls.Poll region key) = nat_lt o (length app.stores.items)
+  is_placed o _ = true
+
+  -- whether all calls so far were
+  abbrev were_placed : Bool → Ask → Reply → Bool
+  were_placed before ask r = before && is_placed ask.object ask.call
+
+  -- a known reply, of whichever object
+  abbrev Fair : ℕ → Reply → Type 0
+  Fair o r = (from : ℕ) × IsReplyAt app from r
+
+  abbrev Carries : Bool → ℕ → List WriteId → Type 0
+  Carries placed n ids = placed ≡ true → IsOverApp app ids
+
+  abbrev Brings : Bool → ℕ → List WriteId → Type 0
+  Brings placed n ids = placed ≡ true → AreIdsOf app ids × Written ids
+
+  -- the same key and version have an id at each store
+  at_store : (o from : ℕ) (key : List ℕ) (version : ℕ) → nat_lt o (length app.stores.items) ≡ true → AreIdsOf app (id_at from key version) → AreIdsOf app (id_at o key version)
+  at_store o from key version there known = by_test (nat_lt 0 version) known
+    where
+      by_test : (some : Bool) → AreIdsOf app (cond some (record { store = from; key = key; version = version } ∷ []) [])
+          → AreIdsOf app (cond some (record { store = o; key = key; version = version } ∷ []) [])
+      by_test true known =
+          let count : length (store_names app) ≡ length app.stores.items = length-map app.stores.items (λ (s : StoreDef). s.name) in
+          let within : o < length app.stores.items = ltb-true o (length app.stores.items) there in
+          ((omega arith, known.0.1, known.0.2), tt)
+      by_test false known = tt
+
+  rows_known : (o from : ℕ) (rows : List Row) → nat_lt o (length app.stores.items) ≡ true → Each (IsRowOf app from) rows → AreIdsOf app (rows_ids o rows) × Written (rows_ids o rows)
+  rows_known o from [] there each = (tt, tt)
+  rows_known o from (row ∷ rows) there each =
+      let further = rows_known o from rows there each.1 in (
+        each_append (IsIdOver (store_names app)) (row_ids o row) (rows_ids o rows)
+            (each_append (IsIdOver (store_names app)) (id_at o row.key row.version) row.lineage (at_store o from row.key row.version there each.0.id) each.0.lineage.each) further.0,
+        each_append (λ i. 1 ≤ i.version) (row_ids o row) (rows_ids o rows)
+            (each_append (λ i. 1 ≤ i.version) (id_at o row.key row.version) row.lineage (written_at o row.key row.version) each.0.lineage.lineage.written) further.1,
+      )
+
+  none_over : IsOverApp app []
+  none_over = record { lineage = none_lineage; each = tt }
+
+  more_over : (further ids : List WriteId) → AreIdsOf app further × Written further → IsOverApp app ids → length (with_ids further ids) ≤ MOST_IDS → IsOverApp app (with_ids further ids)
+  more_over further ids known over short = record {
+    lineage = lineage_with_ids further ids (with_ids further ids) known.1 over.lineage refl short;
+    each = each_with_ids (IsIdOver (store_names app)) further ids known.0 over.each;
+  }
+
+  came_known : (o from : ℕ) (call : Call) (r : Reply) → is_placed o call ≡ true → IsReplyAt app from r → AreIdsOf app (came app o call r) × Written (came app o call r)
+  came_known o from (calls.Write key value lineage) (replies.Written written version) there known = (at_store o from written version there known, written_at o written version)
+  came_known o from (calls.Read region key) (replies.Shown rows) there known = rows_known o from rows.items there known
+  came_known o from (calls.Scan region key) (replies.Shown rows) there known = rows_known o from rows.items there known
+  came_known o from (calls.Poll region key) (replies.Shown rows) there known = rows_known o from rows.items there known
+  came_known o from (calls.TakeReply number) (replies.Got got m) there known = let over = stated_over app m in (over.each, over.lineage.written)
+  came_known o from call r there known = (tt, tt)
+
+  keeps_known : Keeps app Bool Carries Brings were_placed Fair
+  keeps_known = record {
+    none_carried = λ placed n on. none_over;
+    none_brought = λ placed n on. (tt, tt);
+    added = λ placed n further ids brings carries short on. more_over further ids (brings on) (carries on) short;
+    taken_out = λ placed n i ids carries on.
+        record { lineage = lineage_without i ids (carries on).lineage; each = each_filter (IsIdOver (store_names app)) _ ids (carries on).each };
+    carried_on = λ placed ask r n ids carries on. carries (and_parts placed (is_placed ask.object ask.call) on).0;
+    brought_on = λ placed ask r n ids brings on. brings (and_parts placed (is_placed ask.object ask.call) on).0;
+    comes = λ placed ask r fair on. came_known ask.object fair.0 ask.call r (and_parts placed (is_placed ask.object ask.call) on).1 fair.1;
+  }
+
+-- ---- each call is known
+
+-- the same as `AllKnown`, where a known reply may come from whichever object
+abbrev pub KnownAnyway : App → Tree → Type 0
+KnownAnyway app (Asks ask go) =
+    IsOfProcess app ask.object ask.span ask.call × IsCallAt app ask.object ask.call × IsOverApp app ask.carried
+    × ((from : ℕ) (reply : Reply) → IsReplyAt app from reply → KnownAnyway app (go reply))
+KnownAnyway app (Ends end) = Unit {0}
+
+module _ (app : App) (known : SoundApp app) where
+  text_read : (m : Message) (ids : List WriteId) → m.baggage.items ≡ lineage_text (store_names app) ids → IsOverApp app ids → has_baggage app m ≡ true
+  text_read m ids is over =
+      ap (λ (text : List ℕ). states (read_lineage (store_names app) text)) is ∙ ap states (states_its_lineage (store_names app) ids (stores_named app known) over)
+
+  call_known : (o : ℕ) (carried : List WriteId) (call : Call) → IsMade app (HasStore app) (HasInbox app) o carried call → IsOverApp app carried → IsCallAt app o call
+  call_known o carried (calls.Write key value lineage) made over = (made.1, subst (λ (ids : List WriteId). IsOverApp app ids) (sym made.2) over)
+  call_known o carried (calls.Look region ids dry) made over =
+      subst (λ (is : List WriteId). IsOverApp app is) (sym made.1)
+      (record { lineage = lineage_ids_of o carried over.lineage; each = each_filter (IsIdOver (store_names app)) (λ j. j.store == o) carried over.each })
+  call_known o carried (calls.Post m) made over = record { handler = made.0.1; depth = made.1; baggage = text_read m carried made.2 over }
+  call_known o carried _ made over = tt
+
+  its_place : (o : ℕ) (carried : List WriteId) (call : Call) → IsMade app (HasStore app) (HasInbox app) o carried call → is_placed app o call ≡ true
+  its_place o carried (calls.Write key value lineage) made = lt-ltb o (length app.stores.items) made.0
+  its_place o carried (calls.Read region key) made = lt-ltb o (length app.stores.items) made
+  its_place o carried (calls.Scan region prefix) made = lt-ltb o (length app.stores.items) made
+  its_place o carried (calls.Poll region key) made = lt-ltb o (length app.stores.items) made
+  its_place o carried _ made = refl
+
+  all_known : (placed : Bool) (tree : Tree) → placed ≡ true → Good app (HasStore app) (HasInbox app) Bool (Carries app) (were_placed app) (Fair app) placed tree → KnownAnyway app tree
+  all_known placed (Asks ask go) on good = (
+    of_process app (HasStore app) (HasInbox app) (λ o there. omega arith) (λ o handler there. there.0) ask.object ask.span ask.carried ask.call good.0.0 good.0.1,
+    call_known ask.object ask.carried ask.call good.0.1 (good.0.2 on),
+    good.0.2 on,
+    λ from reply fair.
+        all_known (were_placed app placed ask reply) (go reply) (and_from placed (is_placed app ask.object ask.call) on (its_place ask.object ask.carried ask.call good.0.1))
+        (good.1 reply (from, fair)),
+  )
+  all_known placed (Ends end) on good = tt
+
+  started_known : (inbox : ℕ) (reply : Reply) → length app.stores.items ≤ inbox → IsReplyAt app inbox reply → KnownAnyway app (started app inbox reply)
+  started_known inbox (replies.Got number m) at message =
+      let s : Setting = setting_at app inbox number m in
+      let body : Block = body_of app (service_at app inbox) (handler_number app (service_at app inbox) m.handler) in
+      all_known true (begun body s (stated_in app m)) refl
+      (begun_good s (HasStore app) (HasInbox app) Bool (Carries app) (Brings app) (were_placed app) (Fair app) (keeps_known app) (at, message.handler) body
+      (body_there app known (service_at app inbox) (handler_number app (service_at app inbox) m.handler)) (stated_in app m) true (λ short on. stated_over app m))
+  started_known inbox _ at message = tt
+
+-- Each call of a process is known, which a known message in an inbox started, also where its replies come from other objects than it asked.
+pub tree_known_anyway : (app : App) (birth : Entry) → IsTrue (is_sound app) → length app.stores.items ≤ birth.object
+    → IsReplyAt app birth.object birth.reply → KnownAnyway app (tree_of app birth)
+tree_known_anyway app birth sound at message = started_known app (app_known app sound) birth.object birth.reply at message
+
+known_anyway : (app : App) (tree : Tree) → KnownAnyway app tree → AllKnown app tree
+known_anyway app (Asks ask go) known = (known.0, known.1, known.2, λ reply fair. known_anyway app (go reply) (known.3 ask.object reply fair))
+known_anyway app (Ends end) known = tt
+
+-- so also where they come from those
+pub tree_known : (app : App) (birth : Entry) → IsTrue (is_sound app) → length app.stores.items ≤ birth.object
+    → IsReplyAt app birth.object birth.reply → AllKnown app (tree_of app birth)
+tree_known app birth sound at message = known_anyway app (tree_of app birth) (tree_known_anyway app birth sound at message)
+
+after_anyway : (app : App) (tree : Tree) (entries : List Entry) → All (IsEntryOf app) entries → KnownAnyway app tree → KnownAnyway app (after tree (map reply_of entries))
+after_anyway app tree [] entries known = known
+after_anyway app (Asks ask go) (e ∷ es) entries known =
+    after_anyway app (go e.reply) es (All-tail (IsEntryOf app) e es entries) (known.3 e.object e.reply (All-head (IsEntryOf app) e es entries).reply)
+after_anyway app (Ends end) (e ∷ es) entries known = after_anyway app (Ends end) es (All-tail (IsEntryOf app) e es entries) tt
+
+-- a process after its entries, of which the first, on an inbox, started it
+pub process_known : (app : App) (birth : Entry) (entries : List Entry) → IsTrue (is_sound app) → length app.stores.items ≤ birth.object → All (IsEntryOf app) (birth ∷ entries)
+    → AllKnown app (process_after app (birth ∷ entries))
+process_known app birth entries sound at all =
+    known_anyway app (process_after app (birth ∷ entries))
+    (after_anyway app (tree_of app birth) entries (All-tail (IsEntryOf app) birth entries all)
+    (tree_known_anyway app birth sound at (All-head (IsEntryOf app) birth entries all).reply))

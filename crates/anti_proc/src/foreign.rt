@@ -1,0 +1,101 @@
+ghost use Rattle.std.specs.Prelude.{◌≡◌, ◌≤◌, [], true, false, Err, IfOk, OnOk};
+ghost use Rattle.std.specs.List.{list_all};
+ghost use Rattle.anti_proc.specs.Brought.{came_first};
+ghost use Rattle.anti_proc.specs.Foreign.{has_baggage, has_stores, is_foreign, is_foreign_to};
+ghost use Rattle.anti_proc.specs.Meaning.{stated_in};
+ghost use Rattle.anti_proc.specs.Running.{CanRun};
+
+use crate::find::{has_handler, service_at, store_names};
+use crate::given::MOST_DEPTH;
+use crate::want::ProcFault;
+use anti_app::App;
+use anti_baggage::{BaggageFault, decode};
+use anti_ids::Lineage;
+use anti_kind::{Message, Reply, Row};
+use std::alloc::Global;
+
+// Whether each id of a lineage is of a store of the application.
+fn has_stores(app: &App, lineage: &Lineage) -> bool
+    ensures { result ≡ has_stores app.now lineage.now }
+{
+    let stores = app.stores.len();
+    lineage
+        .as_slice()
+        .iter()
+        .all(|id| (id.store as usize) < stores)
+}
+
+// The same of the lineages of rows.
+fn have_stores(app: &App, rows: &[Row]) -> bool
+    ensures { result ≡ list_all (λ row. has_stores app.now row.lineage) rows.now }
+{
+    rows.iter().all(|row| has_stores(app, &row.lineage))
+}
+
+// The empty lineage, unless the reply is foreign.
+fn none_unless(alloc: Global, is_foreign: bool) -> Result<Lineage, ProcFault>
+    ensures ids { IfOk result (λ ids. ids ≡ []) }
+    ensures known { OnOk result (is_foreign ≡ false) }
+    ensures foreign { result ≡ Err ProcFault.Foreign → is_foreign ≡ true }
+{
+    if is_foreign {
+        return Err(ProcFault::Foreign);
+    }
+    Ok(Lineage::root(alloc))
+}
+
+// The lineage that the baggage of a message states. `Foreign` comes exactly where it states none.
+#[tactic(auto, using(crate::proofs::Runnable::names_fit))]
+fn stated(alloc: Global, app: &App, message: &Message) -> Result<Lineage, ProcFault>
+    requires { CanRun app.now }
+    ensures ids { IfOk result (λ ids. ids ≡ stated_in app.now message.now) }
+    ensures known { OnOk result (has_baggage app.now message.now ≡ true) }
+    ensures foreign { result ≡ Err ProcFault.Foreign → has_baggage app.now message.now ≡ false }
+{
+    let names = store_names(alloc, app)?;
+    match decode(alloc, names.as_slice(), message.baggage.bytes()) {
+        Ok(lineage) => Ok(lineage),
+        Err(BaggageFault::NoMemory) => Err(ProcFault::NoMemory),
+        Err(_) => Err(ProcFault::Foreign),
+    }
+}
+
+/// The lineage that came with the message of a reply, and the empty one with a reply that has none. `Foreign` comes exactly where the
+/// reply is foreign.
+pub fn brought(alloc: Global, app: &App, reply: &Reply) -> Result<Lineage, ProcFault>
+    requires { CanRun app.now }
+    ensures ids { IfOk result (λ ids. ids ≡ came_first app.now reply.now) }
+    ensures known { OnOk result (is_foreign app.now reply.now ≡ false) }
+    ensures foreign { result ≡ Err ProcFault.Foreign → is_foreign app.now reply.now ≡ true }
+{
+    match reply {
+        Reply::Shown(rows) => none_unless(alloc, !have_stores(app, rows.as_slice())),
+        Reply::Missing { missing, unwritten } => none_unless(
+            alloc,
+            !(has_stores(app, missing) && has_stores(app, unwritten)),
+        ),
+        Reply::Pulled(row) => none_unless(alloc, !has_stores(app, &row.lineage)),
+        Reply::Got { message, .. } => stated(alloc, app, message),
+        _ => Ok(Lineage::root(alloc)),
+    }
+}
+
+/// The lineage that came with a message that was taken from the inbox of a service. `Foreign` comes exactly where the message starts
+/// nothing.
+pub fn brought_to(
+    alloc: Global,
+    app: &App,
+    inbox: u32,
+    message: &Message,
+) -> Result<Lineage, ProcFault>
+    requires { CanRun app.now }
+    ensures ids { IfOk result (λ ids. ids ≡ stated_in app.now message.now) }
+    ensures depth { OnOk result (message.now.depth ≤ MOST_DEPTH) }
+    ensures known { OnOk result (is_foreign_to app.now inbox message.now ≡ false) }
+    ensures foreign { result ≡ Err ProcFault.Foreign → is_foreign_to app.now inbox message.now ≡ true }
+{
+    if !has_handler(app, service_at(app, inbox), &message.handler) || message.depth > MOST_DEPTH {
+        return Err(ProcFault::Foreign);
+    }
+    stated(alloc, app, message)
+}

@@ -1,0 +1,48 @@
+ghost use Rattle.std.specs.Prelude.{◌≡◌, ◌++◌, IfOk, OnOk};
+ghost use Rattle.anti_proc.specs.Numbers.{store_names};
+ghost use Rattle.anti_text.specs.Words.{lineage_text};
+
+use crate::output::Output;
+use anti_app::{App, Names};
+use anti_baggage::encode;
+use anti_ids::{Lineage, NoMemory, add};
+use std::alloc::Global;
+
+/// What the lines of a record are printed of: an application, the names of whose stores are read once.
+#[derive(Drop)]
+pub struct Printer<'a> {
+    alloc: Global,
+    /// The application.
+    pub app: &'a App,
+    stores: Names,
+    ghost named: { stores.items ≡ store_names app.now },
+}
+
+// The names of the stores of an application, by their numbers.
+fn store_names(alloc: Global, app: &App) -> Result<Names, NoMemory>
+    ensures { IfOk result (λ names. names.items ≡ store_names app.now) }
+{
+    let mut names = Names::new(alloc);
+    for store in app.stores.as_slice() {
+        add(&mut names, store.name)?;
+    }
+    Ok(names)
+}
+
+impl<'a> Printer<'a> {
+    /// What prints a record of an application.
+    pub fn new(alloc: Global, app: &'a App) -> Result<Printer<'a>, NoMemory>
+        ensures { IfOk result (λ printer. printer.app.now ≡ app.now) }
+    {
+        let stores = store_names(alloc, app)?;
+        Ok(Printer { alloc, app, stores })
+    }
+
+    /// Writes a lineage.
+    pub fn lineage(&self, out: &mut Output, lineage: &Lineage) -> Result<(), NoMemory>
+        ensures { OnOk result (out.new ≡ out.old ++ lineage_text self.now.app.now lineage.now) }
+    {
+        let text = encode(self.alloc, self.stores.as_slice(), lineage)?;
+        out.put(text.bytes())
+    }
+}

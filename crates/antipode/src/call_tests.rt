@@ -1,0 +1,402 @@
+ghost use Rattle.std.specs.Prelude.{IfSome, IsTrue};
+ghost use Rattle.anti_app.specs.Sound.{is_sound};
+
+use crate::tests::{ends_as, step, step_to};
+use anti_app::{App, read_app};
+use anti_ids::{Bytes, Copies, Name};
+use anti_kind::{Entry, Message, Reply};
+use anti_play::{Played, play};
+use anti_proc::{ProcFault, Process};
+use std::alloc::Global;
+use std::test::Fail;
+
+// A service `c` that asks and a service `d` that tells, in one region with one store.
+macro_rules! asking {
+    ($choices:literal, $ask:literal, $tell:literal) => {
+        concat!(
+            "regions = ['us']
+choices = [",
+            $choices,
+            "]
+store = [{name = 's', kind = 'kv', replicas = ['us']}]
+request = [{service = 'c', handler = 'ask'}]
+[[service]]
+name = 'c'
+region = 'us'
+handler = [{name = 'ask', body = [",
+            $ask,
+            "]}]
+[[service]]
+name = 'd'
+region = 'us'
+handler = [{name = 'tell', body = [",
+            $tell,
+            "]}]"
+        )
+    };
+}
+
+// A call that is delivered three times, and taken once.
+const REPEATED: &str = "regions = ['us']
+choices = ['take c 1', 'go c.1', 'repost d 1', 'repost d 1', 'take d 1', 'go d.4', 'go c.1', 'take d 1']
+request = [{service = 'c', handler = 'ask'}]
+[[service]]
+name = 'c'
+region = 'us'
+handler = [{name = 'ask', body = ['call d tell hi as y']}]
+[[service]]
+name = 'd'
+region = 'us'
+handler = [{name = 'tell', body = ['reply $in']}]";
+
+// A handler that calls itself, as deep as a message may be.
+const DEEP: &str = "regions = ['us']
+choices = ['finish']
+request = [{service = 'd', handler = 'tell'}]
+[[service]]
+name = 'c'
+region = 'us'
+handler = [{name = 'ask', body = ['call d tell hi as y']}]
+[[service]]
+name = 'd'
+region = 'us'
+handler = [{name = 'tell', body = ['call d tell x as y']}]";
+
+// Nine requests, each of which sends 256 messages to one inbox.
+const FULL: &str = "regions = ['us']
+choices = ['finish']
+request = [{service = 'd', handler = 'tell'}, {service = 'd', handler = 'tell'}, {service = 'd', handler = 'tell'}, {service = 'd', handler = 'tell'}, {service = 'd', handler = 'tell'}, {service = 'd', handler = 'tell'}, {service = 'd', handler = 'tell'}, {service = 'd', handler = 'tell'}, {service = 'd', handler = 'tell'}]
+[[service]]
+name = 'c'
+region = 'us'
+handler = [{name = 'ask', body = []}]
+[[service]]
+name = 'd'
+region = 'us'
+handler = [{name = 'tell', body = ['repeat 16', 'repeat 16', 'send c ask x', 'end', 'end']}]";
+
+// A picture that comes back with a reply, so that a reader's barrier waits for it: the document of `examples/service_calls.toml`.
+const PICTURE: &str =
+    "# A front service has a picture kept by another service, writes a post, and sends word of it to a reader in another region. The write of the
+# picture comes back with the reply to the call. So the reader's barrier waits for the picture, too, which the front service never wrote.
+regions = [\"us\", \"eu\"]
+choices = [
+  \"take front 1\", \"go front.1\",
+  \"repost pics 1\", # the call is delivered twice ..
+  \"take pics 1\", \"go pics.3\", \"go pics.3\",
+  \"take pics 1\", # .. and starts one process
+  \"go front.1\", \"go front.1\", \"go front.1\",
+  \"ship posts eu 1\",
+  \"take reader 1\", \"go reader.2\",
+  \"go reader.2\", # the barrier has to wait: the picture is not in eu yet
+  \"finish\",
+]
+store = [
+  { name = \"posts\", kind = \"kv\", replicas = [\"us\", \"eu\"] },
+  { name = \"media\", kind = \"kv\", replicas = [\"us\", \"eu\"] },
+]
+request = [{ service = \"front\", handler = \"post\", value = \"sunset\" }]
+
+[[service]]
+name = \"front\"
+region = \"us\"
+handler = [{ name = \"post\", body = [\"call pics put $in as m\", \"write posts p1 $m\", \"send reader note p1\"] }]
+
+[[service]]
+name = \"pics\"
+region = \"us\"
+handler = [{ name = \"put\", body = [\"write media m1 $in\", \"reply m1\"] }]
+
+[[service]]
+name = \"reader\"
+region = \"eu\"
+handler = [{ name = \"note\", body = [\"barrier\", \"read posts $in as p\", \"read media $p as m\"] }]
+";
+
+// Its record.
+const PICTURE_SEEN: &str = "record 1
+1 front.1 front.1/1 take 1 = got 1 request post 0 \"sunset\" 1;
+2 pics.1 front.1/1 post call put 1 \"sunset\" 1; = posted 1
+3 pics.2 ~0 repost 1 = done
+4 pics.3 pics.3/1 take 1 = got 1 call put 1 \"sunset\" 1;
+5 media.1 pics.3/1 write m1 \"sunset\" 1; = m1@1
+6 pics.4 pics.3/1 post reply 1 \"m1\" 1;media/m1@1 = done
+7 pics.5 front.1/1 takereply 1 = got \"m1\" 1;media/m1@1
+8 posts.1 front.1/1 write p1 \"m1\" 1;media/m1@1 = p1@1
+9 posts.2 ~0 ship eu 1 1 = moved
+9 reader.1 front.1/1 post send note 1 \"p1\" 1;posts/p1@1,media/m1@1 = posted 1
+10 reader.2 reader.2/1 take 1 = got 1 send note 1 \"p1\" 1;posts/p1@1,media/m1@1
+11 posts.3 reader.2/1 look eu 1;posts/p1@1 = clear
+12 posts.4 ~0 ship us 1 1 = moved
+13 media.2 ~0 ship us 1 1 = moved
+14 media.3 ~0 ship eu 1 1 = moved
+15 media.4 reader.2/1 look eu 1;media/m1@1 = clear
+16 posts.5 reader.2/1 read eu p1 = p1@1 \"m1\" 1;media/m1@1
+17 media.5 reader.2/1 read eu m1 = m1@1 \"sunset\" 1;
+wait 7 take pics 1
+wait 14 go reader.2
+process front.1 front post fine
+process pics.3 pics put fine
+process reader.2 reader note fine
+end 18
+";
+
+// Documents with calls and sends, and the record of each.
+static RECORDS: [(&str, &str); 8] = [
+    (PICTURE, PICTURE_SEEN),
+    (
+        REPEATED,
+        "record 1
+1 c.1 c.1/1 take 1 = got 1 request ask 0 \"\" 1;
+2 d.1 c.1/1 post call tell 1 \"hi\" 1; = posted 1
+3 d.2 ~0 repost 1 = done
+4 d.3 ~0 repost 1 = done
+5 d.4 d.4/1 take 1 = got 1 call tell 1 \"hi\" 1;
+6 d.5 d.4/1 post reply 1 \"hi\" 1; = done
+7 d.6 c.1/1 takereply 1 = got \"hi\" 1;
+wait 8 take d 1
+process c.1 c ask fine
+process d.4 d tell fine
+end 7
+",
+    ),
+    // the lineage goes with the call and comes back with the reply
+    (
+        asking!(
+            "'take c 1', 'go c.1', 'go c.1', 'take d 1', 'go d.2', 'go d.2', 'go c.1', 'go c.1'",
+            "'write s k a', 'call d tell hi as y', 'write s $y b'",
+            "'write s j $in', 'reply j2'"
+        ),
+        "record 1
+1 c.1 c.1/1 take 1 = got 1 request ask 0 \"\" 1;
+2 s.1 c.1/1 write k \"a\" 1; = k@1
+3 d.1 c.1/1 post call tell 1 \"hi\" 1;s/k@1 = posted 1
+4 d.2 d.2/1 take 1 = got 1 call tell 1 \"hi\" 1;s/k@1
+5 s.2 d.2/1 write j \"hi\" 1;s/k@1 = j@2
+6 d.3 d.2/1 post reply 1 \"j2\" 1;s/k@1,s/j@2 = done
+7 d.4 c.1/1 takereply 1 = got \"j2\" 1;s/k@1,s/j@2
+8 s.3 c.1/1 write j2 \"b\" 1;s/k@1,s/j@2 = j2@3
+process c.1 c ask fine
+process d.2 d tell fine
+end 8
+",
+    ),
+    // two sends, of which the later is taken first, and reposts before and after
+    (
+        asking!(
+            "'take c 1', 'go c.1', 'go c.1', 'take d 2', 'repost d 2', 'take d 2', 'take d 1', 'repost d 1', 'take d 1', 'repost d 3'",
+            "'send d tell one', 'send d tell two'",
+            "'reply $in'"
+        ),
+        "record 1
+1 c.1 c.1/1 take 1 = got 1 request ask 0 \"\" 1;
+2 d.1 c.1/1 post send tell 1 \"one\" 1; = posted 1
+3 d.2 c.1/1 post send tell 1 \"two\" 1; = posted 2
+4 d.3 d.3/1 take 2 = got 2 send tell 1 \"two\" 1;
+5 d.4 ~0 repost 2 = done
+6 d.5 d.5/1 take 1 = got 1 send tell 1 \"one\" 1;
+7 d.6 ~0 repost 1 = done
+wait 6 take d 2
+wait 9 take d 1
+wait 10 repost d 3
+process c.1 c ask fine
+process d.3 d tell fine
+process d.5 d tell fine
+end 7
+",
+    ),
+    // a handler that ends for a bad key replies with what was set by then
+    (
+        asking!(
+            "'take c 1', 'go c.1', 'take d 1', 'go d.2', 'go c.1', 'go c.1'",
+            "'call d tell x.y as y', 'write s $y v'",
+            "'reply no', 'write s $in v'"
+        ),
+        "record 1
+1 c.1 c.1/1 take 1 = got 1 request ask 0 \"\" 1;
+2 d.1 c.1/1 post call tell 1 \"x.y\" 1; = posted 1
+3 d.2 d.2/1 take 1 = got 1 call tell 1 \"x.y\" 1;
+4 d.3 d.2/1 post reply 1 \"no\" 1; = done
+5 d.4 c.1/1 takereply 1 = got \"no\" 1;
+6 s.1 c.1/1 write no \"v\" 1; = no@1
+process c.1 c ask fine
+process d.2 d tell badkey
+end 6
+",
+    ),
+    // `stop` before the reply, which then brings nothing, and `nack`, which replies too
+    (
+        asking!(
+            "'take c 1', 'go c.1', 'take d 1', 'go d.2', 'go d.2', 'go c.1', 'go c.1'",
+            "'call d tell k as y', 'write s j $y'",
+            "'write s $in v', 'reply $in', 'stop'"
+        ),
+        "record 1
+1 c.1 c.1/1 take 1 = got 1 request ask 0 \"\" 1;
+2 d.1 c.1/1 post call tell 1 \"k\" 1; = posted 1
+3 d.2 d.2/1 take 1 = got 1 call tell 1 \"k\" 1;
+4 s.1 d.2/1 write k \"v\" 1; = k@1
+5 d.3 d.2/2 post reply 1 \"k\" 1; = done
+6 d.4 c.1/1 takereply 1 = got \"k\" 1;
+7 s.2 c.1/1 write j \"k\" 1; = j@2
+process c.1 c ask fine
+process d.2 d tell fine
+end 7
+",
+    ),
+    (
+        asking!(
+            "'take c 1', 'go c.1', 'take d 1', 'go c.1', 'go d.2', 'go d.2'",
+            "'call d tell k as y'",
+            "'nack', 'reply never'"
+        ),
+        "record 1
+1 c.1 c.1/1 take 1 = got 1 request ask 0 \"\" 1;
+2 d.1 c.1/1 post call tell 1 \"k\" 1; = posted 1
+3 d.2 d.2/1 take 1 = got 1 call tell 1 \"k\" 1;
+4 d.3 d.2/1 post reply 1 \"\" 1; = done
+wait 4 go c.1
+wait 6 go d.2
+process c.1 c ask open
+process d.2 d tell fine
+end 4
+",
+    ),
+    // a call that is still to be answered, whose handler has its reply still to post
+    (
+        asking!(
+            "'take c 1', 'go c.1', 'take d 1'",
+            "'call d tell k as y'",
+            ""
+        ),
+        "record 1
+1 c.1 c.1/1 take 1 = got 1 request ask 0 \"\" 1;
+2 d.1 c.1/1 post call tell 1 \"k\" 1; = posted 1
+3 d.2 d.2/1 take 1 = got 1 call tell 1 \"k\" 1;
+process c.1 c ask open
+process d.2 d tell open
+end 3
+",
+    ),
+];
+
+#[test]
+fn services_call_each_other(rt: HostRuntime) {
+    for (document, record) in &RECORDS {
+        let row = step(document.as_bytes(), 0, record.as_bytes(), b"");
+        assert_eq!(rt;
+            ends_as(rt.alloc(), &row),
+            Some(true),
+            "{record} of {document}"
+        );
+    }
+}
+
+// The end of the record of a chain of calls, of which the last would be too deep.
+const TOO_DEEP: &[u8] = b"process d.1 d tell fine
+process d.3 d tell fine
+process d.5 d tell fine
+process d.7 d tell fine
+process d.9 d tell fine
+process d.11 d tell fine
+process d.13 d tell fine
+process d.15 d tell fine
+process d.17 d tell depth
+end 33
+";
+
+// The end of the record of an inbox that is full before the ninth request has sent a message.
+const NINTH_SENDS_NONE: &[u8] = b"process d.7 d tell fine
+process d.8 d tell fine
+process d.9 d tell store c
+end 4105
+";
+
+#[test]
+fn messages_are_not_too_deep_and_an_inbox_fills(rt: HostRuntime) {
+    let deep = step_to(DEEP.as_bytes(), TOO_DEEP);
+    assert_eq!(rt; ends_as(rt.alloc(), &deep), Some(true));
+    let full = step_to(FULL.as_bytes(), NINTH_SENDS_NONE);
+    assert_eq!(rt; ends_as(rt.alloc(), &full), Some(true));
+}
+
+// The application that the bytes state. `None` where they state none or memory runs out.
+fn application(alloc: Global, document: &[u8]) -> Option<App>
+    ensures { IfSome result (λ app. IsTrue (is_sound app)) }
+{
+    match read_app(alloc, document) {
+        Ok(app) => Some(app),
+        Err(_) => None,
+    }
+}
+
+// An entry like this, whose message names this handler and has this depth and baggage. `None` where memory runs out.
+fn changed(
+    alloc: Global,
+    entry: &Entry,
+    handler: Name,
+    depth: u32,
+    baggage: &[u8],
+) -> Option<Entry> {
+    let Reply::Got { number, message } = &entry.reply else {
+        return None;
+    };
+    let mut text = Bytes::new(alloc);
+    text.append(baggage).ok()?;
+    Some(Entry {
+        stamp: entry.stamp,
+        object: entry.object,
+        place: entry.place,
+        seat: entry.seat,
+        actor: entry.actor,
+        span: entry.span,
+        call: entry.call.copy(alloc).ok()?,
+        reply: Reply::Got {
+            number: *number,
+            message: Message {
+                kind: message.kind,
+                to: message.to,
+                depth,
+                handler,
+                value: message.value.copy(alloc).ok()?,
+                baggage: text,
+            },
+        },
+    })
+}
+
+// What comes of a process that is to be born by an entry whose message is changed. `None` where memory runs out.
+#[tactic(auto, using(crate::proofs::Objects::runs))]
+fn birth(
+    alloc: Global,
+    app: &App,
+    entry: &Entry,
+    handler: Name,
+    depth: u32,
+    baggage: &[u8],
+) -> Option<Result<(), ProcFault>>
+    requires { IsTrue (is_sound app.now) }
+{
+    let entry = changed(alloc, entry, handler, depth, baggage)?;
+    match Process::born(alloc, app, &entry) {
+        Ok(_) => Some(Ok(())),
+        Err(fault) => Some(Err(fault)),
+    }
+}
+
+#[test]
+fn a_foreign_message_starts_no_process(rt: HostRuntime) -> Result<(), Fail> {
+    let alloc = rt.alloc();
+    let app = application(alloc, REPEATED.as_bytes()).ok_or("no application")?;
+    let Played { trace, .. } = play(alloc, &app)?;
+    let entry = trace.as_slice().get(4).ok_or("an entry")?;
+    let tell = Name::new(b"tell").ok().ok_or("a name")?;
+    let none = Name::new(b"none").ok().ok_or("a name")?;
+    let foreign = Some(Err(ProcFault::Foreign));
+    assert_eq!(rt; birth(alloc, &app, entry, tell, 1, b"1;"), Some(Ok(())));
+    assert_eq!(rt; birth(alloc, &app, entry, tell, 8, b"1;"), Some(Ok(())));
+    assert_eq!(rt; birth(alloc, &app, entry, none, 1, b"1;"), foreign);
+    assert_eq!(rt; birth(alloc, &app, entry, tell, 9, b"1;"), foreign);
+    assert_eq!(rt; birth(alloc, &app, entry, tell, 1, b"0;"), foreign);
+    Ok(())
+}
