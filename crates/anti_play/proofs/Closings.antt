@@ -24,7 +24,7 @@ use Rattle.anti_play.specs.declared.world.World.{World}
 use Rattle.anti_object.specs.Starts.{start_of}
 use Rattle.anti_object.proofs.Starts.{start_there}
 use Rattle.anti_app.proofs.SoundLemmas.{SoundApp, app_known}
-use Rattle.anti_proc.specs.Numbers.{object_count}
+use Rattle.anti_body.specs.Numbers.{object_count}
 use Rattle.anti_play.specs.Standing.{WorldStands}
 use Rattle.anti_play.proofs.Growth.{legal_short}
 

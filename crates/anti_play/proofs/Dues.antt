@@ -41,7 +41,7 @@ use Rattle.anti_object.specs.Starts.{start_of, store_start, inbox_start, message
 use Rattle.anti_object.proofs.Starts.{start_of-store, start_of-inbox, start_sound}
 use Rattle.anti_proc.specs.Known.{AreIdsOf, IsCallAt, IsMessageTo, IsOverApp, IsReplyAt, IsRowOf}
 use Rattle.anti_proc.specs.Local.{id_at}
-use Rattle.anti_proc.specs.Numbers.{service_at, store_names}
+use Rattle.anti_body.specs.Numbers.{service_at, store_names}
 
 -- ---- facts of each item of a list
 

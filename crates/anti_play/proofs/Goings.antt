@@ -21,7 +21,7 @@ use Rattle.anti_trace.specs.Traces.{entries_on, same_actor, is_on}
 use Rattle.anti_trace.proofs.Puts.{same_actor_itself}
 use Rattle.anti_proc.specs.declared.process.Process.{Process}
 use Rattle.anti_proc.specs.Births.{birth_at, births, is_birth}
-use Rattle.anti_proc.specs.Numbers.{object_count}
+use Rattle.anti_body.specs.Numbers.{object_count}
 use Rattle.anti_proc.specs.Standing.{birth_of}
 use Rattle.anti_app.specs.declared.app.Choice.TheVariants.{Go}
 use Rattle.anti_play.specs.Schedule.{chosen, go_of}

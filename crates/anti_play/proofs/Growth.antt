@@ -22,7 +22,7 @@ use Rattle.anti_trace.proofs.Puts.{put_next_is_trace, All-put, length-put, entri
 use Rattle.anti_play.specs.declared.asked.Asked.{Asked}
 use Rattle.anti_play.specs.Schedule.{clock_of, entry_of, made}
 use Rattle.anti_proc.specs.Known.{IsCallAt, IsEntryOf, IsReplyAt}
-use Rattle.anti_proc.specs.Numbers.{object_count}
+use Rattle.anti_body.specs.Numbers.{object_count}
 use Rattle.anti_play.specs.Runs.{IsRun, IsBorn}
 use Rattle.anti_play.proofs.Dues.{KnownAt, due_known, each_all}
 

@@ -12,7 +12,7 @@ use Rattle.anti_kind.specs.Stored.{is_ship, is_shipped}
 use Rattle.anti_app.specs.declared.app.App.{App}
 use Rattle.anti_app.specs.Sound.{is_sound}
 use Rattle.anti_object.specs.Standing.{object_start}
-use Rattle.anti_proc.specs.Numbers.{object_count}
+use Rattle.anti_body.specs.Numbers.{object_count}
 use Rattle.anti_trace.specs.Traces.{entries_on, put}
 use Rattle.anti_trace.proofs.Sames.{same_trace}
 use Rattle.anti_play.specs.declared.logged.Logged.{Logged}

@@ -10,7 +10,7 @@ use Rattle.anti_object.specs.declared.object.Object.{Object}
 use Rattle.anti_object.specs.Starts.{start_of}
 use Rattle.anti_object.specs.Standing.{object_start, ObjectAt, IsNew}
 use Rattle.anti_object.proofs.Starts.{start_there, start_known}
-use Rattle.anti_proc.specs.Numbers.{object_count}
+use Rattle.anti_body.specs.Numbers.{object_count}
 use Rattle.anti_play.specs.declared.logged.Logged.{Logged}
 use Rattle.anti_proc.specs.declared.process.Process.{Process}
 use Rattle.anti_play.specs.Standing.{IsObject, born_at}

@@ -36,7 +36,7 @@ use Rattle.anti_proc.specs.Known.{IsCallAt, IsEntryOf, IsReplyAt}
 use Rattle.anti_proc.specs.Trees.{Tree, Asks, Ends, IsAskedAt, want_of, end_of, branch}
 use Rattle.anti_proc.specs.Births.{birth_at}
 use Rattle.anti_proc.specs.Meaning.{tree_of, process_after}
-use Rattle.anti_proc.specs.Numbers.{inbox_number, object_count}
+use Rattle.anti_body.specs.Numbers.{inbox_number, object_count}
 use Rattle.anti_proc.specs.Standing as standing
 use Rattle.anti_proc.specs.Running.{IsRunOf}
 use Rattle.anti_proc.specs.Standing.{process_of, birth_of, full_of}

@@ -24,7 +24,7 @@ use Rattle.anti_proc.specs.declared.want.Want.TheVariants.{Make, Over}
 use Rattle.anti_proc.specs.Known.{IsCallAt}
 use Rattle.anti_proc.specs.Trees.{Tree, want_of}
 use Rattle.anti_proc.specs.Meaning.{process_after}
-use Rattle.anti_proc.specs.Numbers.{inbox_number, object_count}
+use Rattle.anti_body.specs.Numbers.{inbox_number, object_count}
 use Rattle.anti_play.specs.declared.asked.Asked.{Asked}
 use Rattle.anti_play.specs.Schedule.{asked_by, carrying, made_at, chosen, offers, first_made, after_turns, finished, IsComplete}
 use Rattle.anti_play.specs.Runs.{IsRun, IsBorn, GoesOn}

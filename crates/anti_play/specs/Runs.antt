@@ -7,7 +7,7 @@ use Rattle.anti_kind.specs.declared.call.Entry.{Entry}
 use Rattle.anti_kind.specs.Objects.{Start, IsLegal}
 use Rattle.anti_app.specs.declared.app.App.{App}
 use Rattle.anti_trace.specs.Traces.{IsTrace, entries_on, entries_by}
-use Rattle.anti_proc.specs.Numbers.{object_count}
+use Rattle.anti_body.specs.Numbers.{object_count}
 use Rattle.anti_object.specs.Starts.{start_of}
 use Rattle.anti_proc.specs.Known.{IsEntryOf}
 

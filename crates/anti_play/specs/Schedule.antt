@@ -25,7 +25,7 @@ use Rattle.anti_proc.specs.declared.want.Want.{Want}
 use Rattle.anti_proc.specs.declared.want.Want.TheVariants.{Make, Over}
 use Rattle.anti_proc.specs.Trees.{want_of}
 use Rattle.anti_proc.specs.Births.{births}
-use Rattle.anti_proc.specs.Numbers.{inbox_number, object_count}
+use Rattle.anti_body.specs.Numbers.{inbox_number, object_count}
 use Rattle.anti_proc.specs.Meaning.{process_after}
 
 -- What a choice asks for.

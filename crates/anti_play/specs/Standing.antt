@@ -29,7 +29,7 @@ use Rattle.anti_play.specs.declared.outcome.Outcome.{Outcome}
 use Rattle.anti_play.specs.declared.outcome.Outcome.TheVariants as outcomes
 use Rattle.anti_play.specs.declared.world.World.{World}
 use Rattle.anti_play.specs.Schedule.{clock_of, made_at, next_call}
-use Rattle.anti_proc.specs.Numbers.{object_count}
+use Rattle.anti_body.specs.Numbers.{object_count}
 use Rattle.anti_play.specs.Runs.{IsRun}
 
 -- ---- objects

@@ -1,6 +1,6 @@
 ghost use Rattle.std.specs.Prelude.{◌≡◌, ◌++◌, ◌∷◌, [], IfOk, OnOk, IsTrue};
 ghost use Rattle.anti_app.specs.Sound.{is_sound};
-ghost use Rattle.anti_proc.specs.Numbers.{object_count};
+ghost use Rattle.anti_body.specs.Numbers.{object_count};
 ghost use Rattle.anti_play.specs.Standing.{WorldStands};
 ghost use Rattle.anti_play.specs.Closing.{AreFirst, NoneBorn};
 

@@ -2,7 +2,7 @@ ghost use Rattle.std.specs.Prelude.{◌≡◌, ◌<◌, ◌+◌, ◌^◌, false,
 ghost use Rattle.anti_kind.specs.Stored.{is_shipped};
 ghost use Rattle.anti_trace.specs.Traces.{entries_on};
 ghost use Rattle.anti_proc.specs.Births.{births};
-ghost use Rattle.anti_proc.specs.Numbers.{object_count};
+ghost use Rattle.anti_body.specs.Numbers.{object_count};
 ghost use Rattle.anti_proc.specs.Standing.{birth_of};
 ghost use Rattle.anti_app.specs.Sound.{is_sound};
 ghost use Rattle.anti_play.specs.Schedule.{IsComplete, chosen, finished, first_made, first_of, go_of, goes, ships, takes};

@@ -2,7 +2,7 @@ ghost use Rattle.std.specs.Prelude.{◌≡◌, ◌+◌, ◌<◌, ◌^◌, ◌++�
 ghost use Rattle.anti_app.specs.declared.app.App.{App};
 ghost use Rattle.anti_app.specs.Sound.{is_sound, is_sound_choice};
 ghost use Rattle.anti_proc.specs.Known.{IsCallAt};
-ghost use Rattle.anti_proc.specs.Numbers.{inbox_number};
+ghost use Rattle.anti_body.specs.Numbers.{inbox_number};
 ghost use Rattle.anti_play.specs.Schedule.{asked, carrying, chosen, clock_of, made_at};
 ghost use Rattle.anti_play.specs.Runs.{Entries};
 ghost use Rattle.anti_play.specs.Standing.{AllStand, Changes, Chose, Grows, HasClock, HasSpare, IsOutcome, IsWorldOf, MayGrow, Stops, StopsBy, WorldStands, born_at, is_named};

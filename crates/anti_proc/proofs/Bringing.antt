@@ -15,7 +15,7 @@ use Rattle.anti_proc.specs.declared.want.End.TheVariants.{Fine}
 use Rattle.anti_proc.specs.Brought.{CarriesWhatCame, ask_of, brought_by, came, came_first, made}
 use Rattle.anti_proc.specs.Local.{Setting}
 use Rattle.anti_proc.specs.Meaning.{begun, setting_at, started, stated_in, tree_of}
-use Rattle.anti_proc.specs.Numbers.{body_of, handler_number, service_at}
+use Rattle.anti_body.specs.Numbers.{body_of, handler_number, service_at}
 use Rattle.anti_proc.specs.Trees.{Tree, Ask, Asks, Ends, after}
 use Rattle.anti_proc.proofs.Keeping.{AnyInbox, AnyReply, AnyStore, Good, Keeps, any_fits, begun_good}
 

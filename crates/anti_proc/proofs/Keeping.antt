@@ -38,7 +38,7 @@ use Rattle.anti_proc.specs.Brought.{came}
 use Rattle.anti_proc.specs.Calls.{LooksWhereItMay}
 use Rattle.anti_proc.specs.Local.{Setting, Local, any_name, first_local, held, held_ids, held_in, held_text, ids_in, is_absent, key_of, new_span, removed, rooted, rows_ids, set, set_or, text_of, with_held}
 use Rattle.anti_proc.specs.Meaning.{Go, add, after_post, after_read, after_reply, after_write, begun, block_tree, body_tree, carry, hear_call, if_deep, kind_of, leave, leave_by, looks, message, planned, post_call, read_call, stated_in, step_tree, turns, with_key, write_call, wrote}
-use Rattle.anti_proc.specs.Numbers.{inbox_of, is_store_here, store_names, store_number, stores_here}
+use Rattle.anti_body.specs.Numbers.{inbox_of, is_store_here, store_names, store_number, stores_here}
 use Rattle.anti_proc.specs.Trees.{Tree, Ask, Asks, Ends}
 use Rattle.anti_proc.proofs.Plans.{IsLookAt, among_here, looks_are_at}
 

@@ -20,7 +20,7 @@ use Rattle.anti_proc.specs.Calls.{IsOfProcess}
 use Rattle.anti_proc.specs.Foreign.{has_baggage, has_stores, is_foreign, is_foreign_birth, is_foreign_to}
 use Rattle.anti_proc.specs.Known.{AllKnown, AreIdsOf, IsCallAt, IsMessageTo, IsReplyAt, IsRowOf}
 use Rattle.anti_proc.specs.Meaning.{process_after}
-use Rattle.anti_proc.specs.Numbers.{has_handler, service_at, store_names}
+use Rattle.anti_body.specs.Numbers.{has_handler, service_at, store_names}
 use Rattle.anti_proc.specs.Trees.{Tree, Asks, Ends, IsAskedAt, branch, want_of}
 use Rattle.anti_proc.proofs.Runs.{process_after_more}
 pub use Rattle.anti_proc.proofs.KnownCalls.{process_known, tree_known}

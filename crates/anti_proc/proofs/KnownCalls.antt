@@ -31,7 +31,7 @@ use Rattle.anti_proc.specs.Foreign.{has_baggage, states}
 use Rattle.anti_proc.specs.Known.{AllKnown, IsEntryOf, AreIdsOf, IsCallAt, IsOverApp, IsReplyAt, IsRowOf}
 use Rattle.anti_proc.specs.Local.{Setting, id_at, row_ids, rows_ids}
 use Rattle.anti_proc.specs.Meaning.{begun, setting_at, started, stated_in, tree_of, process_after, reply_of}
-use Rattle.anti_proc.specs.Numbers.{body_of, handler_number, service_at, store_names}
+use Rattle.anti_body.specs.Numbers.{body_of, handler_number, service_at, store_names}
 use Rattle.anti_proc.specs.Trees.{Tree, Asks, Ends, Ask, after}
 use Rattle.anti_proc.proofs.Keeping.{Good, IsMade, Keeps, begun_good}
 use Rattle.anti_proc.proofs.Lineages.{Written, each_append, none_lineage, stated_over, written_at}

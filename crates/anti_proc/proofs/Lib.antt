@@ -5,10 +5,8 @@ pub mod Knowing
 pub mod KnownCalls
 pub mod Lineages
 pub mod Looking
-pub mod Placing
 pub mod Plans
 pub mod ProcessCalls
-pub mod Runnable
 pub mod Running
 pub mod Runs
 pub mod Served

@@ -25,7 +25,7 @@ use Rattle.anti_proc.specs.Brought.{CarriesLineages, HasLineages, ask_of, came}
 use Rattle.anti_proc.specs.Known.{IsOverApp}
 use Rattle.anti_proc.specs.Local.{Setting, id_at, row_ids, rows_ids}
 use Rattle.anti_proc.specs.Meaning.{begun, setting_at, started, stated, stated_in, tree_of}
-use Rattle.anti_proc.specs.Numbers.{body_of, handler_number, service_at, store_names}
+use Rattle.anti_body.specs.Numbers.{body_of, handler_number, service_at, store_names}
 use Rattle.anti_proc.specs.Trees.{Tree, Ask, Asks, Ends, after}
 use Rattle.anti_proc.proofs.Keeping.{AnyInbox, AnyStore, Good, Keeps, any_fits, begun_good, nothing_more}
 

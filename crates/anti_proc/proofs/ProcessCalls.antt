@@ -14,7 +14,7 @@ use Rattle.anti_proc.specs.declared.want.Want.{Want}
 use Rattle.anti_proc.specs.Calls.{AllOfProcess, IsMadeAt, IsOfProcess, LooksWhereItMay, WantsOfProcess}
 use Rattle.anti_proc.specs.Local.{Setting}
 use Rattle.anti_proc.specs.Meaning.{begun, process_after, reply_of, setting_at, started, stated_in, tree_of}
-use Rattle.anti_proc.specs.Numbers.{body_of, handler_number, service_at, store_among}
+use Rattle.anti_body.specs.Numbers.{body_of, handler_number, service_at, store_among}
 use Rattle.anti_proc.specs.Trees.{Tree, Asks, Ends, after, branch, want_of}
 use Rattle.anti_proc.proofs.Keeping.{AnyReply, Good, IsMade, Keeps, begun_good, block_fits, nothing_more}
 use Rattle.anti_proc.proofs.Plans.{here_within}

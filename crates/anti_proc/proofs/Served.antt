@@ -20,9 +20,9 @@ use Rattle.anti_app.specs.declared.app.ServiceDef.{ServiceDef}
 use Rattle.anti_app.specs.declared.app.StoreDef.{StoreDef}
 use Rattle.anti_app.specs.Sound.{fits_services, fits_stores, has_named, is_near, is_read_by_key, is_polled, is_scanned, is_served, is_stored, serves}
 use Rattle.anti_app.proofs.SoundLemmas.{SoundApp, SoundBody, SoundHandler, SoundService, SoundStore}
-use Rattle.anti_proc.specs.Numbers.{body_among, body_in, body_of, has_handler, inbox_of, service_among, service_at, store_among, store_names, store_number}
+use Rattle.anti_body.specs.Numbers.{body_among, body_in, body_of, has_handler, inbox_of, service_among, service_at, store_among, store_names, store_number}
 use Rattle.anti_proc.proofs.Keeping.{BlockFits, StepFits, plain_is_name}
-use Rattle.anti_proc.proofs.Runnable.{found_in}
+use Rattle.anti_body.proofs.Runnable.{found_in}
 
 -- ---- lists
 

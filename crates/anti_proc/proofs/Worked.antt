@@ -34,7 +34,7 @@ use Rattle.anti_proc.specs.Brought.{brought, made}
 use Rattle.anti_proc.specs.Foreign.{is_foreign, is_foreign_birth}
 use Rattle.anti_proc.specs.Local.{Setting, first_local}
 use Rattle.anti_proc.specs.Meaning.{begun, body_tree, hear_call, setting_at, stated_in, tree_of}
-use Rattle.anti_proc.specs.Numbers.{stores_here}
+use Rattle.anti_body.specs.Numbers.{stores_here}
 use Rattle.anti_proc.specs.Trees.{Ends, next_of}
 
 abbrev key : List ℕ

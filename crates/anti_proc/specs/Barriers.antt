@@ -10,7 +10,7 @@ use Rattle.anti_shim.specs.Plans.{with_look}
 use Rattle.anti_proc.specs.declared.want.Want.TheVariants.{Make}
 use Rattle.anti_proc.specs.Local.{Setting, Local}
 use Rattle.anti_proc.specs.Meaning.{Go, planned}
-use Rattle.anti_proc.specs.Numbers.{is_store_here}
+use Rattle.anti_body.specs.Numbers.{is_store_here}
 use Rattle.anti_proc.specs.Trees.{Tree, after, next_of}
 
 -- those of these looks that are made at a store

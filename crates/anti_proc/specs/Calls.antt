@@ -7,7 +7,7 @@ use Rattle.anti_kind.specs.declared.call.Reply.{Reply}
 use Rattle.anti_app.specs.declared.app.App.{App}
 use Rattle.anti_proc.specs.declared.want.Want.{Want}
 use Rattle.anti_proc.specs.declared.want.Want.TheVariants.{Make, Over}
-use Rattle.anti_proc.specs.Numbers.{is_store_here}
+use Rattle.anti_body.specs.Numbers.{is_store_here}
 use Rattle.anti_proc.specs.Trees.{Tree, Asks, Ends}
 
 -- A write, a read, a scan, a poll or a look is made at a store; the number past the stores stands for a store that is not there. A post

@@ -9,7 +9,7 @@ use Rattle.anti_baggage.specs.declared.fault.BaggageFault.{BaggageFault}
 use Rattle.anti_baggage.specs.Reading.{read_lineage}
 use Rattle.anti_app.specs.declared.app.App.{App}
 use Rattle.anti_proc.specs.declared.given.TheConstants.{MOST_DEPTH}
-use Rattle.anti_proc.specs.Numbers.{store_names, service_at, has_handler}
+use Rattle.anti_body.specs.Numbers.{store_names, service_at, has_handler}
 
 -- whether each id is of a store of the application
 abbrev pub has_stores : App → List WriteId → Bool

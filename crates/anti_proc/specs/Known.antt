@@ -16,7 +16,7 @@ use Rattle.anti_proc.specs.declared.given.TheConstants.{MOST_DEPTH}
 use Rattle.anti_proc.specs.Calls.{IsOfProcess}
 use Rattle.anti_proc.specs.Foreign.{has_baggage}
 use Rattle.anti_proc.specs.Local.{id_at}
-use Rattle.anti_proc.specs.Numbers.{store_names, service_at, has_handler}
+use Rattle.anti_body.specs.Numbers.{store_names, service_at, has_handler}
 use Rattle.anti_proc.specs.Trees.{Tree, Asks, Ends}
 
 -- ids over the stores of the application

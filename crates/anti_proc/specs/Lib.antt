@@ -7,8 +7,6 @@ pub mod Foreign
 pub mod Known
 pub mod Local
 pub mod Meaning
-pub mod Numbers
-pub mod Places
 pub mod Running
 pub mod Standing
 pub mod Statements

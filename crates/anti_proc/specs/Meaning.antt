@@ -29,7 +29,7 @@ use Rattle.anti_proc.specs.declared.variables.Held.TheVariants.{Wrote, Saw, Hear
 use Rattle.anti_proc.specs.declared.want.End.{End}
 use Rattle.anti_proc.specs.declared.want.End.TheVariants.{Fine, Depth, BadKey, LineageFull}
 use Rattle.anti_proc.specs.Local.{Setting, Local, first_local, new_span, rooted, held, set, set_or, held_ids, removed, is_absent, text_of, any_name, key_of}
-use Rattle.anti_proc.specs.Numbers.{store_number, store_names, handler_number, service_at, inbox_of, body_of, region_of, stores_here}
+use Rattle.anti_body.specs.Numbers.{store_number, store_names, handler_number, service_at, inbox_of, body_of, region_of, stores_here}
 use Rattle.anti_proc.specs.Trees.{Tree, Asks, Ends, after}
 
 -- what comes next

@@ -1,18 +1,12 @@
--- Which applications can be run, and that the spans of a process are counted in 32 bits.
-use Rattle.std.specs.Prelude.{ℕ, ◌+◌, ◌^◌, ◌<◌, ◌≤◌}
+-- The spans of a process are counted in 32 bits, and its message is not too deep.
+use Rattle.std.specs.Prelude.{◌+◌, ◌^◌, ◌<◌, ◌≤◌}
 use Rattle.anti_lang.specs.Bodies.{block_from}
 use Rattle.anti_lang.specs.Spans.{spans_of}
 use Rattle.anti_app.specs.declared.app.App.{App}
 use Rattle.anti_proc.specs.declared.given.TheConstants.{MOST_DEPTH}
 use Rattle.anti_proc.specs.declared.process.Process.{Process}
 use Rattle.anti_proc.specs.declared.run.Run.{Run}
-use Rattle.anti_proc.specs.Numbers.{body_of, object_count}
 use Rattle.anti_proc.specs.Standing.{left_to_run}
-
--- The numbers of its objects fit, and no body begins more than 64 spans.
-pub record CanRun (app : App) : Type 0 where
-  pub objects : object_count app < 2 ^ 32
-  pub spans : (service handler : ℕ) → spans_of (body_of app service handler) ≤ 64
 
 -- the number of the last span of a run fits
 abbrev pub HasSpans : App → Run → Type 0

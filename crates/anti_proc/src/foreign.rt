@@ -3,13 +3,13 @@ ghost use Rattle.std.specs.List.{list_all};
 ghost use Rattle.anti_proc.specs.Brought.{came_first};
 ghost use Rattle.anti_proc.specs.Foreign.{has_baggage, has_stores, is_foreign, is_foreign_to};
 ghost use Rattle.anti_proc.specs.Meaning.{stated_in};
-ghost use Rattle.anti_proc.specs.Running.{CanRun};
+ghost use Rattle.anti_body.specs.Running.{CanRun};
 
-use crate::find::{has_handler, service_at, store_names};
 use crate::given::MOST_DEPTH;
 use crate::want::ProcFault;
 use anti_app::App;
 use anti_baggage::{BaggageFault, decode};
+use anti_body::{has_handler, service_at, store_names};
 use anti_ids::Lineage;
 use anti_kind::{Message, Reply, Row};
 use std::alloc::Global;
@@ -45,7 +45,7 @@ fn none_unless(alloc: Global, is_foreign: bool) -> Result<Lineage, ProcFault>
 }
 
 // The lineage that the baggage of a message states. `Foreign` comes exactly where it states none.
-#[tactic(auto, using(crate::proofs::Runnable::names_fit))]
+#[tactic(auto, using(anti_body::proofs::Runnable::names_fit))]
 fn stated(alloc: Global, app: &App, message: &Message) -> Result<Lineage, ProcFault>
     requires { CanRun app.now }
     ensures ids { IfOk result (λ ids. ids ≡ stated_in app.now message.now) }

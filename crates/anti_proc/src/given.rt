@@ -2,8 +2,8 @@ ghost use Rattle.std.specs.Prelude.{◌≡◌, IfOk};
 ghost use Rattle.anti_proc.specs.Meaning.{duty_of, setting_at};
 ghost use Rattle.anti_proc.specs.Standing.{setting};
 
-use crate::find::{region_of, service_at};
 use anti_app::App;
+use anti_body::{region_of, service_at};
 use anti_ids::{Copies, Name, NoMemory, Value};
 use anti_kind::{Message, MessageKind};
 use std::alloc::Global;

@@ -3,13 +3,11 @@
 
 mod adding;
 mod calls;
-mod find;
 mod foreign;
 mod given;
 mod laws;
 mod messages;
 mod next;
-mod place;
 mod process;
 mod run;
 mod state;

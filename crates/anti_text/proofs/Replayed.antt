@@ -11,7 +11,7 @@ use Rattle.anti_object.specs.declared.object.Object.{Object}
 use Rattle.anti_object.specs.Standing.{object_start, ObjectAt, MayMake, IsNew}
 use Rattle.anti_object.specs.Starts.{start_of}
 use Rattle.anti_object.proofs.Starts.{start_past, start_there}
-use Rattle.anti_proc.specs.Numbers.{object_count}
+use Rattle.anti_body.specs.Numbers.{object_count}
 use Rattle.anti_trace.specs.Traces.{is_on, entries_on}
 use Rattle.anti_text.specs.Processes.{is_full_after}
 use Rattle.anti_text.specs.Replays.{AreAfter}

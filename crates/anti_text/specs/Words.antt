@@ -3,7 +3,7 @@ use Rattle.std.specs.Prelude.{ℕ, List, [], ◌++◌, ◌-◌, length, codes, d
 use Rattle.std.specs.Option.{option_map_or}
 use Rattle.anti_ids.specs.declared.id.WriteId.{WriteId}
 use Rattle.anti_app.specs.declared.app.App.{App}
-use Rattle.anti_proc.specs.Numbers.{store_names}
+use Rattle.anti_body.specs.Numbers.{store_names}
 use Rattle.anti_baggage.specs.Escapes.{escaped}
 use Rattle.anti_baggage.specs.Texts as texts
 

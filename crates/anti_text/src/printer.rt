@@ -1,5 +1,5 @@
 ghost use Rattle.std.specs.Prelude.{◌≡◌, ◌++◌, IfOk, OnOk};
-ghost use Rattle.anti_proc.specs.Numbers.{store_names};
+ghost use Rattle.anti_body.specs.Numbers.{store_names};
 ghost use Rattle.anti_text.specs.Words.{lineage_text};
 
 use crate::output::Output;

@@ -2,8 +2,8 @@ ghost use Rattle.std.specs.Prelude.{◌≡◌, ◌++◌, All, OnOk};
 ghost use Rattle.std.specs.List.{flat_map};
 ghost use Rattle.anti_proc.specs.Births.{birth_at, is_birth};
 ghost use Rattle.anti_proc.specs.Known.{IsEntryOf};
-ghost use Rattle.anti_proc.specs.Numbers.{object_count};
-ghost use Rattle.anti_proc.specs.Running.{CanRun};
+ghost use Rattle.anti_body.specs.Numbers.{object_count};
+ghost use Rattle.anti_body.specs.Running.{CanRun};
 ghost use Rattle.anti_text.specs.Processes.{end_text, handler_text, service_text, birth_text, process_line, birth_line, process_lines};
 ghost use Rattle.anti_text.specs.Replays.{AreAfter, IsReplayable};
 

@@ -3,7 +3,7 @@ ghost use Rattle.anti_kind.specs.declared.call.Entry.{Entry};
 ghost use Rattle.anti_kind.specs.Objects.{Follows, IsLegal};
 ghost use Rattle.anti_object.specs.Standing.{object_start, ObjectAt, MayMake};
 ghost use Rattle.anti_trace.specs.Traces.{entries_on};
-ghost use Rattle.anti_proc.specs.Numbers.{object_count};
+ghost use Rattle.anti_body.specs.Numbers.{object_count};
 ghost use Rattle.anti_text.specs.Replays.{AreAfter, IsAfter, IsReplayable};
 
 use anti_app::App;

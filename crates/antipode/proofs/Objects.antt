@@ -4,8 +4,8 @@ use Rattle.anti_kind.specs.declared.call.Entry.{Entry}
 use Rattle.anti_app.specs.declared.app.App.{App}
 use Rattle.anti_app.specs.Sound.{is_sound}
 use Rattle.anti_play.specs.Runs.{IsRun}
-use Rattle.anti_proc.specs.Running.{CanRun}
-use Rattle.anti_proc.proofs.Runnable as runnable
+use Rattle.anti_body.specs.Running.{CanRun}
+use Rattle.anti_body.proofs.Runnable as runnable
 use Rattle.anti_text.specs.Replays.{IsReplayable}
 
 pub replayable : (app : App) (trace : List Entry) → IsTrue (is_sound app) → IsRun app trace → IsReplayable app trace

@@ -1,4 +1,4 @@
-use Rattle.anti_proc.proofs.Runnable.{can_run}
+use Rattle.anti_body.proofs.Runnable.{can_run}
 use Rattle.anti_text.proofs.process_lines.process_lines.Goals as goal
 
 pub lines_on-requires-clause-runs : goal.lines_on-requires-clause-runs

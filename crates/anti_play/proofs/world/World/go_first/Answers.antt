@@ -4,7 +4,7 @@ use Rattle.anti_kind.specs.declared.call.Entry.{Entry}
 use Rattle.anti_app.specs.declared.app.App.{App}
 use Rattle.anti_trace.specs.Traces.{entries_on}
 use Rattle.anti_proc.specs.Births.{births}
-use Rattle.anti_proc.specs.Numbers.{object_count}
+use Rattle.anti_body.specs.Numbers.{object_count}
 use Rattle.anti_play.specs.Schedule.{chosen, first_of, go_of, goes}
 use Rattle.anti_play.specs.Standing.{WorldStands}
 use Rattle.anti_play.proofs.Firsts.{first_of-flat_map}

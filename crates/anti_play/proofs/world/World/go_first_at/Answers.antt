@@ -6,7 +6,7 @@ use Rattle.anti_app.specs.declared.app.App.{App}
 use Rattle.anti_app.specs.declared.app.Choice.TheVariants.{Go}
 use Rattle.anti_trace.specs.Traces.{entries_on}
 use Rattle.anti_proc.specs.Births.{births}
-use Rattle.anti_proc.specs.Numbers.{object_count}
+use Rattle.anti_body.specs.Numbers.{object_count}
 use Rattle.anti_proc.specs.Standing.{birth_of}
 use Rattle.anti_play.specs.Schedule.{chosen, first_of, go_of}
 use Rattle.anti_play.specs.Standing.{WorldStands, born_at, is_named}

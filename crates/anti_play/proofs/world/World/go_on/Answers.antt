@@ -3,7 +3,7 @@ use Rattle.anti_kind.specs.declared.call.Entry.{Entry}
 use Rattle.anti_proc.specs.Standing.{clock_of, process_of}
 use Rattle.anti_proc.specs.Trees.{IsAskedAt}
 use Rattle.anti_proc.specs.declared.process.Process.{Process}
-use Rattle.anti_proc.proofs.Runnable.{can_run}
+use Rattle.anti_body.proofs.Runnable.{can_run}
 use Rattle.anti_proc.specs.declared.want.Want.TheVariants.{Over}
 use Rattle.anti_play.specs.declared.outcome.Outcome.{Outcome}
 use Rattle.anti_play.specs.declared.outcome.Outcome.TheVariants as outcomes

@@ -1,5 +1,5 @@
 use Rattle.std.proofs.Common.{◌<◌, ◌≡◌, length, arith}
-use Rattle.anti_proc.specs.Numbers.{object_count}
+use Rattle.anti_body.specs.Numbers.{object_count}
 use Rattle.anti_object.proofs.Starts.{start_known}
 use Rattle.anti_kind.specs.Objects.{store}
 use Rattle.anti_play.proofs.Shipping.{again_is}

@@ -1,6 +1,6 @@
 use Rattle.std.proofs.Common.{◌≡◌, drop}
-use Rattle.anti_proc.specs.Places.{innermost, steps_of}
-use Rattle.anti_proc.proofs.place.innermost.Given as goal
+use Rattle.anti_body.specs.Places.{innermost, steps_of}
+use Rattle.anti_body.proofs.place.innermost.Given as goal
 
 -- the blocks of the frames that are left lead to the innermost one
 abbrev pub invariant-loop-frame : goal.invariant-loop-frame

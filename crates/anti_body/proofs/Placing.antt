@@ -11,9 +11,9 @@ use Rattle.anti_lang.specs.declared.statement.Statement.{Statement}
 use Rattle.anti_lang.specs.declared.statement.Statement.TheFolds.{fold-roll-Statement}
 use Rattle.anti_lang.specs.declared.statement.Statement.TheOpen as open_statement
 use Rattle.anti_lang.specs.declared.statement.Statement.TheVariants as statements
-use Rattle.anti_proc.specs.declared.place.Frame.{Frame}
-use Rattle.anti_proc.specs.declared.place.Place.{Place}
-use Rattle.anti_proc.specs.Places.{again, block_in, inner_in, innermost, last_opened, left_at, left_in, left_round, opened, steps_of, turns_round}
+use Rattle.anti_body.specs.declared.place.Frame.{Frame}
+use Rattle.anti_body.specs.declared.place.Place.{Place}
+use Rattle.anti_body.specs.Places.{again, block_in, inner_in, innermost, last_opened, left_at, left_in, left_round, opened, steps_of, turns_round}
 
 -- ---- the code's blocks
 

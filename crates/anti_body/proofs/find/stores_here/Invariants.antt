@@ -1,6 +1,6 @@
 use Rattle.std.proofs.Common.{◌≡◌, ◌++◌, drop}
-use Rattle.anti_proc.specs.Numbers.{here_from}
-use Rattle.anti_proc.proofs.find.stores_here.Given as goal
+use Rattle.anti_body.specs.Numbers.{here_from}
+use Rattle.anti_body.proofs.find.stores_here.Given as goal
 
 -- the stores from this one on are behind those that were found
 abbrev pub invariant-loop-number : goal.invariant-loop-number

@@ -10,8 +10,8 @@ use Rattle.anti_app.specs.declared.app.ServiceDef.{ServiceDef}
 use Rattle.anti_app.specs.declared.app.StoreDef.{StoreDef}
 use Rattle.anti_app.specs.Sound.{is_sound}
 use Rattle.anti_app.proofs.SoundLemmas.{SoundHandler, SoundService, app_known}
-use Rattle.anti_proc.specs.Numbers.{body_in, body_among, store_names}
-use Rattle.anti_proc.specs.Running.{CanRun}
+use Rattle.anti_body.specs.Numbers.{body_in, body_among, store_names}
+use Rattle.anti_body.specs.Running.{CanRun}
 
 -- what is found in a list is as all that it holds
 pub found_in : {T : Type 0} (P : T → Type 0) (xs : List T) (i : ℕ) (x : T) → All P xs → slice_get xs i ≡ Some x → P x

@@ -1,6 +1,6 @@
 ghost use Rattle.std.specs.Prelude.{◌≡◌, OnOk};
 ghost use Rattle.anti_lang.specs.Bodies.{list_of, step_of};
-ghost use Rattle.anti_proc.specs.Places.{Enters, IsLine, IsStart, Turns, block_in, innermost, opened, steps_of};
+ghost use Rattle.anti_body.specs.Places.{Enters, IsLine, IsStart, Turns, block_in, innermost, opened, steps_of};
 
 use crate::find::item_at;
 use anti_ids::{Copies, List, NoMemory};

@@ -1,6 +1,6 @@
 use Rattle.std.proofs.Common.{◌≡◌, ◌+◌, drop}
-use Rattle.anti_proc.specs.Numbers.{handler_among}
-use Rattle.anti_proc.proofs.find.handler_among.Given as goal
+use Rattle.anti_body.specs.Numbers.{handler_among}
+use Rattle.anti_body.proofs.find.handler_among.Given as goal
 
 -- none of those before has the name
 abbrev pub invariant-loop-place : goal.invariant-loop-place

@@ -4,8 +4,8 @@ use Rattle.std.specs.Borrow.{Bor}
 use Rattle.anti_lang.specs.Bodies.{list_of, step_of}
 use Rattle.anti_lang.specs.Program.{Step, Block, End, Then, Repeat, IfAbsent}
 use Rattle.anti_lang.specs.declared.statement.Statement.{Statement}
-use Rattle.anti_proc.specs.declared.place.Frame.{Frame}
-use Rattle.anti_proc.specs.declared.place.Place.{Place}
+use Rattle.anti_body.specs.declared.place.Frame.{Frame}
+use Rattle.anti_body.specs.declared.place.Place.{Place}
 
 -- the statements of the code
 abbrev pub steps_of : List Statement → List Step

@@ -1,6 +1,6 @@
 use Rattle.std.proofs.Common.{◌≡◌, ◌+◌, drop}
-use Rattle.anti_proc.specs.Numbers.{service_among}
-use Rattle.anti_proc.proofs.find.service_among.Given as goal
+use Rattle.anti_body.specs.Numbers.{service_among}
+use Rattle.anti_body.proofs.find.service_among.Given as goal
 
 -- none of those before has the name
 abbrev pub invariant-loop-place : goal.invariant-loop-place

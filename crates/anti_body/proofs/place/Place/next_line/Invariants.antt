@@ -1,6 +1,6 @@
 use Rattle.std.proofs.Common.{◌≡◌}
-use Rattle.anti_proc.specs.Places.{left_at, steps_of, turns_left}
-use Rattle.anti_proc.proofs.place.Place.next_line.Given as goal
+use Rattle.anti_body.specs.Places.{left_at, steps_of, turns_left}
+use Rattle.anti_body.proofs.place.Place.next_line.Given as goal
 
 -- the same is left
 abbrev pub invariant-loop-statement : goal.invariant-loop-statement

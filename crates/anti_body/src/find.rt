@@ -1,9 +1,9 @@
 ghost use Rattle.std.specs.Prelude.{◌≡◌, ◌≤◌, Some, length, option_map, slice_get, IfOk};
 ghost use Rattle.anti_lang.specs.Bodies.{list_of};
 ghost use Rattle.anti_app.specs.Sound.{has_named};
-ghost use Rattle.anti_proc.specs.Running.{CanRun};
-ghost use Rattle.anti_proc.specs.Places.{steps_of};
-ghost use Rattle.anti_proc.specs.Numbers.{body_among, body_of, handler_among, handler_number, has_handler, inbox_of, is_here, region_of, service_among, service_at, store_among, store_names, store_number, stores_here};
+ghost use Rattle.anti_body.specs.Running.{CanRun};
+ghost use Rattle.anti_body.specs.Places.{steps_of};
+ghost use Rattle.anti_body.specs.Numbers.{body_among, body_of, handler_among, handler_number, has_handler, inbox_of, is_here, region_of, service_among, service_at, store_among, store_names, store_number, stores_here};
 
 use anti_app::{App, HandlerDef, ServiceDef, StoreDef};
 use anti_ids::{Name, NoMemory};
@@ -11,7 +11,7 @@ use anti_lang::Statement;
 use std::alloc::Global;
 
 // The item of a list at an index, where it is within.
-pub fn item_at<T>(items: &[T], index: usize) -> Option<&T>
+pub(crate) fn item_at<T>(items: &[T], index: usize) -> Option<&T>
     ensures { option_map (λ item. item.now) result ≡ slice_get items.now index }
 {
     items.get(index)
@@ -66,7 +66,7 @@ fn body_among(service: &ServiceDef, handler: usize) -> &[Statement]
     }
 }
 
-// The body of a handler by its number; the empty one, where there is no such handler.
+/// The body of a handler by its number; the empty one, where there is no such handler.
 pub fn body_of(app: &App, service: usize, handler: usize) -> &[Statement]
     ensures { steps_of result.now ≡ list_of (body_of app.now service handler) }
 {
@@ -76,7 +76,7 @@ pub fn body_of(app: &App, service: usize, handler: usize) -> &[Statement]
     }
 }
 
-// The region of a service.
+/// The region of a service.
 pub fn region_of(app: &App, service: usize) -> u32
     ensures { result ≡ region_of app.now service }
 {
@@ -86,7 +86,7 @@ pub fn region_of(app: &App, service: usize) -> u32
     }
 }
 
-// The number of the handler with a name, in its service.
+/// The number of the handler with a name, in its service.
 pub fn handler_number(app: &App, service: usize, name: &Name) -> usize
     ensures { result ≡ handler_number app.now service name.now }
 {
@@ -103,7 +103,7 @@ fn has_named(handlers: &[HandlerDef], name: &Name) -> bool
     handlers.iter().any(|handler| handler.name == *name)
 }
 
-// Whether a service has a handler with a name.
+/// Whether a service has a handler with a name.
 pub fn has_handler(app: &App, service: usize, name: &Name) -> bool
     ensures { result ≡ has_handler app.now service name.now }
 {
@@ -113,14 +113,14 @@ pub fn has_handler(app: &App, service: usize, name: &Name) -> bool
     }
 }
 
-// The service of an inbox.
+/// The service of an inbox.
 pub fn service_at(app: &App, inbox: u32) -> usize
     ensures { result ≡ service_at app.now inbox }
 {
     (inbox as usize).saturating_sub(app.stores.len())
 }
 
-// The number of the inbox of the service with a name.
+/// The number of the inbox of the service with a name.
 pub fn inbox_of(app: &App, name: &Name) -> u32
     requires { CanRun app.now }
     ensures { result ≡ inbox_of app.now name.now }
@@ -128,7 +128,7 @@ pub fn inbox_of(app: &App, name: &Name) -> u32
     (app.stores.len() + service_among(app.services.as_slice(), name)) as u32
 }
 
-// The number of the store with a name.
+/// The number of the store with a name.
 pub fn store_number(app: &App, name: &Name) -> u32
     requires { CanRun app.now }
     ensures { result ≡ store_number app.now name.now }
@@ -136,7 +136,7 @@ pub fn store_number(app: &App, name: &Name) -> u32
     store_among(app.stores.as_slice(), name) as u32
 }
 
-// The names of the stores, by their numbers.
+/// The names of the stores, by their numbers.
 pub fn store_names(alloc: Global, app: &App) -> Result<Vec<Name>, NoMemory>
     ensures { IfOk result (λ names. names.items ≡ store_names app.now) }
 {
@@ -158,7 +158,7 @@ fn is_here(region: u32, store: &StoreDef) -> bool
         .any(|replica| *replica == region)
 }
 
-// The numbers of the stores with a replica in a region, ascending.
+/// The numbers of the stores with a replica in a region, ascending.
 pub fn stores_here(alloc: Global, app: &App, region: u32) -> Result<Vec<u32>, NoMemory>
     requires { CanRun app.now }
     ensures { IfOk result (λ here. here.items ≡ stores_here app.now region) }

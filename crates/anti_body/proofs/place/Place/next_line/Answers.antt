@@ -1,9 +1,9 @@
 use Rattle.std.proofs.Common.{◌≡◌, sym, ◌∙◌, arith}
 use Rattle.std.specs.Prelude.{Some, slice_get}
 use Rattle.std.proofs.lemmas.Grind.{common_steps}
-use Rattle.anti_proc.specs.Places.{innermost, steps_of}
-use Rattle.anti_proc.proofs.Placing.{line_left, line_opened}
-use Rattle.anti_proc.proofs.place.Place.next_line.Goals as goal
+use Rattle.anti_body.specs.Places.{innermost, steps_of}
+use Rattle.anti_body.proofs.Placing.{line_left, line_opened}
+use Rattle.anti_body.proofs.place.Place.next_line.Goals as goal
 
 pub returns-in-Some : goal.returns-in-Some
 returns-in-Some c =
