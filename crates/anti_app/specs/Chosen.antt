@@ -40,7 +40,7 @@ is_number [] = false
 is_number (first ∷ rest) =
     not (first == 48) && (nat_le (length (first ∷ rest)) 4 && (list_all is_ascii_digit (first ∷ rest) && nat_le (value_from 0 (first ∷ rest)) 4096))
 
--- A number from 1 to 4,096 in decimal, without a leading zero and without a sign.
+-- A decimal number from 1 to 4,096: no sign, and no zero in front.
 unfoldable pub number_of : List ℕ → Option ℕ
 number_of word = if is_number word then Some (value_from 0 word) else None
 

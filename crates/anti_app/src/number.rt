@@ -28,7 +28,7 @@ fn value_of(digits: &[u8]) -> u32
     value
 }
 
-/// A number from 1 to 4,096 in decimal, without a leading zero and without a sign.
+/// A decimal number from 1 to 4,096: no sign, and no zero in front.
 #[tactic(auto, unfolding(crate::specs::Chosen::number_of))]
 pub fn number_of(word: &[u8]) -> Option<u32>
     ensures { result ≡ number_of word.now }

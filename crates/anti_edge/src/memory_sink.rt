@@ -31,8 +31,8 @@ impl Model for MemorySink {
 }
 
 impl MemorySink {
-    /// A sink with room for `room` bytes. One call takes at most `most` of them, at least 1. The calls whose numbers stand in
-    /// `fail`, counted from 1, fail.
+    /// A sink with room for `room` bytes. One call takes at most `most` of them, which is 1 or more. `fail` has the numbers of the calls
+    /// that fail; the first call is number 1.
     pub fn new(alloc: Global, room: u32, most: u32, fail: &[u32]) -> Result<MemorySink, NoMemory>
         requires { 0 < most }
         ensures bytes { IfOk result (λ s. s.bytes ≡ []) }

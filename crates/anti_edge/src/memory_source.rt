@@ -30,8 +30,8 @@ impl Model for MemorySource {
 }
 
 impl MemorySource {
-    /// A source of these bytes. One call gives at most `most` of them, at least 1. The calls whose numbers stand in `fail`,
-    /// counted from 1, fail.
+    /// A source of these bytes. One call gives at most `most` of them, which is 1 or more. `fail` has the numbers of the calls that
+    /// fail; the first call is number 1.
     pub fn new(
         alloc: Global,
         bytes: &[u8],

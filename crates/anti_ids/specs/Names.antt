@@ -1,4 +1,4 @@
--- Names: 1 to 32 bytes of ASCII letters, digits, `_`, `-` and `#`.
+-- Names: 1 to 32 bytes, each an ASCII letter, a digit, `_`, `-` or `#`.
 use Rattle.std.specs.Prelude.{ℕ, List, Bool, not, ◌&&◌, ◌||◌, ◌==◌, nat_le, nat_lt, length, Option, None, Some, Result, Ok, Err, if◌then◌else◌, position}
 use Rattle.std.specs.List.{list_all}
 use Rattle.anti_ids.specs.declared.name.NameFault.{NameFault}

@@ -11,8 +11,8 @@ use crate::name::Name;
 use std::alloc::Global;
 use std::cmp::Ordering;
 
-/// Names a write: the store's number, the key and the version, which is the number of the write among all writes of the
-/// store, counted from 1. Ids are ordered by (store, version, key).
+/// Names a write: the store's number, the key and the version, which counts the writes of the store: the first has
+/// version 1. Ids are ordered by (store, version, key).
 #[derive(Clone, Copy, Debug, PartialEq, Eq)]
 pub struct WriteId {
     pub store: u32,

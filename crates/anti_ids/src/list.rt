@@ -69,7 +69,7 @@ impl<T> List<T> {
         self.spare = self.spare.saturating_sub(1);
     }
 
-    /// Takes off the last item. It is `None` exactly where there is none.
+    /// Takes the last item away and gives it; `None` where the list is empty.
     pub fn pop(&mut self) -> Option<T>
         ensures none { IfNone result (self.old.items ≡ []) }
         ensures unchanged { IfNone result (self.new ≡ self.old) }

@@ -33,7 +33,7 @@ pub enum NameFault {
     BadByte(u32),
 }
 
-/// A name: 1 to 32 bytes of ASCII letters, digits, `_`, `-` and `#`. It takes no memory.
+/// A name: 1 to 32 bytes, each an ASCII letter, a digit, `_`, `-` or `#`. It takes no memory.
 #[derive(Clone, Copy, Debug)]
 pub struct Name {
     text: [u8; LONGEST_NAME],

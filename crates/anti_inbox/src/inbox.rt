@@ -116,7 +116,7 @@ impl Inbox {
         }
     }
 
-    // Whether a reply to the message with a number can be posted: that is a call, was taken, and has no reply yet.
+    // Whether a reply to the message with a number can be posted: it is a call that was taken and not answered.
     pub(crate) fn can_answer(&self, number: u32) -> bool
         ensures { (h : List Entry) → At self.now h → result ≡ post_ready (requests_of self.now) h MessageKind.Reply number }
     {

@@ -96,7 +96,7 @@ is_written h id = list_any (λ r. (r.version == id.version) && bytes_eq r.key id
 abbrev pub missing : Store → List Entry → ℕ → List WriteId → List WriteId
 missing s h g ids = filter (λ id. not (is_visible s h g id)) ids
 
--- the ids that no write of the history made
+-- the ids that nothing in the history wrote
 abbrev pub unwritten : List Entry → List WriteId → List WriteId
 unwritten h ids = filter (λ id. not (is_written h id)) ids
 

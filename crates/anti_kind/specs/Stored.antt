@@ -69,7 +69,7 @@ shows_of kind h g k = greatest (is_whole kind h g) k (rows h)
 abbrev pub upto_of : StoreKind → List Entry → ℕ → ℕ
 upto_of kind h g = prefix_len (is_whole kind h g) (rows h)
 
--- In a queue and a topic a write names a channel, and the nth write to the channel c has the key c#n.
+-- A write to a queue or a topic names its channel; the key of the nth write to the channel c is c#n.
 abbrev pub channel_of : List ℕ → List ℕ
 channel_of key = take_while (λ b. not (b == 35)) key
 

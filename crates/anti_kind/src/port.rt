@@ -1,9 +1,9 @@
 use crate::call::{Actor, Call, Reply};
 
-/// What a port answers to a call. The refusals are tried in the order `NotYet`, `Full`, `Spent`; with each but `Made` nothing is added.
+/// What a port answers to a call. Of the refusals `NotYet` comes first, then `Full`, then `Spent`; only `Made` adds anything.
 #[derive(Drop)]
 pub enum Answer {
-    /// The call was made: its entry stands last in the object's history, with this place, stamp and reply.
+    /// The call was made: the object's history now ends with its entry, which has this place, stamp and reply.
     Made {
         place: u32,
         stamp: u64,

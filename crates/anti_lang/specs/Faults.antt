@@ -181,6 +181,6 @@ abbrev pub has_wrong_variable : Spot → Bool
 has_wrong_variable spot = is_wrong_below spot.above spot.line
 
 -- The first line, counted from 1, at which a variable is wrong: it sets a variable that a line above sets already; or it uses one that
--- no line above sets in its block or in one round it, with no `root` and no `stop` between, or that holds something else.
+-- holds something else, or that no line above sets where it can be seen: in the same span, and in the line's block or round that.
 unfoldable pub variable_fault : List Line → Option ℕ
 variable_fault = first_wrong has_wrong_variable

@@ -39,7 +39,7 @@ pub enum Statement {
     Append(Name),
     /// `remove X`: takes the id of the write X out of the lineage.
     Remove(Name),
-    /// `transfer X`: adds the ids of the rows that were read into X, and the lineages that are stored beside them.
+    /// `transfer X`: the lineage takes in what the rows in X stand for: their ids and the lineages that are stored beside them.
     Transfer(Name),
     /// `barrier`: goes on once each write of the lineage is visible in the service's region, of the stores that have a replica
     /// there.
@@ -77,7 +77,7 @@ pub enum Statement {
         handler: Name,
         value: ValueWord,
     },
-    /// `reply V`: sets the value of the handler's reply. The last one counts; it does not end the handler.
+    /// `reply V`: what the handler will reply with, unless a later one says otherwise. The handler goes on.
     Reply(ValueWord),
     /// `nack`: ends the handler.
     Nack,
@@ -85,12 +85,12 @@ pub enum Statement {
     Root,
     /// `stop`: gives the lineage up, and begins a new span.
     Stop,
-    /// `repeat N` to `end`: runs the block N times, 1 to 16.
+    /// `repeat N` to `end`: so many turns of the block, 1 to 16.
     Repeat {
         count: u32,
         body: Body,
     },
-    /// `if X absent` to `end`: runs the block where no row of X has a version.
+    /// `if X absent` to `end`: the block, unless some row of X has a version.
     IfAbsent {
         variable: Name,
         body: Body,

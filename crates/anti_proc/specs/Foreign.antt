@@ -23,8 +23,8 @@ states (Err fault) = false
 abbrev pub has_baggage : App → Message → Bool
 has_baggage app m = states (read_lineage (store_names app) m.baggage.items)
 
--- Whether a reply is foreign: its message has baggage that is no text of a lineage over the stores, or a lineage in it has an id of a
--- store that the application has not.
+-- Whether a reply is foreign: the baggage of its message states no lineage over the stores, or an id in one of its lineages is of no
+-- store of the application.
 abbrev pub is_foreign : App → Reply → Bool
 is_foreign app (replies.Shown rows) = not (list_all (λ row. has_stores app row.lineage) rows.items)
 is_foreign app (replies.Missing missing unwritten) = not (has_stores app missing && has_stores app unwritten)

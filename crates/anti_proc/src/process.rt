@@ -26,9 +26,9 @@ pub struct Process {
 }
 
 impl Process {
-    /// The process that an entry of the application starts. `Foreign` comes exactly where its message is not of the application: it names
-    /// no handler of the service, or is too deep, or has baggage that is no text of a lineage over the stores. An entry that takes no
-    /// message gives a process with nothing to do.
+    /// The process that an entry of the application starts. `Foreign` comes exactly where its message is none of the application's: the
+    /// service has not the handler that is named, it is too deep, or its baggage states no lineage over the stores. An entry that takes
+    /// no message gives a process with nothing to do.
     pub fn born(alloc: Global, app: &App, entry: &Entry) -> Result<Process, ProcFault>
         requires { CanRun app.now }
         ensures run { IfOk result (λ p. IsRunOf app.now p) }
@@ -75,9 +75,8 @@ impl Process {
         }
     }
 
-    /// Takes the reply to its next call, with the stamp of the entry. `Foreign` comes exactly where the reply's message has baggage that is
-    /// no text of a lineage over the stores, or a lineage in the reply has an id of a store that the application has not. After a refusal
-    /// the process is as it was.
+    /// Takes the reply to its next call, with the stamp of the entry. `Foreign` comes exactly where the baggage in the reply states no lineage
+    /// over the stores, or an id in one of its lineages is of no store of the application. After a refusal the process is as it was.
     pub fn feed(&mut self, app: &App, stamp: u64, reply: &Reply) -> Result<(), ProcFault>
         requires app { CanRun app.now }
         requires run { IsRunOf app.now self.old }

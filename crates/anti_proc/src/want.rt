@@ -6,7 +6,7 @@ use anti_kind::Call;
 /// How a process ends.
 #[derive(Clone, Copy, Debug, PartialEq, Eq)]
 pub enum End {
-    /// The body was run to its end, or `nack` was run.
+    /// It came to the end of its body, or to `nack`.
     Fine,
     /// A call or a send was to be made, whose message would be too deep.
     Depth,
@@ -21,8 +21,8 @@ pub enum End {
 /// Why a process took no message or reply.
 #[derive(Clone, Copy, Debug, PartialEq, Eq)]
 pub enum ProcFault {
-    /// The message or the reply is not of the application: it names no handler of the service, or is too deep, or has baggage that is no
-    /// text of a lineage over the application's stores, or a lineage in it has an id of a store that the application has not.
+    /// The message or the reply is none of the application's: the service has not the handler that is named, it is too deep, its baggage
+    /// states no lineage, or an id in it is of no store.
     Foreign,
     /// There was no memory.
     NoMemory,

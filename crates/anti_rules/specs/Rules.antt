@@ -130,12 +130,12 @@ abbrev pub rule_18 : Members → Part → Data → Option ℕ
 rule_18 doc Request d = wants (has_handler doc (text_at (codes "service") d) (text_at (codes "handler") d))
 rule_18 doc _ d = None
 
--- 19. The value of a request has at most 256 bytes.
+-- 19. No request has a value of more than 256 bytes.
 abbrev pub rule_19 : Part → Data → Option ℕ
 rule_19 Request d = wants (nat_le (length (text_at (codes "value") d)) 256)
 rule_19 _ d = None
 
--- 20. Each line of a body is a statement.
+-- 20. Every line of a body is one that the language has.
 abbrev pub rule_20 : Part → Data → Option ℕ
 rule_20 Handler d = line_with Unknown (body_fault d)
 rule_20 _ d = None

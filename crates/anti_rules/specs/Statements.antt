@@ -68,7 +68,7 @@ abbrev pub has_handler : Members → List ℕ → List ℕ → Bool
 has_handler doc service handler =
     option_map_or (λ found. is_named handler (things_in (codes "handler") found)) (named service (services_in doc)) false
 
--- Whether the service and handler of a `call` or `send` exist.
+-- Whether the service that a `call` or a `send` names is there and has the handler.
 abbrev pub handler_exists : Members → Line → Bool
 handler_exists doc (Does (Call service handler value variable)) = has_handler doc service handler
 handler_exists doc (Does (Send service handler value)) = has_handler doc service handler

@@ -1,4 +1,4 @@
--- The first place of a document that fails a rule. Places are ordered by part, then by item, then by line.
+-- The first place of a document that fails a rule. The part comes first, the item next, and the line last.
 use Rattle.std.specs.Prelude.{ℕ, codes, List, [], ◌∷◌, ◌++◌, length, min, ◌+◌, Option, None, option_map}
 use Rattle.std.specs.Option.{option_or}
 use Rattle.toml.specs.Data.{Data, Members}

@@ -283,7 +283,7 @@ fn rule_18(doc: &Table, part: Part, value: &Value) -> Option<u32>
     }
 }
 
-// 19. The value of a request has at most 256 bytes.
+// 19. No request has a value of more than 256 bytes.
 fn rule_19(part: Part, value: &Value) -> Option<u32>
     ensures { result ≡ rule_19 part (view value.now) }
 {
@@ -324,7 +324,7 @@ fn fault_line(alloc: Global, wanted: LangCode, value: &Value) -> Result<Option<u
     }
 }
 
-// 20. Each line of a body is a statement.
+// 20. Every line of a body is one that the language has.
 fn rule_20(alloc: Global, part: Part, value: &Value) -> Result<Option<u32>, NoMemory>
     ensures { IfOk result (λ line. line ≡ rule_20 part (view value.now)) }
 {

@@ -71,7 +71,7 @@ pub fn has_handler(doc: &Table, service: &[u8], handler: &[u8]) -> bool
     }
 }
 
-// Whether the service and handler of a `call` or `send` exist.
+// Whether the service that a `call` or a `send` names is there and has the handler.
 fn handler_exists(doc: &Table, statement: &Statement) -> bool
     ensures { result ≡ handler_exists (table_view doc.now) (Does (step_of statement.now)) }
 {

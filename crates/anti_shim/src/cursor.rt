@@ -32,7 +32,7 @@ impl Model for Barrier {
 /// What a barrier answers.
 #[derive(Drop)]
 pub enum BarrierAnswer {
-    /// A look at each planned store found nothing missing, in this call or in an earlier one: where each was made.
+    /// Each planned store was looked at, now or in an earlier call, and nothing was missing there: where each look was made.
     Clear(Sights),
     /// Some planned store misses an id.
     NotYet,

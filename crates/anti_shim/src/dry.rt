@@ -13,7 +13,7 @@ use std::alloc::Global;
 
 /// Makes a dry look at each store of `here` of which the lineage has ids, in ascending order, and names all ids that these looks
 /// named as missing, each at its own store's step. The stores `here` are those with a replica in the region, in ascending order.
-/// After a refusal the looks made before it stand.
+/// A refusal takes back none of the looks before it.
 pub fn dry_run<P: Port>(
     alloc: Global,
     port: &mut P,
