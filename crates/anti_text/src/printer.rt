@@ -3,9 +3,10 @@ ghost use Rattle.anti_body.specs.Numbers.{store_names};
 ghost use Rattle.anti_text.specs.Words.{lineage_text};
 
 use crate::output::Output;
-use anti_app::{App, Names};
+use anti_app::App;
 use anti_baggage::encode;
-use anti_ids::{Lineage, NoMemory, add};
+use anti_body::store_names;
+use anti_ids::{Lineage, Name, NoMemory};
 use std::alloc::Global;
 
 /// What the lines of a record are printed of: an application, the names of whose stores are read once.
@@ -14,19 +15,8 @@ pub struct Printer<'a> {
     alloc: Global,
     /// The application.
     pub app: &'a App,
-    stores: Names,
+    stores: Vec<Name>,
     ghost named: { stores.items ≡ store_names app.now },
-}
-
-// The names of the stores of an application, by their numbers.
-fn store_names(alloc: Global, app: &App) -> Result<Names, NoMemory>
-    ensures { IfOk result (λ names. names.items ≡ store_names app.now) }
-{
-    let mut names = Names::new(alloc);
-    for store in app.stores.as_slice() {
-        add(&mut names, store.name)?;
-    }
-    Ok(names)
 }
 
 impl<'a> Printer<'a> {
