@@ -19,7 +19,6 @@ use Rattle.anti_kind.proofs.Histories.{last_is}
 use Rattle.anti_app.specs.declared.app.App.{App}
 use Rattle.anti_trace.specs.Traces.{entries_on, entries_by, same_actor, put}
 use Rattle.anti_trace.proofs.Puts.{same_actor_true, same_actor_itself}
-use Rattle.anti_proc.specs.Known.{AllKnown}
 use Rattle.anti_proc.specs.Running.{IsRunOf}
 use Rattle.anti_proc.specs.declared.process.Process.{Process}
 use Rattle.anti_proc.specs.declared.want.Want.{Want}
@@ -146,7 +145,6 @@ module _ (app : App) (trace after : List Entry) (goes : GoesOn trace after) wher
     entries_are = on.entries_are;
     run = on.run;
     tree = on.tree;
-    known = on.known;
     clock = on.clock;
     full = if_ended_later (full_of p) (want_of (process_after app es)) on.full;
   })
@@ -284,7 +282,7 @@ module _ (app : App) (ps : List (Listed Process)) (trace : List Entry) (live : A
     -- a process that is born by the entry
     module _ (p : Process) (named : birth_of p ≡ b) (unborn : entries_by (Acting b) trace ≡ [])
         (tree : process_of app p ≡ tree_of app e) (clock : clock_of p ≡ e.stamp) (going : full_of p ≡ None)
-        (runs : IsRunOf app p) (calls : AllKnown app (process_after app (entries_by (Acting b) (put e trace)))) where
+        (runs : IsRunOf app p) where
       on_new : LivesOn app (put e trace) p (entries_by (Acting b) (put e trace))
       on_new = subst (λ (es : List Entry). LivesOn app (put e trace) p es) (sym (own_entries ∙ ap (λ (x : List Entry). x ++ e ∷ []) unborn)) (record {
         birth = e;
@@ -292,7 +290,6 @@ module _ (app : App) (ps : List (Listed Process)) (trace : List Entry) (live : A
         entries_are = refl;
         run = runs;
         tree = tree;
-        known = subst (λ (es : List Entry). AllKnown app (process_after app es)) (own_entries ∙ ap (λ (x : List Entry). x ++ e ∷ []) unborn) calls;
         clock = clock ∙ (let one : e.stamp ≡ last_stamp (e ∷ []) = omega arith in one);
         full = not_ended app (put e trace) (full_of p) (want_of (process_after app (e ∷ []))) going;
       })
@@ -307,8 +304,7 @@ module _ (app : App) (ps : List (Listed Process)) (trace : List Entry) (live : A
     module _ (p : Process) (i : ℕ) (found : position (is_named b) (born_at ps b.object) ≡ Some i)
         (named : (d : Process) → birth_of p ≡ birth_of (get_or (born_at ps b.object) i d))
         (tree : (d : Process) → process_of app p ≡ branch (process_of app (get_or (born_at ps b.object) i d)) e.reply) (clock : clock_of p ≡ e.stamp) (going : full_of p ≡ None)
-        (last : All (λ d. d.stamp < e.stamp) (entries_by (Acting b) trace)) (runs : IsRunOf app p)
-        (calls : AllKnown app (process_after app (entries_by (Acting b) (put e trace)))) where
+        (last : All (λ d. d.stamp < e.stamp) (entries_by (Acting b) trace)) (runs : IsRunOf app p) where
       old : LivesOn app trace (get_or (born_at ps b.object) i p) (entries_by (Acting b) trace)
       old = (subst (λ (o : Option ℕ). Lives app trace (born_at ps b.object) o (entries_by (Acting b) trace)) found (live b)) p
 
@@ -325,7 +321,6 @@ module _ (app : App) (ps : List (Listed Process)) (trace : List Entry) (live : A
             ∙ ap (λ (x : Tree). branch x e.reply) (old.tree ∙ ap (λ (x : List Entry). process_after app x) old.entries_are)
             ∙ sym (process_after_more app old.birth old.later e)
             ∙ sym (ap (λ (x : List Entry). process_after app x) entries_then);
-        known = calls;
         clock = clock ∙ sym (last_is (entries_by (Acting b) trace) e last) ∙ sym (ap (λ (x : List Entry). last_stamp x) own_entries);
         full = not_ended app (put e trace) (full_of p) (want_of (process_after app (entries_by (Acting b) (put e trace)))) going;
       }

@@ -351,7 +351,7 @@ take_done app sound w n trace object service nth e p s same m objects processes 
       lists = processes.count ∙ s.lists;
       born = born_more app w.processes.items trace (put e trace) e s.born st.grows n.processes.items p (is_birth_itself e at) birth processes;
       processes = live_born app w.processes.items trace s.processes e (goes_on app sound w trace s (taking object nth) tt tt e m) st.own st.others (birth_at e) at p birth unborn tree clock full runs
-          (run_calls app sound (put e trace) st.run (birth_at e)) n.processes.items processes;
+          n.processes.items processes;
       carrier = carrier ∙ s.carrier ∙ sym (ap (λ (x : List Entry). last_stamp x) (st.others (Carrier 0) none));
     })
 
@@ -463,8 +463,8 @@ module _ (app : App) (w : World) (trace : List Entry) (b : Birth) (i : ℕ) (p :
     left_is : left ≡ Make object span call
     left_is = sym (ap want_of on_p.tree) ∙ sym (g.going not_full) ∙ wants
 
-    pub goes_call : IsCallAt app object call
-    goes_call = (next_known app (process_after app (entries_by (Acting b) trace)) object span call on_p.known left_is).1
+    pub goes_call : IsTrue (is_sound app) → IsCallAt app object call
+    goes_call sound = (next_known app (process_after app (entries_by (Acting b) trace)) object span call (run_calls app sound trace s.run b) left_is).1
 
     asks_next : option_and_then (made_at app trace) (next_call app trace b) ≡ made_at app trace (going b object span call)
     asks_next = ap (λ (x : Want). option_and_then (made_at app trace) (asked_by b x)) left_is
@@ -485,7 +485,7 @@ module _ (app : App) (w : World) (trace : List Entry) (b : Birth) (i : ℕ) (p :
         let tree : process_of app then ≡ branch (process_of app p) e.reply = goes ∙ ap (λ (x : Process). branch (process_of app x) e.reply) same in
         let birth : birth_of then ≡ birth_of p = named ∙ ap (λ (x : Process). birth_of x) same in
         let full : full_of then ≡ full_of p = left_full ∙ ap (λ (x : Process). full_of x) same in
-        let st : Stepped app trace (going b object span call) e = step app sound w trace s (going b object span call) goes_born goes_call e m in
+        let st : Stepped app trace (going b object span call) e = step app sound w trace s (going b object span call) goes_born (goes_call sound) e m in
         let actor : e.actor ≡ Acting b = st.actor in
         let before : All (λ d. d.stamp < e.stamp) (entries_by (Acting b) trace) = subst (λ (a : Actor). All (λ d. d.stamp < e.stamp) (entries_by a trace)) actor st.before in
         let none : e.actor ≡ Carrier 0 → ⊥ = λ c. (let both : Acting b ≡ Carrier 0 = sym actor ∙ c in absurd (cc)) in
@@ -497,10 +497,9 @@ module _ (app : App) (w : World) (trace : List Entry) (b : Birth) (i : ℕ) (p :
           born = born_kept app w.processes.items trace (put e trace) e s.born st.grows n.processes.items
               (no_birth e (λ is. was_born e st.place st.object (let both : Acting b ≡ Acting (birth_at e) = sym actor ∙ is in cc)))
               (births_set w.processes.items n.processes.items b i then processes (λ d. birth ∙ ap (λ (x : Process). birth_of x) (sym (at_p d))));
-          processes = live_went app w.processes.items trace s.processes e (goes_on app sound w trace s (going b object span call) goes_born goes_call e m) st.own st.others b actor then i g.found
+          processes = live_went app w.processes.items trace s.processes e (goes_on app sound w trace s (going b object span call) goes_born (goes_call sound) e m) st.own st.others b actor then i g.found
               (λ d. birth ∙ ap (λ (x : Process). birth_of x) (sym (at_p d)))
               (λ d. tree ∙ ap (λ (x : Process). branch (process_of app x) e.reply) (sym (at_p d))) at (full ∙ not_full) before runs
-              (run_calls app sound (put e trace) st.run b)
               n.processes.items processes;
           carrier = carrier ∙ s.carrier ∙ sym (ap (λ (x : List Entry). last_stamp x) (st.others (Carrier 0) none));
         })
@@ -544,7 +543,6 @@ module _ (app : App) (w : World) (trace : List Entry) (b : Birth) (i : ℕ) (p :
                 entries_are = on_p.entries_are;
                 run = runs (subst (IsRunOf app) (sym same) on_p.run);
                 tree = tree ∙ on_p.tree;
-                known = on_p.known;
                 clock = at ∙ on_p.clock;
                 full = subst (λ (o : Option ℕ). IfSome o (IsEnded app trace left)) (sym ended)
                     (subst (λ (x : Want). IsEnded app trace x object) (sym left_is) (refl, was_full full.1));

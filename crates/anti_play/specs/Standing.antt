@@ -15,7 +15,6 @@ use Rattle.anti_proc.specs.Meaning.{process_after}
 use Rattle.anti_proc.specs.declared.want.Want.{Want}
 use Rattle.anti_proc.specs.declared.want.Want.TheVariants.{Make, Over}
 use Rattle.anti_proc.specs.Trees.{want_of}
-use Rattle.anti_proc.specs.Known.{AllKnown}
 use Rattle.anti_proc.specs.Running.{IsRunOf}
 use Rattle.anti_proc.specs.Standing as standing
 use Rattle.anti_proc.specs.Births.{birth_at, births}
@@ -72,15 +71,13 @@ abbrev pub IsEnded : App → List Entry → Want → ℕ → Type 0
 IsEnded app trace (Make object span call) at = (object ≡ at) × WasFull app trace object call
 IsEnded app trace (Over end) at = ⊥
 
--- A process stands for its entries, of which the first started it, and its calls are of the application. It may have been ended since its
--- next call did not fit.
+-- a process stands for its entries, of which the first started it; it may have been ended since its next call did not fit
 pub record LivesOn (app : App) (trace : List Entry) (p : Process) (entries : List Entry) : Type 0 where
   pub birth : Entry
   pub later : List Entry
   pub entries_are : entries ≡ birth ∷ later
   pub run : IsRunOf app p
   pub tree : standing.process_of app p ≡ process_after app entries
-  pub known : AllKnown app (process_after app entries)
   pub clock : standing.clock_of p ≡ last_stamp entries
   pub full : IfSome (standing.full_of p) (IsEnded app trace (want_of (process_after app entries)))
 

@@ -1,5 +1,5 @@
 -- Each call of a process is made at a store or at an inbox, as its form wants it, in a span.
-use Rattle.std.proofs.Common.{◌≡◌, ℕ, suc, ◌<◌, ◌≤◌, Bool, true, false, cond, List, [], ◌∷◌, length, map, sym, subst, arith}
+use Rattle.std.proofs.Common.{ℕ, suc, ◌<◌, ◌≤◌, Bool, true, false, cond, List, [], ◌∷◌, length, arith}
 use Rattle.std.specs.Str.{bytes_eq}
 use Rattle.anti_ids.specs.declared.id.WriteId.{WriteId}
 use Rattle.anti_kind.specs.declared.call.Call.{Call}
@@ -10,12 +10,11 @@ use Rattle.anti_kind.specs.declared.call.Reply.TheVariants as replies
 use Rattle.anti_lang.specs.Program.{Block}
 use Rattle.anti_app.specs.declared.app.App.{App}
 use Rattle.anti_app.specs.declared.app.StoreDef.{StoreDef}
-use Rattle.anti_proc.specs.declared.want.Want.{Want}
-use Rattle.anti_proc.specs.Calls.{AllOfProcess, IsMadeAt, IsOfProcess, LooksWhereItMay, WantsOfProcess}
+use Rattle.anti_proc.specs.Calls.{AllOfProcess, IsMadeAt, IsOfProcess, LooksWhereItMay}
 use Rattle.anti_proc.specs.Local.{Setting}
-use Rattle.anti_proc.specs.Meaning.{begun, process_after, reply_of, setting_at, started, stated_in, tree_of}
+use Rattle.anti_proc.specs.Meaning.{begun, setting_at, started, stated_in, tree_of}
 use Rattle.anti_body.specs.Numbers.{body_of, handler_number, service_at, store_among}
-use Rattle.anti_proc.specs.Trees.{Tree, Asks, Ends, after, branch, want_of}
+use Rattle.anti_proc.specs.Trees.{Tree, Asks, Ends}
 use Rattle.anti_proc.proofs.Keeping.{AnyReply, Good, IsMade, Keeps, begun_good, block_fits, nothing_more}
 use Rattle.anti_proc.proofs.Plans.{here_within}
 
@@ -90,24 +89,3 @@ module _ (app : App) where
 
   pub tree_made : (birth : Entry) → length app.stores.items ≤ birth.object → AllOfProcess app (tree_of app birth)
   tree_made birth at = started_made birth.object birth.reply at
-
-  branch_made : (tree : Tree) → AllOfProcess app tree → (reply : Reply) → AllOfProcess app (branch tree reply)
-  branch_made (Asks ask go) all reply = all.1 reply
-  branch_made (Ends end) all reply = tt
-
-  after_made : (tree : Tree) → AllOfProcess app tree → (rs : List Reply) → AllOfProcess app (after tree rs)
-  after_made tree all [] = all
-  after_made tree all (r ∷ rs) = after_made (branch tree r) (branch_made tree all r) rs
-
-  -- what is left of a process makes only such calls
-  pub process_made : (birth : Entry) (entries : List Entry) → length app.stores.items ≤ birth.object → AllOfProcess app (process_after app (birth ∷ entries))
-  process_made birth entries at = after_made (tree_of app birth) (tree_made birth at) (map reply_of entries)
-
-  want_made : (tree : Tree) → AllOfProcess app tree → WantsOfProcess app (want_of tree)
-  want_made (Asks ask go) all = all.0
-  want_made (Ends end) all = tt
-
-  -- and so is its next call
-  pub next_made : (birth : Entry) (entries : List Entry) (w : Want) → length app.stores.items ≤ birth.object → w ≡ want_of (process_after app (birth ∷ entries)) → WantsOfProcess app w
-  next_made birth entries w at e =
-      subst (λ (v : Want). WantsOfProcess app v) (sym e) (want_made (process_after app (birth ∷ entries)) (process_made birth entries at))

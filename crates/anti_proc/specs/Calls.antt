@@ -5,8 +5,6 @@ use Rattle.anti_kind.specs.declared.call.Call.{Call}
 use Rattle.anti_kind.specs.declared.call.Call.TheVariants as calls
 use Rattle.anti_kind.specs.declared.call.Reply.{Reply}
 use Rattle.anti_app.specs.declared.app.App.{App}
-use Rattle.anti_proc.specs.declared.want.Want.{Want}
-use Rattle.anti_proc.specs.declared.want.Want.TheVariants.{Make, Over}
 use Rattle.anti_body.specs.Numbers.{is_store_here}
 use Rattle.anti_proc.specs.Trees.{Tree, Asks, Ends}
 
@@ -33,12 +31,7 @@ pub record IsOfProcess (app : App) (o n : ℕ) (c : Call) : Type 0 where
   pub call : IsMadeAt app o c
   pub look : LooksWhereItMay app o c
 
--- each call that the process makes, whatever it is answered, is such a call, where its message came to an inbox
+-- each call that the process makes, whatever it is answered, is such a call
 abbrev pub AllOfProcess : App → Tree → Type 0
 AllOfProcess app (Asks ask go) = IsOfProcess app ask.object ask.span ask.call × ((reply : Reply) → AllOfProcess app (go reply))
 AllOfProcess app (Ends end) = Unit {0}
-
--- the same of the next call, where there is one
-abbrev pub WantsOfProcess : App → Want → Type 0
-WantsOfProcess app (Make object span call) = IsOfProcess app object span call
-WantsOfProcess app (Over end) = Unit {0}

@@ -103,7 +103,7 @@ feed-requires-clause-known c =
     let s = c.requires.world.stands in
     reply_of c.args.app.now c.requires.sound c.args.self.now trace s (going c.args.birth c.in-Make.object c.in-Make.span c.in-Make.call)
     (goes_born c.args.app.now c.args.self.now trace c.args.birth c.args.at c.process-process.result.now c.in_ok-object.field-0 c.clock-clock.result s g)
-    (goes_call c.args.app.now c.args.self.now trace c.args.birth c.args.at c.process-process.result.now c.in_ok-object.field-0 c.clock-clock.result s g c.in-Make.object c.in-Make.span c.in-Make.call c.in-Make.is)
+    (goes_call c.args.app.now c.args.self.now trace c.args.birth c.args.at c.process-process.result.now c.in_ok-object.field-0 c.clock-clock.result s g c.in-Make.object c.in-Make.span c.in-Make.call c.in-Make.is c.requires.sound)
     c.in-Makes.entry (came at trace s g (outcomes.Makes c.in-Makes.entry) c.in-Makes.is)
 
 pub add-requires : goal.add-requires
@@ -114,7 +114,7 @@ add-requires c =
     let s = c.requires.world.stands in
     may_grow c.args.app.now c.requires.sound c.args.self.now trace s (going c.args.birth c.in-Make.object c.in-Make.span c.in-Make.call)
     (goes_born c.args.app.now c.args.self.now trace c.args.birth c.args.at c.process-process.result.now c.in_ok-object.field-0 c.clock-clock.result s g)
-    (goes_call c.args.app.now c.args.self.now trace c.args.birth c.args.at c.process-process.result.now c.in_ok-object.field-0 c.clock-clock.result s g c.in-Make.object c.in-Make.span c.in-Make.call c.in-Make.is)
+    (goes_call c.args.app.now c.args.self.now trace c.args.birth c.args.at c.process-process.result.now c.in_ok-object.field-0 c.clock-clock.result s g c.in-Make.object c.in-Make.span c.in-Make.call c.in-Make.is c.requires.sound)
     c.in-Makes.entry (came at trace s g (outcomes.Makes c.in-Makes.entry) c.in-Makes.is)
 
 pub returns-in_err-add-in-Makes-clause-chose : goal.returns-in_err-add-in-Makes-clause-chose
