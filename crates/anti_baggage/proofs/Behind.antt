@@ -8,18 +8,19 @@ use Rattle.std.specs.Iterator.{AlwaysYields}
 use Rattle.std.specs.List.{slice_split}
 use Rattle.std.proofs.lemmas.Bool.{cond-true}
 use Rattle.std.proofs.lemmas.Option.{slice_get-get_or}
+use Rattle.anti_ids.specs.Answers.{AnswersBut}
 use Rattle.anti_ids.specs.Each.{Each}
 use Rattle.anti_ids.specs.Ids.{IsAscending, id_cmp, with_id}
-use Rattle.anti_ids.specs.declared.lineage.TheConstants.{MOST_IDS}
+use Rattle.anti_ids.specs.declared.limits.TheConstants.{MOST_IDS}
 use Rattle.anti_ids.proofs.IdLemmas.{turned_back, each_weaker, with_id-last}
 use Rattle.anti_ids.proofs.Places.{goes_behind}
 use Rattle.std.specs.Str.{bytes_eq}
 use Rattle.std.proofs.lemmas.List.{append-nil, append_assoc, length-append}
 use Rattle.anti_ids.specs.declared.id.WriteId.{WriteId}
 use Rattle.anti_baggage.specs.declared.fault.BaggageFault.{BaggageFault}
-use Rattle.anti_baggage.specs.declared.fault.BaggageFault.TheVariants.{BadHead, BadId, UnknownStore, NotAscending, TooMany, NoMemory}
-use Rattle.anti_baggage.specs.Reading.{Named, named_in, id_named, id_of_store, is_above, is_less, ids_in, and_further, before_further, pieces, read_lineage, Reads}
-use Rattle.anti_baggage.specs.Steps.{Fails, last_of}
+use Rattle.anti_baggage.specs.declared.fault.BaggageFault.TheVariants.{NotAscending, TooMany, NoMemory}
+use Rattle.anti_baggage.specs.Reading.{Named, named_in, id_named, id_of_store, is_above, is_less, ids_in, and_further, before_further, pieces, read_lineage}
+use Rattle.anti_baggage.specs.Steps.{last_of}
 
 -- ids before those that were read
 abbrev pub with_front : List WriteId → Result (List WriteId) BaggageFault → Result (List WriteId) BaggageFault
@@ -62,13 +63,9 @@ fault_read : (stores : List (List ℕ)) (ids : List WriteId) (text : List ℕ) (
 fault_read stores ids text texts fault e =
     ap (λ (r : Result WriteId BaggageFault). with_front ids (and_further r (λ (i : WriteId). ids_in stores (Some i) (suc (length ids + 1)) texts))) e
 
-failed : {X Y : Type 0} (one : Result X BaggageFault) (all : Result Y BaggageFault) (fault : BaggageFault) → ((f : BaggageFault) → one ≡ Err f → all ≡ Err f) → Fails one fault → Fails all fault
-failed one all BadHead by h = by BadHead h
-failed one all (BadId at) by h = by (BadId at) h
-failed one all (UnknownStore at) by h = by (UnknownStore at) h
-failed one all (NotAscending at) by h = by (NotAscending at) h
-failed one all (TooMany at) by h = by (TooMany at) h
-failed one all NoMemory by h = tt
+-- the fault is what is stated, unless memory ran out
+abbrev pub IsFault : {X : Type 0} → BaggageFault → Result X BaggageFault → Type 0
+IsFault fault stated = AnswersBut NoMemory (Err fault) stated
 
 -- The ids so far, and those that the texts to come are, are all that was asked.
 module _ {S A : Type 0} (steps : S → Option A → S → Type 0) (v : A → List ℕ) (stores : List (List ℕ)) where
@@ -88,23 +85,23 @@ module _ {S A : Type 0} (steps : S → Option A → S → Type 0) (v : A → Lis
   one_read s t x ids new id all l step e n = subst (λ (ids : List WriteId). Left t ids all) (sym n) (one_more l.0 s t x ids id all l.1 l.2 step e)
 
   none_more : (left : List (List ℕ)) (s t : S) (ids : List WriteId) (all : Result (List WriteId) BaggageFault) → AlwaysYields steps v s left → with_front ids (ids_in stores (last_of ids) (length ids + 1) left) ≡ all
-      → steps s None t → Ok ids ≡ all
-  none_more [] s t ids all yields told step = sym (all_in_front ids) ∙ told
+      → steps s None t → all ≡ Ok ids
+  none_more [] s t ids all yields told step = sym told ∙ all_in_front ids
   none_more (text ∷ texts) s t ids all yields told step = absurd (yields.0 t step)
 
-  pub none_left : (s t : S) (ids : List WriteId) (all : Result (List WriteId) BaggageFault) → Left s ids all → steps s None t → Ok ids ≡ all
+  pub none_left : (s t : S) (ids : List WriteId) (all : Result (List WriteId) BaggageFault) → Left s ids all → steps s None t → all ≡ Ok ids
   none_left s t ids all l step = none_more l.0 s t ids all l.1 l.2 step
 
   fault_more : (left : List (List ℕ)) (s t : S) (x : A) (ids : List WriteId) (fault : BaggageFault) (all : Result (List WriteId) BaggageFault) → AlwaysYields steps v s left → with_front ids (ids_in stores (last_of ids) (length ids + 1) left) ≡ all
-      → steps s (Some x) t → Fails (id_named stores (last_of ids) (length ids + 1) (named_in (v x))) fault → Fails all fault
+      → steps s (Some x) t → IsFault fault (id_named stores (last_of ids) (length ids + 1) (named_in (v x))) → IsFault fault all
   fault_more [] s t x ids fault all yields told step h = absurd (yields x t step)
   fault_more (text ∷ texts) s t x ids fault all yields told step h =
       let next = yields.1 x t step in
-      failed _ all fault
-      (λ f e. sym told ∙ fault_read stores ids text texts f (ap (λ (w : List ℕ). id_named stores (last_of ids) (length ids + 1) (named_in w)) (sym next.0) ∙ e)) h
+      λ other. sym told
+      ∙ fault_read stores ids text texts fault (ap (λ (w : List ℕ). id_named stores (last_of ids) (length ids + 1) (named_in w)) (sym next.0) ∙ h other)
 
   pub one_refused : (s t : S) (x : A) (ids : List WriteId) (fault : BaggageFault) (all : Result (List WriteId) BaggageFault) → Left s ids all → steps s (Some x) t
-      → Fails (id_named stores (last_of ids) (length ids + 1) (named_in (v x))) fault → Fails all fault
+      → IsFault fault (id_named stores (last_of ids) (length ids + 1) (named_in (v x))) → IsFault fault all
   one_refused s t x ids fault all l step h = fault_more l.0 s t x ids fault all l.1 l.2 step h
 
 -- ---- the whole
@@ -118,14 +115,6 @@ pub read_pieces : (stores : List (List ℕ)) (bytes text : List ℕ) → bytes_e
     → ids_in stores None 1 (slice_split (λ b. nat_eq b 44) text) ≡ read_lineage stores bytes
 read_pieces stores bytes text head e some =
     ap (λ (t : List (List ℕ)). ids_in stores None 1 t) (sym (pieces_some text some)) ∙ ap (λ (t : List ℕ). ids_in stores None 1 (pieces t)) e ∙ sym (cond-true _ _ _ head)
-
-pub fails_reads : (stores : List (List ℕ)) (bytes : List ℕ) (fault : BaggageFault) → Fails (read_lineage stores bytes) fault → Reads stores bytes (Err fault)
-fails_reads stores bytes BadHead h = sym h
-fails_reads stores bytes (BadId at) h = sym h
-fails_reads stores bytes (UnknownStore at) h = sym h
-fails_reads stores bytes (NotAscending at) h = sym h
-fails_reads stores bytes (TooMany at) h = sym h
-fails_reads stores bytes NoMemory h = tt
 
 -- ---- an id that was found
 

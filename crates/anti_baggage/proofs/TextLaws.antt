@@ -1,14 +1,13 @@
 -- Texts and lineages belong together, one to one.
-use Rattle.std.proofs.Common.{◌≡◌, ℕ, zero, suc, ◌+◌, ◌<◌, ◌≤◌, ◌^◌, ◌++◌, List, [], ◌∷◌, Bool, true, false, not, cond, ◌&&◌, Option, Some, None, Ok, Err, nat_eq, nat_lt, nat_le, length, take, drop, get_or, map, refl, sym, ap, subst, ◌∙◌, inl, inr, arith}
+use Rattle.std.proofs.Common.{◌≡◌, ℕ, zero, suc, ◌+◌, ◌<◌, ◌≤◌, ◌^◌, ◌++◌, List, [], ◌∷◌, Bool, true, false, not, cond, ◌&&◌, Option, Some, None, Ok, Err, nat_eq, nat_lt, length, take, drop, get_or, map, refl, sym, ap, subst, ◌∙◌, inl, inr, arith}
 use Rattle.std.specs.Prelude.{codes, position, Result}
 use Rattle.std.specs.Bool.{then_some}
 use Rattle.std.specs.Fmt.{decimal}
 use Rattle.std.specs.List.{All, list_all, list_any, position_from, join_by, join_with_byte, flat_map, slice_split, before_first, after_first}
 use Rattle.std.specs.Str.{bytes_eq}
-use Rattle.std.specs.Str.Parse.{digits_value}
 use Rattle.std.specs.declared.cmp.Ordering.TheVariants.{Less, Equal, Greater}
 use Rattle.std.specs.declared.cmp.Ordering.{Ordering}
-use Rattle.std.proofs.lemmas.Bool.{and_parts, both_ways, not-true, or_parts, cond-true, cond-false, false_from_ne_true, ltb-true, leb-true, ltb-false, le-ltb, ne_eqb}
+use Rattle.std.proofs.lemmas.Bool.{and_parts, both_ways, not-true, or_parts, cond-true, cond-false, false_from_ne_true, ltb-false, le-ltb, ne_eqb}
 use Rattle.std.proofs.lemmas.Fmt.{decimal_nonempty}
 use Rattle.std.proofs.lemmas.Iterator.Adapters.{position_from-zero}
 use Rattle.std.proofs.lemmas.List.{append-nil, length-append, take-append-drop}
@@ -21,7 +20,8 @@ use Rattle.anti_ids.specs.Each.{Each}
 use Rattle.anti_ids.specs.Ids.{IsAscending, id_cmp}
 use Rattle.anti_ids.specs.Names.{is_name}
 use Rattle.anti_ids.specs.declared.id.WriteId.{WriteId}
-use Rattle.anti_ids.specs.declared.lineage.TheConstants.{MOST_IDS}
+use Rattle.anti_ids.proofs.Decimals.{decimal_back}
+use Rattle.anti_ids.specs.declared.limits.TheConstants.{GREATEST_VERSION, MOST_IDS}
 use Rattle.anti_ids.proofs.IdLemmas.{each_weaker, id_total}
 use Rattle.anti_baggage.specs.declared.fault.BaggageFault.{BaggageFault}
 use Rattle.anti_baggage.specs.declared.fault.BaggageFault.TheVariants.{BadHead}
@@ -147,14 +147,8 @@ name_back text name h =
 
 version_back : (text : List ℕ) (version : ℕ) → version_in text ≡ Some version → (1 ≤ version) × (version < 2 ^ 64) × (text ≡ decimal version)
 version_back text version h =
-    let number = digits_value 10 text in
-    let known = found_some (nat_lt 0 number && (nat_le number 18446744073709551615 && bytes_eq (decimal number) text)) number version h in
-    let above = and_parts (nat_lt 0 number) (nat_le number 18446744073709551615 && bytes_eq (decimal number) text) known.0 in
-    let below = and_parts (nat_le number 18446744073709551615) (bytes_eq (decimal number) text) above.1 in (
-      omega (arith, ltb-true 0 number above.0, known.1),
-      omega (arith, leb-true number 18446744073709551615 below.0, known.1),
-      sym (same (decimal number) text below.1) ∙ ap decimal known.1,
-    )
+    let back = decimal_back 1 GREATEST_VERSION text version h in
+    (back.0, omega (arith, back.1), back.2)
 
 named_parts : (store key : Option (List ℕ)) (version : Option ℕ) (named : Named) → named_by store key version ≡ Some named → (store ≡ Some named.store) × (key ≡ Some named.key) × (version ≡ Some named.version)
 named_parts None key version named e = absurd (cc)

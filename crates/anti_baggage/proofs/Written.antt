@@ -1,19 +1,17 @@
 -- What is written is read again.
 use Rattle.std.proofs.Common.{◌≡◌, ℕ, ◌<◌, ◌≤◌, ◌^◌, ◌++◌, List, [], ◌∷◌, Bool, true, false, cond, ◌&&◌, Some, nat_eq, nat_lt, nat_le, length, refl, sym, ap, ◌∙◌, arith}
 use Rattle.std.specs.Prelude.{codes}
-use Rattle.std.specs.Bool.{then_some}
 use Rattle.std.specs.Fmt.{decimal}
 use Rattle.std.specs.List.{list_all, before_first, after_first}
-use Rattle.std.specs.Str.{bytes_eq}
-use Rattle.std.specs.Str.Parse.{digits_value}
-use Rattle.std.proofs.lemmas.Bool.{and_parts, lt-ltb, le-leb}
+use Rattle.std.proofs.lemmas.Bool.{and_parts}
 use Rattle.std.proofs.lemmas.Bool.Decides.{nat_tests}
-use Rattle.std.proofs.lemmas.Fmt.{decimal_is_IsNumeral}
 use Rattle.std.proofs.lemmas.List.{append_assoc}
 use Rattle.std.proofs.lemmas.List.Elements.{All-weaker}
 use Rattle.percent_encoding.specs.Percent.{percent_decode, percent_encode_byte}
 use Rattle.percent_encoding.proofs.PercentLemmas.{percent_decode-nil, percent_decode_not_percent, percent_decode-percent_encode_byte}
 use Rattle.anti_ids.specs.Names.{is_name, is_name_byte}
+use Rattle.anti_ids.specs.declared.limits.TheConstants.{GREATEST_VERSION}
+use Rattle.anti_ids.proofs.Decimals.{decimal_again}
 use Rattle.anti_baggage.specs.Escapes.{is_unreserved, escaped}
 use Rattle.anti_baggage.specs.Texts.{named_text}
 use Rattle.anti_baggage.specs.Reading.{name_in, version_in, named_in}
@@ -43,15 +41,8 @@ name_bytes name h = (and_parts (nat_le (length name) 32) (list_all is_name_byte 
 pub name_again : (name : List ℕ) → is_name name ≡ true → name_in (escaped name) ≡ Some name
 name_again name h = rw (decode_escaped name (name_bytes name h), h, same_itself (escaped name)) refl
 
-in_range : (above below again : Bool) (version : ℕ) → above ≡ true → below ≡ true → again ≡ true → then_some (above && (below && again)) version ≡ Some version
-in_range above below again version a b s = rw (a, b, s) refl
-
 pub version_again : (version : ℕ) → 1 ≤ version → version < 2 ^ 64 → version_in (decimal version) ≡ Some version
-version_again version some small =
-    let is : digits_value 10 (decimal version) ≡ version = (decimal_is_IsNumeral version small).1 in
-    let above : nat_lt 0 version ≡ true = lt-ltb 0 version (omega (arith, some)) in
-    let below : nat_le version 18446744073709551615 ≡ true = le-leb version 18446744073709551615 (omega (arith, small)) in
-    rw is (in_range (nat_lt 0 version) (nat_le version 18446744073709551615) (bytes_eq (decimal version) (decimal version)) version above below (same_itself (decimal version)))
+version_again version some small = decimal_again 1 GREATEST_VERSION version some (omega (arith, small)) small
 
 -- an id with the name of its store, grouped as it is read
 pub grouped : (store key : List ℕ) (version : ℕ) → named_text store key version ≡ escaped store ++ 47 ∷ (escaped key ++ 64 ∷ decimal version)

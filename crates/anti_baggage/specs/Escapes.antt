@@ -1,12 +1,14 @@
 -- Bytes as they are printed.
-use Rattle.std.specs.Prelude.{ℕ, List, [], ◌∷◌, Bool, ◌||◌, ◌&&◌, ◌==◌, nat_le, if◌then◌else◌}
+use Rattle.std.specs.Prelude.{ℕ, List, [], ◌∷◌, Bool, ◌||◌, ◌==◌, if◌then◌else◌}
+use Rattle.std.specs.Char.{is_ascii_alphanumeric}
 use Rattle.std.specs.List.{flat_map}
 use Rattle.percent_encoding.specs.Percent.{percent_encode_byte}
+use Rattle.anti_ids.specs.Ascii.{hyphen, dot, underscore, tilde}
 
 -- an ASCII letter, a digit, `-`, `.`, `_` or `~`
 abbrev pub is_unreserved : ℕ → Bool
 is_unreserved b =
-    (nat_le 48 b && nat_le b 57) || ((nat_le 65 b && nat_le b 90) || ((nat_le 97 b && nat_le b 122) || (b == 45 || (b == 46 || (b == 95 || b == 126)))))
+    is_ascii_alphanumeric b || (b == hyphen || (b == dot || (b == underscore || b == tilde)))
 
 -- a byte: itself where it is unreserved, else `%` and its two upper-case hexadecimal digits (RFC 3986, section 2)
 abbrev pub escaped_byte : ℕ → List ℕ

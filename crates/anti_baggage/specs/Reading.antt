@@ -1,19 +1,19 @@
 -- The lineage that a text states, or its first fault.
-use Rattle.std.specs.Prelude.{◌≡◌, ℕ, suc, codes, List, [], ◌∷◌, Bool, true, ◌&&◌, ◌==◌, nat_lt, nat_le, drop, take, position, Option, None, Some, Result, Ok, Err, if◌then◌else◌}
+use Rattle.std.specs.Prelude.{ℕ, suc, codes, List, [], ◌∷◌, Bool, true, ◌&&◌, ◌==◌, nat_lt, drop, take, position, Option, None, Some, Result, Ok, Err, if◌then◌else◌}
 use Rattle.std.specs.Bool.{then_some}
 use Rattle.std.specs.Str.{bytes_eq}
 use Rattle.std.specs.List.{slice_split, before_first, after_first}
-use Rattle.std.specs.Fmt.{decimal}
-use Rattle.std.specs.Str.Parse.{digits_value}
 use Rattle.std.specs.declared.cmp.Ordering.{Ordering}
 use Rattle.std.specs.declared.cmp.Ordering.TheVariants.{Less}
 use Rattle.percent_encoding.specs.Percent.{percent_decode}
+use Rattle.anti_ids.specs.Ascii.{slash, at_sign, comma}
+use Rattle.anti_ids.specs.Decimals.{decimal_in}
 use Rattle.anti_ids.specs.Ids.{id_cmp}
 use Rattle.anti_ids.specs.Names.{is_name}
 use Rattle.anti_ids.specs.declared.id.WriteId.{WriteId}
-use Rattle.anti_ids.specs.declared.lineage.TheConstants.{MOST_IDS}
+use Rattle.anti_ids.specs.declared.limits.TheConstants.{GREATEST_VERSION, MOST_IDS}
 use Rattle.anti_baggage.specs.declared.fault.BaggageFault.{BaggageFault}
-use Rattle.anti_baggage.specs.declared.fault.BaggageFault.TheVariants.{BadHead, BadId, UnknownStore, NotAscending, TooMany, NoMemory}
+use Rattle.anti_baggage.specs.declared.fault.BaggageFault.TheVariants.{BadHead, BadId, UnknownStore, NotAscending, TooMany}
 use Rattle.anti_baggage.specs.Escapes.{escaped}
 
 -- ---- one id
@@ -22,11 +22,9 @@ use Rattle.anti_baggage.specs.Escapes.{escaped}
 abbrev pub name_in : List ℕ → Option (List ℕ)
 name_in text = let name = percent_decode text in then_some (is_name name && bytes_eq (escaped name) text) name
 
--- the version from 1 to 2^64 - 1 that a text is in decimal, without a leading zero
+-- the version that a text is
 abbrev pub version_in : List ℕ → Option ℕ
-version_in text =
-    let version = digits_value 10 text in
-    then_some (nat_lt 0 version && (nat_le version 18446744073709551615 && bytes_eq (decimal version) text)) version
+version_in text = decimal_in 1 GREATEST_VERSION text
 
 -- what a text says that is an id: a store by its name, a key and a version
 pub record Named : Type 0 where
@@ -41,8 +39,8 @@ named_by _ _ _ = None
 -- a store, a slash, a key, `@` and a version
 abbrev pub named_in : List ℕ → Option Named
 named_in text =
-    let rest = after_first (λ b. b == 47) text in
-    named_by (name_in (before_first (λ b. b == 47) text)) (name_in (before_first (λ b. b == 64) rest)) (version_in (after_first (λ b. b == 64) rest))
+    let rest = after_first (λ b. b == slash) text in
+    named_by (name_in (before_first (λ b. b == slash) text)) (name_in (before_first (λ b. b == at_sign) rest)) (version_in (after_first (λ b. b == at_sign) rest))
 
 -- ---- ids, one after another
 
@@ -88,13 +86,8 @@ ids_in stores before at (text ∷ texts) = and_further (id_named stores before a
 -- what stands between commas; no text is no piece
 abbrev pub pieces : List ℕ → List (List ℕ)
 pieces [] = []
-pieces (b ∷ bs) = slice_split (λ b. b == 44) (b ∷ bs)
+pieces (b ∷ bs) = slice_split (λ b. b == comma) (b ∷ bs)
 
 -- The lineage that a text states: `1;`, then its ids, cut at commas. The first id that is wrong decides.
 abbrev pub read_lineage : List (List ℕ) → List ℕ → Result (List WriteId) BaggageFault
 read_lineage stores text = if bytes_eq (take 2 text) (codes "1;") then ids_in stores None 1 (pieces (drop 2 text)) else Err BadHead
-
--- what reading a text answers; want of memory is free
-abbrev pub Reads : List (List ℕ) → List ℕ → Result (List WriteId) BaggageFault → Type 0
-Reads stores text (Err NoMemory) = Unit {0}
-Reads stores text result = result ≡ read_lineage stores text

@@ -1,7 +1,9 @@
 ghost use Rattle.std.specs.Prelude.{◌≡◌, ◌≤◌, ◌^◌, length, position};
 ghost use Rattle.std.specs.Str.{bytes_eq};
-ghost use Rattle.anti_baggage.specs.Reading.{is_above, id_in_order, id_named, named_in, Reads};
-ghost use Rattle.anti_baggage.specs.Steps.{Adds, Gives};
+ghost use Rattle.anti_ids.specs.Answers.{AnswersBut};
+ghost use Rattle.anti_baggage.specs.Reading.{is_above, id_in_order, id_named, named_in, read_lineage};
+ghost use Rattle.anti_baggage.specs.Steps.{Adds};
+ghost use Rattle.anti_baggage.specs.declared.fault.BaggageFault.TheVariants as faults;
 
 use crate::fault::BaggageFault;
 use crate::naming::named_in;
@@ -46,7 +48,7 @@ fn id_named(
     text: &[u8],
 ) -> Result<WriteId, BaggageFault>
     requires { length stores.now ≤ 2 ^ 32 }
-    ensures { Gives result (id_named stores.now before at (named_in text.now)) }
+    ensures { AnswersBut faults.NoMemory result (id_named stores.now before at (named_in text.now)) }
 {
     let Some(named) = named_in(text) else {
         return Err(BaggageFault::BadId(at));
@@ -67,7 +69,7 @@ fn add_id(lineage: &mut Lineage, stores: &[Name], text: &[u8]) -> Result<(), Bag
     requires { length stores.now ≤ 2 ^ 32 }
     ensures { Adds stores.now text.now lineage.old lineage.new result }
 {
-    let before = lineage.as_slice().last().copied();
+    let before = lineage.last();
     let id = id_named(stores, before, lineage.len() + 1, text)?;
     match lineage.append(id) {
         Ok(_) => Ok(()),
@@ -80,7 +82,7 @@ fn add_id(lineage: &mut Lineage, stores: &[Name], text: &[u8]) -> Result<(), Bag
 /// fault. Where two stores have one name it stands for the first.
 pub fn decode(alloc: Global, stores: &[Name], bytes: &[u8]) -> Result<Lineage, BaggageFault>
     requires { length stores.now ≤ 2 ^ 32 }
-    ensures { Reads stores.now bytes.now result }
+    ensures { AnswersBut faults.NoMemory result (read_lineage stores.now bytes.now) }
 {
     let Some(text) = bytes.strip_prefix(b"1;") else {
         return Err(BaggageFault::BadHead);

@@ -3,7 +3,7 @@ ghost use Rattle.anti_ids.specs.List.{plain};
 ghost use Rattle.anti_baggage.specs.Texts.{id_text, lineage_text, store_name};
 
 use crate::escaping::escape;
-use anti_ids::{Bytes, Lineage, Name, NoMemory, WriteId};
+use anti_ids::{Bytes, Copies, Lineage, List, Name, NoMemory, WriteId};
 use itoa::Buffer;
 use std::alloc::Global;
 
@@ -18,38 +18,53 @@ fn store_name(stores: &[Name], store: u32) -> &[u8]
 }
 
 // Adds a number in decimal at the end of a text without room.
-fn add_number(text: &mut Bytes, number: u64) -> Result<(), NoMemory>
+fn add_number(text: &mut List<u8>, number: u64) -> Result<(), NoMemory>
     requires { text.old.spare ≡ 0 }
-    ensures { OnOk result (text.new ≡ plain (text.old.items ++ decimal number)) }
+    ensures ok { OnOk result (text.new ≡ plain (text.old.items ++ decimal number)) }
+    ensures spare { text.new.spare ≡ 0 }
 {
     let mut digits = Buffer::new();
     text.append(digits.format(number).as_bytes())
 }
 
 // Adds an id with the name of its store at the end of a text without room.
-fn add_id(text: &mut Bytes, stores: &[Name], id: &WriteId) -> Result<(), NoMemory>
+fn add_id(text: &mut List<u8>, stores: &[Name], id: &WriteId) -> Result<(), NoMemory>
     requires { text.old.spare ≡ 0 }
-    ensures { OnOk result (text.new ≡ plain (text.old.items ++ id_text stores.now id.now)) }
+    ensures ok { OnOk result (text.new ≡ plain (text.old.items ++ id_text stores.now id.now)) }
+    ensures spare { text.new.spare ≡ 0 }
 {
     escape(text, store_name(stores, id.store))?;
-    text.append(b"/")?;
+    text.add(b'/')?;
     escape(text, id.key.bytes())?;
-    text.append(b"@")?;
+    text.add(b'@')?;
     add_number(text, id.version)
 }
 
-/// The text of a lineage, over the names of the stores by their numbers. An id of a store that is not there is written without a
-/// name, and no text with such an id is read again.
+/// Adds the text of a lineage at the end of a text without room, over the names of the stores by their numbers. An id of a store that
+/// is not there is written without a name, and no text with such an id is read again.
+pub fn add_lineage(text: &mut List<u8>, stores: &[Name], lineage: &Lineage) -> Result<(), NoMemory>
+    requires { text.old.spare ≡ 0 }
+    ensures ok { OnOk result (text.new ≡ plain (text.old.items ++ lineage_text stores.now lineage.now)) }
+    ensures spare { text.new.spare ≡ 0 }
+{
+    text.append(b"1;")?;
+    let mut is_first = true;
+    for id in lineage.iter() {
+        if !is_first {
+            text.add(b',')?;
+        }
+        add_id(text, stores, &id)?;
+        is_first = false;
+    }
+    Ok(())
+}
+
+/// The text of a lineage, as a text of its own.
 pub fn encode(alloc: Global, stores: &[Name], lineage: &Lineage) -> Result<Bytes, NoMemory>
     ensures { IfOk result (λ text. text ≡ plain (lineage_text stores.now lineage.now)) }
 {
-    let mut text = Bytes::new(alloc);
-    text.append(b"1;")?;
-    for (index, id) in lineage.as_slice().iter().enumerate() {
-        if index > 0 {
-            text.append(b",")?;
-        }
-        add_id(&mut text, stores, id)?;
-    }
-    Ok(text)
+    let mut text = List::new(alloc);
+    add_lineage(&mut text, stores, lineage)?;
+    // What is copied without room shares its memory with its further copies.
+    Bytes::from(text).copy(alloc)
 }

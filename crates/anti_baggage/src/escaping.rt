@@ -1,9 +1,9 @@
-ghost use Rattle.std.specs.Prelude.{◌≡◌, ◌≤◌, ℕ, length, take, OnOk, OnErr, IsOk};
+ghost use Rattle.std.specs.Prelude.{◌≡◌, ◌≤◌, ℕ, length, take, OnOk, OnErr, IsOk, IsTrue};
 ghost use Rattle.std.specs.Str.{bytes_eq};
 ghost use Rattle.anti_ids.specs.List.{extended};
 ghost use Rattle.anti_baggage.specs.Escapes.{is_unreserved, escaped_byte, escaped};
 
-use anti_ids::{Bytes, NoMemory};
+use anti_ids::{List, NoMemory};
 use percent_encoding::percent_encode_byte;
 use std::slice;
 
@@ -11,7 +11,19 @@ use std::slice;
 fn is_unreserved(byte: u8) -> bool
     ensures { result ≡ is_unreserved byte }
 {
-    matches!(byte, b'0'..=b'9' | b'A'..=b'Z' | b'a'..=b'z' | b'-' | b'.' | b'_' | b'~')
+    byte.is_ascii_alphanumeric() || matches!(byte, b'-' | b'.' | b'_' | b'~')
+}
+
+// Whether each byte is unreserved, as those of most names are.
+fn is_plain(bytes: &[u8]) -> bool
+    ensures { IsTrue result → escaped bytes.now ≡ bytes.now }
+{
+    for byte in bytes {
+        if !is_unreserved(*byte) {
+            return false;
+        }
+    }
+    true
 }
 
 // A byte as it is printed: itself, or escaped where it is not unreserved.
@@ -27,12 +39,15 @@ fn escaped_byte(byte: &u8) -> &[u8]
 
 /// Adds bytes at the end, each that is not unreserved escaped (RFC 3986, section 2). Where memory runs out, a front of the
 /// bytes is added.
-pub fn escape(out: &mut Bytes, bytes: &[u8]) -> Result<(), NoMemory>
+pub fn escape(out: &mut List<u8>, bytes: &[u8]) -> Result<(), NoMemory>
     ensures ok { OnOk result (out.new ≡ extended out.old (escaped bytes.now) (length (escaped bytes.now))) }
     ensures err { OnErr result ((count : ℕ) × (out.new ≡ extended out.old (escaped (take count bytes.now)) (length (escaped (take count bytes.now))))) }
     ensures spare { out.new.spare ≤ out.old.spare }
     ensures room { length (escaped bytes.now) ≤ out.old.spare → IsOk result }
 {
+    if is_plain(bytes) {
+        return out.append(bytes);
+    }
     for byte in bytes {
         out.append(escaped_byte(byte))?;
     }
@@ -43,6 +58,9 @@ pub fn escape(out: &mut Bytes, bytes: &[u8]) -> Result<(), NoMemory>
 pub fn is_escaped(bytes: &[u8], text: &[u8]) -> bool
     ensures { result ≡ bytes_eq (escaped bytes.now) text.now }
 {
+    if is_plain(bytes) {
+        return bytes == text;
+    }
     let mut rest = text;
     for byte in bytes {
         match rest.strip_prefix(escaped_byte(byte)) {

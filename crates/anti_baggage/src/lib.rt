@@ -9,10 +9,7 @@ mod laws;
 mod naming;
 
 pub use decoding::decode;
-pub use encoding::encode;
+pub use encoding::{add_lineage, encode};
 pub use escaping::escape;
 pub use fault::BaggageFault;
 pub use laws::texts_state_lineages;
-
-#[cfg(test)]
-mod tests;

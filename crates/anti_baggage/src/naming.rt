@@ -1,15 +1,14 @@
 ghost use Rattle.std.specs.Prelude.{◌≡◌, ◌==◌, position};
 ghost use Rattle.std.specs.Bool.{then_some};
-ghost use Rattle.std.specs.Char.{is_ascii_digit};
-ghost use Rattle.std.specs.List.{before_first, after_first, list_all};
+ghost use Rattle.std.specs.List.{before_first, after_first};
 ghost use Rattle.std.specs.Option.{option_map};
 ghost use Rattle.percent_encoding.specs.Percent.{percent_decode};
 ghost use Rattle.anti_ids.specs.Names.{is_name};
 ghost use Rattle.anti_baggage.specs.Reading.{name_in, version_in, named_in};
-ghost use Rattle.anti_baggage.specs.Steps.{is_numeral, as_named};
+ghost use Rattle.anti_baggage.specs.Steps.{as_named};
 
 use crate::escaping::is_escaped;
-use anti_ids::{LONGEST_NAME, Name};
+use anti_ids::{GREATEST_VERSION, LONGEST_NAME, Name, read_decimal};
 use percent_encoding::percent_decode;
 
 /// What a text says that is an id: a store by its name, a key and a version.
@@ -48,35 +47,11 @@ fn name_in(text: &[u8]) -> Option<Name>
     }
 }
 
-// Whether each byte is a digit.
-fn all_digits(text: &[u8]) -> bool
-    ensures { result ≡ list_all is_ascii_digit text.now }
-{
-    text.iter().all(|b| b.is_ascii_digit())
-}
-
-// Whether a text is digits, the first of which is no zero.
-fn is_numeral(text: &[u8]) -> bool
-    ensures { result ≡ is_numeral text.now }
-{
-    match text {
-        [] => false,
-        [b'0', ..] => false,
-        _ => all_digits(text),
-    }
-}
-
-// The version from 1 to 2^64 - 1 that a text is in decimal, without a leading zero.
+// The version that a text is.
 fn version_in(text: &[u8]) -> Option<u64>
     ensures { result ≡ version_in text.now }
 {
-    if !is_numeral(text) {
-        return None;
-    }
-    match std::str::from_utf8(text) {
-        Ok(digits) => digits.parse().ok(),
-        Err(_) => None,
-    }
+    read_decimal(text, 1, GREATEST_VERSION)
 }
 
 // Where a mark stands first.

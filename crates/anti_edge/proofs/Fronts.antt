@@ -2,7 +2,7 @@
 use Rattle.std.proofs.Common.{ℕ, ◌≡◌, ◌+◌, ◌-◌, ◌<◌, ◌≤◌, List, [], ◌∷◌, ◌++◌, Option, None, Some, IfSome, length, take, drop, refl, sym, ◌∙◌, ap, subst, arith, append_assoc, length-append}
 use Rattle.std.proofs.Math.Seq.{drop-append_seam, take-append_seam}
 use Rattle.std.proofs.lemmas.List.{append-nil, take-append-drop}
-use Rattle.anti_edge.specs.Outside.{IsFrontGiven, IsEnd, after_front, with_bytes, with_front, AddsFront, TakesFront}
+use Rattle.anti_edge.specs.Outside.{IsFrontGiven, IsEnd, after_front, with_bytes, with_front, AddsFront, TakesFront, TakesAtMost}
 
 -- the bytes were read, where the source tells what was left and what is left now
 abbrev pub HasRead : Option (List ℕ) → Option (List ℕ) → List ℕ → Type 0
@@ -33,6 +33,12 @@ pub HasRead-front : (before now : Option (List ℕ)) (bytes : List ℕ) → HasR
 HasRead-front None now bytes read = (0, read)
 HasRead-front (Some all) now bytes (rest, is, whole) =
     (length bytes, is ∙ ap (λ (l : List ℕ). Some l) (sym (ap (λ (l : List ℕ). drop (length bytes) l) whole ∙ drop-append_seam bytes rest)))
+
+-- and not more of it than so many bytes
+pub HasRead-most : (before now : Option (List ℕ)) (bytes : List ℕ) (most : ℕ) → HasRead before now bytes → length bytes ≤ most → TakesAtMost most before now
+HasRead-most None now bytes most read short = (0, omega arith, read)
+HasRead-most (Some all) now bytes most (rest, is, whole) short =
+    (length bytes, short, is ∙ ap (λ (l : List ℕ). Some l) (sym (ap (λ (l : List ℕ). drop (length bytes) l) whole ∙ drop-append_seam bytes rest)))
 
 pub HasRead-more : (before now : Option (List ℕ)) (bytes block : List ℕ) (n limit : ℕ) → HasRead before now bytes →
     IfSome now (IsFrontGiven n block) → limit - length bytes < n → IfSome before (λ left. limit < length left)

@@ -1,10 +1,6 @@
 -- What a source tells of the bytes that are left, what a sink tells of those that were written, and their counts of faults.
-use Rattle.std.specs.Prelude.{ℕ, ◌≡◌, ◌-◌, ◌^◌, ◌<◌, ◌≤◌, ◌⊎◌, List, [], ◌++◌, Option, None, IfSome, length, take, drop}
+use Rattle.std.specs.Prelude.{ℕ, ◌≡◌, ◌≤◌, List, [], ◌++◌, Option, None, IfSome, length, take, drop}
 use Rattle.std.specs.Option.{option_map}
-
--- a count that only grows, up to the greatest u64, rose; at its end it can't be seen to rise further
-abbrev pub Rose : ℕ → ℕ → Type 0
-Rose before now = (before < now) ⊎ (now ≡ 2 ^ 64 - 1)
 
 -- the first n bytes of the buffer are the first n of what was left
 abbrev pub IsFrontGiven : ℕ → List ℕ → List ℕ → Type 0
@@ -37,3 +33,7 @@ AddsFront bytes before now = (n : ℕ) × (n ≤ length bytes) × (now ≡ with_
 -- some front of what was left was taken
 abbrev pub TakesFront : Option (List ℕ) → Option (List ℕ) → Type 0
 TakesFront before now = (n : ℕ) × (now ≡ after_front n before)
+
+-- some front of what was left was taken, of at most so many bytes
+abbrev pub TakesAtMost : ℕ → Option (List ℕ) → Option (List ℕ) → Type 0
+TakesAtMost most before now = (n : ℕ) × (n ≤ most) × (now ≡ after_front n before)

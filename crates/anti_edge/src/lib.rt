@@ -13,8 +13,6 @@ mod sink;
 mod source;
 mod sure_sink;
 mod sure_source;
-#[cfg(test)]
-mod tests;
 mod writing;
 
 pub use failed::Failed;

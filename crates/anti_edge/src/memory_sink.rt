@@ -1,5 +1,6 @@
 ghost use Rattle.std.specs.Prelude.{◌≡◌, [], ◌<◌, ◌≤◌, length, min, IfOk, Some, OnErr, ◌&&◌, ◌||◌, ◌==◌, is_ok, not};
-ghost use Rattle.anti_edge.specs.Outside.{Rose, with_front};
+ghost use Rattle.anti_ids.specs.Counts.{Rose};
+ghost use Rattle.anti_edge.specs.Outside.{with_front};
 ghost use Rattle.anti_edge.specs.Plans.{is_listed, fresh_plan};
 ghost use Rattle.anti_edge.specs.Memories.{after_piece};
 

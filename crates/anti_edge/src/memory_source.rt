@@ -1,5 +1,6 @@
 ghost use Rattle.std.specs.Prelude.{◌≡◌, ◌<◌, ◌≤◌, length, min, Some, IfOk, OnErr, is_ok, not};
-ghost use Rattle.anti_edge.specs.Outside.{Rose, IsFrontGiven, IsEnd, after_front};
+ghost use Rattle.anti_ids.specs.Counts.{Rose};
+ghost use Rattle.anti_edge.specs.Outside.{IsFrontGiven, IsEnd, after_front};
 ghost use Rattle.anti_edge.specs.Plans.{is_listed, after_call, fresh_plan};
 
 use crate::failed::Failed;

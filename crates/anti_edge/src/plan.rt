@@ -26,9 +26,7 @@ impl Plan {
     {
         let mut listed = List::new(alloc);
         for number in fail {
-            if listed.push(*number).is_err() {
-                return Err(NoMemory);
-            }
+            listed.add(*number)?;
         }
         Ok(Plan {
             most,

@@ -1,5 +1,6 @@
 ghost use Rattle.std.specs.Prelude.{◌≡◌, ℕ, ◌<◌, ◌≤◌, List, Option, length, IfOk, OnErr};
-ghost use Rattle.anti_edge.specs.Outside.{Rose, with_front};
+ghost use Rattle.anti_ids.specs.Counts.{Rose};
+ghost use Rattle.anti_edge.specs.Outside.{with_front};
 
 use crate::failed::Failed;
 

@@ -1,5 +1,6 @@
 ghost use Rattle.std.specs.Prelude.{◌≡◌, ℕ, ◌<◌, ◌≤◌, List, Option, length, IfOk, IfSome, OnErr};
-ghost use Rattle.anti_edge.specs.Outside.{Rose, IsFrontGiven, IsEnd, after_front};
+ghost use Rattle.anti_ids.specs.Counts.{Rose};
+ghost use Rattle.anti_edge.specs.Outside.{IsFrontGiven, IsEnd, after_front};
 
 use crate::failed::Failed;
 

@@ -1,5 +1,6 @@
 ghost use Rattle.std.specs.Prelude.{◌≡◌, ◌≤◌, OnOk, OnErr};
-ghost use Rattle.anti_edge.specs.Outside.{Rose, AddsFront, with_bytes};
+ghost use Rattle.anti_ids.specs.Counts.{Rose};
+ghost use Rattle.anti_edge.specs.Outside.{AddsFront, with_bytes};
 
 use crate::failed::Failed;
 use crate::sink::Sink;

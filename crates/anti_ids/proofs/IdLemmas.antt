@@ -14,7 +14,7 @@ use Rattle.std.proofs.lemmas.Map.Views.{any-filter_same}
 use Rattle.std.proofs.lemmas.Bool.{cond_both, cond-true, cond-false, cases_Bool, both_ways, false≢true, or_cases, or_parts, or_from, or_left, or_right, and_from, and_parts}
 use Rattle.anti_ids.specs.Each.{Each}
 use Rattle.anti_ids.specs.declared.id.WriteId.{WriteId}
-use Rattle.anti_ids.specs.declared.lineage.TheConstants.{MOST_IDS}
+use Rattle.anti_ids.specs.declared.limits.TheConstants.{MOST_IDS}
 use Rattle.anti_ids.specs.Ids.{id_cmp, is_id, has_id, placed, with_id, with_ids, without_id, ids_of, IsAscending, IsLineage}
 
 pub id_total : IsTotalOrder id_cmp
@@ -374,6 +374,9 @@ pub with_ids-comm : (is js : List WriteId) → IsAscending is → IsAscending js
 with_ids-comm is js asc_is asc_js =
     same_ids (with_ids is js) (with_ids js is) (ascending_with_ids is js asc_js) (ascending_with_ids js is asc_is)
     (λ i. has_id-with_ids i is js ∙ or_comm (has_id i is) (has_id i js) ∙ sym (has_id-with_ids i js is))
+
+pub with_ids-nil : (is : List WriteId) → IsAscending is → with_ids is [] ≡ is
+with_ids-nil is asc = with_ids-comm is [] asc tt
 
 -- Lineages made of others.
 pub lineage_with : (i : WriteId) (ids changed : List WriteId) → IsLineage ids → 1 ≤ i.version → changed ≡ with_id i ids → length changed ≤ MOST_IDS → IsLineage changed

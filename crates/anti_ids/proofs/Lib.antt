@@ -2,3 +2,7 @@ pub mod NameLemmas
 pub mod ValueLemmas
 pub mod IdLemmas
 pub mod Places
+pub mod PartLemmas
+pub mod LeftLemmas
+pub mod GoneLemmas
+pub mod Decimals

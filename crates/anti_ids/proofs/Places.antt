@@ -1,19 +1,20 @@
 -- Where an id stands among ascending ids, or goes.
-use Rattle.std.proofs.Common.{◌≡◌, ℕ, zero, suc, ◌+◌, ◌-◌, ◌<◌, ◌++◌, List, [], ◌∷◌, Bool, true, false, not, length, take, drop, get_or, refl, sym, ap, ◌∙◌, subst, add-one, arith}
+use Rattle.std.proofs.Common.{◌≡◌, ℕ, zero, suc, ◌+◌, ◌-◌, ◌<◌, ◌≤◌, ◌++◌, List, [], ◌∷◌, Bool, true, false, not, length, take, drop, get_or, refl, sym, ap, ◌∙◌, subst, add-one, arith}
 use Rattle.std.specs.Prelude.{Result, Ok, Err, Some, slice_get, IsTrue, ◌↔◌}
 use Rattle.std.specs.declared.cmp.Ordering.{Ordering}
 use Rattle.std.specs.declared.cmp.Ordering.TheVariants.{Less, Equal, Greater}
 use Rattle.std.specs.Ordering.{is_lt, ordering_index}
 use Rattle.std.specs.List.{All, AllWithin}
 use Rattle.std.specs.List.Sorted.{IsNonDecreasingBy, IsBinarySearchResult, IsSearchInRange}
-use Rattle.std.proofs.lemmas.List.{append-nil, drop_more, take-append-drop, get_or-take, get_or-drop, length-take, length-drop, take_all, drop_all}
+use Rattle.std.proofs.lemmas.List.{drop_more, take-append-drop, get_or-take, get_or-drop, length-take, length-drop, take_all, drop_all}
 use Rattle.std.proofs.lemmas.Cmp.{tied_itself}
 use Rattle.std.proofs.lemmas.List.Sorted.{searchable_from_sorted}
 use Rattle.std.proofs.lemmas.Bool.{cond-true, cond-false, or_left, or_right, or_from}
-use Rattle.std.proofs.lemmas.Option.{get_or_from_slice_get}
+use Rattle.std.proofs.lemmas.Option.{get_or_from_slice_get, slice_get-get_or}
 use Rattle.anti_ids.specs.Each.{Each}
 use Rattle.anti_ids.specs.declared.id.WriteId.{WriteId}
-use Rattle.anti_ids.specs.Ids.{id_cmp, is_id, has_id, with_id, without_id, IsAscending, IsPlace}
+use Rattle.anti_ids.specs.Ids.{id_cmp, is_id, has_id, with_id, without_id, IsAscending}
+use Rattle.anti_ids.specs.inner.Places.{StandsAt, GoesTo, IsPlace}
 use Rattle.anti_ids.proofs.IdLemmas.{id_total, turned, turned_back, same_from_tie, is_id-itself, not_before, not_after, before_first, is_first, behind_first}
 
 -- what stands before and behind an id that is not there
@@ -52,7 +53,7 @@ first_there i js each = (
     none_out (j ∷ js) each =
         cond-true (not (is_id i j)) (j ∷ without_id i js) (without_id i js) (ap not (not_before i j each.0)) ∙ ap (λ (x : List WriteId). j ∷ x) (none_out js each.1)
 
-above_behind : (P : WriteId → Type 0) (i : WriteId) (before behind : List WriteId) → Each P (before ++ i ∷ behind) → P i
+pub above_behind : (P : WriteId → Type 0) (i : WriteId) (before behind : List WriteId) → Each P (before ++ i ∷ behind) → P i
 above_behind P i [] behind each = each.0
 above_behind P i (j ∷ js) behind each = above_behind P i js behind each.1
 
@@ -95,38 +96,45 @@ searchable i ids asc =
     searchable_from_sorted id_total (λ (j : WriteId). j) ids i
     (λ k d low lt. rw add-one (ap is_lt (turned_back (get_or ids k d) (get_or ids (suc k) d) (adjacent ids asc k d (omega arith)))))
 
+-- an id between those before it and those behind it has its place
+pub stands_at : (i : WriteId) (ids : List WriteId) (at : ℕ) (d : WriteId) → IsAscending ids → at < length ids → get_or ids at d ≡ i → StandsAt i ids at
+stands_at i ids at d asc within here =
+    let parts : ids ≡ take at ids ++ i ∷ drop (at + 1) ids =
+    sym (take-append-drop at ids) ∙ ap (λ (x : List WriteId). take at ids ++ x) (drop_more ids at d within ∙ ap (λ (x : WriteId). x ∷ drop (at + 1) ids) here) in
+    let at_place = there i (take at ids) (drop (at + 1) ids) (subst IsAscending parts asc) in
+    record {
+      within = within;
+      is = slice_get-get_or ids at d within ∙ ap (λ (x : WriteId). Some x) here;
+      there = ap (λ (x : List WriteId). has_id i x) parts ∙ at_place.0;
+      with = ap (λ (x : List WriteId). with_id i x) parts ∙ at_place.1 ∙ sym parts;
+      without = ap (λ (x : List WriteId). without_id i x) parts ∙ at_place.2;
+    }
+
+pub goes_to : (i : WriteId) (ids : List WriteId) (at : ℕ) → at ≤ length ids → Each (λ j. id_cmp j i ≡ Less) (take at ids) → Each (λ j. id_cmp j i ≡ Greater) (drop at ids) → GoesTo i ids at
+goes_to i ids at within low high =
+    let parts : ids ≡ take at ids ++ drop at ids = sym (take-append-drop at ids) in
+    let at_place = between i (take at ids) (drop at ids) low high in
+    record {
+      within = within;
+      low = low;
+      high = high;
+      absent = ap (λ (x : List WriteId). has_id i x) parts ∙ at_place.0;
+      with = ap (λ (x : List WriteId). with_id i x) parts ∙ at_place.1;
+      without = ap (λ (x : List WriteId). without_id i x) parts ∙ at_place.2 ∙ sym parts;
+    }
+
 pub found_place : (i : WriteId) (ids : List WriteId) (r : Result ℕ ℕ) → IsAscending ids → IsSearchInRange r (length ids) → IsBinarySearchResult (λ j. id_cmp j i) ids r → IsPlace i ids r
 found_place i ids (Ok at) asc within found =
-    let here : get_or ids at i ≡ i = same_from_tie (get_or ids at i) i (found i) in
-    let parts : ids ≡ take at ids ++ i ∷ drop (at + 1) ids =
-    sym (take-append-drop at ids) ∙ ap (λ (x : List WriteId). take at ids ++ x) (drop_more ids at i within ∙ ap (λ (x : WriteId). x ∷ drop (at + 1) ids) here) in
-    let at_place = there i (take at ids) (drop (at + 1) ids) (subst IsAscending parts asc) in (
-      within,
-      ap (λ (x : List WriteId). has_id i x) parts ∙ at_place.0,
-      ap (λ (x : List WriteId). with_id i x) parts ∙ at_place.1 ∙ sym parts,
-      ap (λ (x : List WriteId). without_id i x) parts ∙ at_place.2,
-    )
+    stands_at i ids at i asc within (same_from_tie (get_or ids at i) i (found i))
 found_place i ids (Err at) asc within found =
     let split = found (searchable i ids asc) in
-    let parts : ids ≡ take at ids ++ drop at ids = sym (take-append-drop at ids) in
-    let at_place = between i (take at ids) (drop at ids) (each_before (λ j. id_cmp j i ≡ Less) ids at split.0) (each_behind (λ j. id_cmp j i ≡ Greater) ids at split.1) in (
-      within,
-      ap (λ (x : List WriteId). has_id i x) parts ∙ at_place.0,
-      ap (λ (x : List WriteId). with_id i x) parts ∙ at_place.1,
-      ap (λ (x : List WriteId). without_id i x) parts ∙ at_place.2 ∙ sym parts,
-    )
+    goes_to i ids at within (each_before (λ j. id_cmp j i ≡ Less) ids at split.0) (each_behind (λ j. id_cmp j i ≡ Greater) ids at split.1)
 
 pub last_place : (i : WriteId) (ids : List WriteId) → Each (λ j. id_cmp j i ≡ Less) ids → IsPlace i ids (Err (length ids))
 last_place i ids each =
-    let at_end = between i ids [] each tt in
-    let whole : ids ++ [] ≡ ids = append-nil ids in (
-      omega arith,
-      ap (λ (x : List WriteId). has_id i x) (sym whole) ∙ at_end.0,
-      ap (λ (x : List WriteId). with_id i x) (sym whole) ∙ at_end.1
-          ∙ ap (λ (x : List WriteId). x ++ i ∷ []) (sym (take_all (length ids) ids (omega arith)))
-          ∙ ap (λ (x : List WriteId). take (length ids) ids ++ i ∷ x) (sym (drop_all (length ids) ids (omega arith))),
-      ap (λ (x : List WriteId). without_id i x) (sym whole) ∙ at_end.2 ∙ whole,
-    )
+    goes_to i ids (length ids) (omega arith)
+    (subst (λ (x : List WriteId). Each (λ j. id_cmp j i ≡ Less) x) (sym (take_all (length ids) ids (omega arith))) each)
+    (subst (λ (x : List WriteId). Each (λ j. id_cmp j i ≡ Greater) x) (sym (drop_all (length ids) ids (omega arith))) tt)
 
 -- where the last id stands before an id, all do
 pub all_before : (i : WriteId) (ids : List WriteId) (last : ℕ) (d : WriteId) → IsAscending ids → suc last ≡ length ids → id_cmp (get_or ids last d) i ≡ Less
@@ -138,12 +146,12 @@ all_before i (j ∷ k ∷ ks) zero d asc l e = absurd (omega arith)
 all_before i (j ∷ k ∷ ks) (suc last) d asc l e =
     let more : Each (λ j. id_cmp j i ≡ Less) (k ∷ ks) = all_before i (k ∷ ks) last d asc.1 (omega arith) e in (id_total.trans j k i asc.0.0 more.0, more)
 
-is_less : (o : Ordering) → is_lt o ≡ true → o ≡ Less
+pub is_less : (o : Ordering) → is_lt o ≡ true → o ≡ Less
 is_less Less t = refl
 is_less Equal t = absurd (cc)
 is_less Greater t = absurd (cc)
 
-each_at : (P : WriteId → Type 0) (ids : List WriteId) (k : ℕ) (d : WriteId) → Each P ids → k < length ids → P (get_or ids k d)
+pub each_at : (P : WriteId → Type 0) (ids : List WriteId) (k : ℕ) (d : WriteId) → Each P ids → k < length ids → P (get_or ids k d)
 each_at P [] k d each lt = absurd (omega arith)
 each_at P (i ∷ is) zero d each lt = each.0
 each_at P (i ∷ is) (suc k) d each lt = each_at P is k d each.1 (omega arith)

@@ -1,5 +1,5 @@
 -- Ids of writes in their order, and lineages: sets of ids, each written as its ascending list.
-use Rattle.std.specs.Prelude.{◌≡◌, ℕ, ◌+◌, ◌<◌, ◌≤◌, List, [], ◌∷◌, ◌++◌, ◌==◌, Bool, true, false, not, length, take, drop, filter, Result, Ok, Err}
+use Rattle.std.specs.Prelude.{◌≡◌, ℕ, ◌≤◌, List, [], ◌∷◌, ◌==◌, Bool, not, length, filter}
 use Rattle.std.specs.declared.cmp.Ordering.{Ordering}
 use Rattle.std.specs.declared.cmp.Ordering.TheVariants.{Less, Equal, Greater}
 use Rattle.std.specs.Cmp.Lexicographic.{slice_cmp}
@@ -7,7 +7,7 @@ use Rattle.std.specs.Ordering.{nat_cmp, on, then_cmp, is_eq}
 use Rattle.std.specs.List.{list_any}
 use Rattle.anti_ids.specs.Each.{Each}
 use Rattle.anti_ids.specs.declared.id.WriteId.{WriteId}
-use Rattle.anti_ids.specs.declared.lineage.TheConstants.{MOST_IDS}
+use Rattle.anti_ids.specs.declared.limits.TheConstants.{MOST_IDS}
 
 -- by store, then version, then the bytes of the key
 abbrev pub id_cmp : WriteId → WriteId → Ordering
@@ -55,8 +55,3 @@ pub record IsLineage (ids : List WriteId) : Type 0 where
   pub ascending : IsAscending ids
   pub written : Each (λ i. 1 ≤ i.version) ids
   pub short : length ids ≤ MOST_IDS
-
--- where an id stands among ascending ids, or where it goes as it is not there
-abbrev pub IsPlace : WriteId → List WriteId → Result ℕ ℕ → Type 0
-IsPlace i ids (Ok at) = (at < length ids) × (has_id i ids ≡ true) × (with_id i ids ≡ ids) × (without_id i ids ≡ take at ids ++ drop (at + 1) ids)
-IsPlace i ids (Err at) = (at ≤ length ids) × (has_id i ids ≡ false) × (with_id i ids ≡ take at ids ++ i ∷ drop at ids) × (without_id i ids ≡ ids)

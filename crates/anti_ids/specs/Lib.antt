@@ -1,8 +1,13 @@
 pub mod List
+pub mod Answers
+pub mod Ascii
+pub mod Decimals
 pub mod Names
 pub mod NameBytes
 pub mod Values
+pub mod Counts
 pub mod Each
 pub mod Ids
 pub mod Roomy
 pub mod formers
+pub mod inner

@@ -1,21 +1,15 @@
 -- Values: 0 to 256 bytes of UTF-8.
 use Rattle.std.specs.Prelude.{◌≡◌, ℕ, ◌≤◌, List, true, nat_le, length, Result, Ok, Err, if◌then◌else◌}
 use Rattle.std.specs.Str.{is_utf8}
+use Rattle.anti_ids.specs.declared.limits.TheConstants.{LONGEST_VALUE}
 use Rattle.anti_ids.specs.declared.value.ValueFault.{ValueFault}
-use Rattle.anti_ids.specs.declared.value.ValueFault.TheVariants.{TooLong, BadUtf8, NoMemory}
+use Rattle.anti_ids.specs.declared.value.ValueFault.TheVariants.{TooLong, BadUtf8}
 
 pub record IsValue (bytes : List ℕ) : Type 0 where
-  pub short : length bytes ≤ 256
+  pub short : length bytes ≤ LONGEST_VALUE
   pub text : is_utf8 bytes ≡ true
 
 -- The value that bytes state, or the first of these faults: more than 256 bytes, no UTF-8.
 abbrev pub value_of : List ℕ → Result (List ℕ) ValueFault
 value_of bytes =
-    if nat_le (length bytes) 256 then (if is_utf8 bytes then Ok bytes else Err BadUtf8) else Err TooLong
-
--- what a call answers, seen against what is stated; want of memory is free
-abbrev pub Gives : Result (List ℕ) ValueFault → Result (List ℕ) ValueFault → Type 0
-Gives (Ok value) stated = stated ≡ Ok value
-Gives (Err NoMemory) stated = Unit {0}
-Gives (Err TooLong) stated = stated ≡ Err TooLong
-Gives (Err BadUtf8) stated = stated ≡ Err BadUtf8
+    if nat_le (length bytes) LONGEST_VALUE then (if is_utf8 bytes then Ok bytes else Err BadUtf8) else Err TooLong

@@ -1,15 +1,18 @@
-ghost use Rattle.std.specs.Prelude.{OnOk, ◌≡◌};
+ghost use Rattle.std.specs.Prelude.{OnErr, OnOk, ◌≡◌};
 ghost use Rattle.anti_ids.specs.List.{pushed};
 
 use crate::list::List;
 use crate::memory::NoMemory;
 
-/// Adds an item at the end of a list. Where there is no memory the item is given up.
-pub fn add<T: Drop>(list: &mut List<T>, item: T) -> Result<(), NoMemory>
-    ensures { OnOk result (list.new ≡ pushed list.old item) }
-{
-    match list.push(item) {
-        Ok(()) => Ok(()),
-        Err((_, fault)) => Err(fault),
+impl<T: Drop> List<T> {
+    /// Adds an item at the end. Where there is no memory the item is given up; `push` gives it back.
+    pub fn add(&mut self, item: T) -> Result<(), NoMemory>
+        ensures ok { OnOk result (self.new ≡ pushed self.old item) }
+        ensures err { OnErr result (self.new ≡ self.old) }
+    {
+        match self.push(item) {
+            Ok(()) => Ok(()),
+            Err((_, fault)) => Err(fault),
+        }
     }
 }

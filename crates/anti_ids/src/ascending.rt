@@ -2,9 +2,11 @@
 ghost use Rattle.std.specs.Prelude.{◌≡◌, ◌↔◌, ◌+◌, ◌<◌, ◌≤◌, ◌∷◌, ◌++◌, true, not, length, take, drop, vec_len, vec_capacity, IsTrue, IfOk};
 ghost use Rattle.std.specs.declared.cmp.Ordering.TheVariants.{Less};
 ghost use Rattle.anti_ids.specs.Each.{Each};
-ghost use Rattle.anti_ids.specs.Ids.{IsAscending, IsPlace, has_id, id_cmp, ids_of, with_id, with_ids};
+ghost use Rattle.anti_ids.specs.Ids.{IsAscending, IsLineage, has_id, id_cmp, ids_of, with_ids};
+ghost use Rattle.anti_ids.specs.inner.Places.{IsPlace};
 
 use crate::id::WriteId;
+use crate::ids::Ids;
 use std::alloc::{AllocError, Global};
 
 // Whether an id goes behind all others.
@@ -38,12 +40,18 @@ pub(crate) fn is_among(ids: &[WriteId], id: &WriteId) -> bool
 }
 
 // How many of the further ids are not among the ids.
-pub(crate) fn count_new(ids: &[WriteId], further: &[WriteId]) -> usize
+pub(crate) fn count_new(ids: &[WriteId], further: Ids) -> usize
     requires ids { IsAscending ids.now }
-    requires further { IsAscending further.now }
-    ensures { length ids.now + result ≡ length (with_ids further.now ids.now) }
+    requires further { IsLineage further }
+    ensures { length ids.now + result ≡ length (with_ids further.entry ids.now) }
 {
-    further.iter().filter(|id| !is_among(ids, id)).count()
+    let mut count = 0;
+    for id in further {
+        if !is_among(ids, &id) {
+            count += 1;
+        }
+    }
+    count
 }
 
 // Puts an id at an index of ids that have room for it.
@@ -60,29 +68,34 @@ pub(crate) fn put_at(ids: &mut Vec<WriteId>, at: usize, id: WriteId)
 }
 
 // Adds the further ids to ids that have room for those that are new.
-pub(crate) fn add_all(ids: &mut Vec<WriteId>, further: &[WriteId])
+pub(crate) fn add_all(ids: &mut Vec<WriteId>, further: Ids)
     requires ascending { IsAscending ids.old.items }
-    requires room { length (with_ids further.now ids.old.items) ≤ vec_capacity ids.old }
-    ensures ids { ids.new.items ≡ with_ids further.now ids.old.items }
+    requires room { length (with_ids further ids.old.items) ≤ vec_capacity ids.old }
+    ensures ids { ids.new.items ≡ with_ids further.entry ids.old.items }
     ensures capacity { vec_capacity ids.old ≤ vec_capacity ids.new }
 {
     for id in further {
-        if let Err(at) = place_of(ids.as_slice(), id) {
-            put_at(ids, at, *id);
+        if let Err(at) = place_of(ids.as_slice(), &id) {
+            put_at(ids, at, id);
         }
     }
 }
 
-// The ids of one store, of ids.
-pub(crate) fn of_store(
-    alloc: Global,
-    ids: &[WriteId],
-    store: u32,
-) -> Result<Vec<WriteId>, AllocError>
-    ensures { IfOk result (λ v. v.items ≡ ids_of store ids.now) }
+// Whether all ids are of one store.
+pub(crate) fn are_of(ids: Ids, store: u32) -> bool
+    ensures { IsTrue result → ids_of store ids.entry ≡ ids.entry }
 {
-    ids.iter()
-        .filter(|id| id.store == store)
-        .copied()
-        .collect(alloc)
+    for id in ids {
+        if id.store != store {
+            return false;
+        }
+    }
+    true
+}
+
+// The ids of one store, of ids.
+pub(crate) fn of_store(alloc: Global, ids: Ids, store: u32) -> Result<Vec<WriteId>, AllocError>
+    ensures { IfOk result (λ v. v.items ≡ ids_of store ids.entry) }
+{
+    ids.filter(|id| id.store == store).collect(alloc)
 }

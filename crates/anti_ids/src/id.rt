@@ -38,8 +38,8 @@ impl Ord for WriteId {
     fn cmp(&self, other: &WriteId) -> Ordering {
         self.store
             .cmp(&other.store)
-            .then(self.version.cmp(&other.version))
-            .then(self.key.cmp(&other.key))
+            .then_with(|| self.version.cmp(&other.version))
+            .then_with(|| self.key.cmp(&other.key))
     }
 }
 

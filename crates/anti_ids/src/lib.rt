@@ -3,24 +3,43 @@
 
 mod adding;
 mod ascending;
+mod block;
+mod bytes;
 mod copies;
+mod decimal;
+mod gone;
+mod growing;
+mod held;
 mod id;
+mod ids;
+mod limits;
 mod lineage;
 mod list;
 mod memory;
 mod name;
+mod part;
+mod parts;
 mod roomy;
+mod sending;
+mod text;
 mod value;
+mod walk;
 
-pub use adding::add;
+pub use bytes::Bytes;
 pub use copies::Copies;
+pub use decimal::read_decimal;
 pub use id::WriteId;
-pub use lineage::{Lineage, LineageRefused, MOST_IDS};
-pub use list::{Bytes, List};
+pub use ids::Ids;
+pub use limits::{
+    GREATEST_SEED, GREATEST_VERSION, LONGEST_DOCUMENT, LONGEST_LINE, LONGEST_NAME,
+    LONGEST_PLAIN_NAME, LONGEST_VALUE, MOST_CHOICES, MOST_COUNTED, MOST_DEPTH, MOST_HANDLERS,
+    MOST_IDS, MOST_LINES, MOST_NESTED, MOST_REGIONS, MOST_REPLICAS, MOST_REQUESTS, MOST_RUNS,
+    MOST_SERVICES, MOST_STORES, MOST_SUBS, MOST_TRIES, MOST_TURNS, MOST_UNITS, MOST_WORKERS,
+    PART_BYTES,
+};
+pub use lineage::{Lineage, LineageRefused};
+pub use list::List;
 pub use memory::NoMemory;
-pub use name::{LONGEST_NAME, LONGEST_PLAIN_NAME, Name, NameFault};
+pub use name::{Name, NameFault};
 pub use roomy::{Roomy, RoomyFull};
-pub use value::{LONGEST_VALUE, Value, ValueFault};
-
-#[cfg(test)]
-mod tests;
+pub use value::{Value, ValueFault};

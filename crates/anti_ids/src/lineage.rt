@@ -1,16 +1,15 @@
-ghost use Rattle.std.specs.Prelude.{◌≡◌, ◌<◌, ◌≤◌, [], true, false, not, ◌&&◌, ◌||◌, length, slice_get, ◌==◌, OnOk, OnErr, IfOk, IfErr, IsErrOf};
+ghost use Rattle.std.specs.Prelude.{◌≡◌, ◌-◌, ◌<◌, ◌≤◌, [], true, false, not, ◌&&◌, ◌||◌, length, slice_get, ◌==◌, OnOk, OnErr, IfOk, IfErr, IsErrOf};
 ghost use Rattle.anti_ids.specs.Ids.{IsLineage, has_id, is_id, ids_of, with_id, with_ids, without_id};
 
-use crate::ascending::{add_all, count_new, is_among, of_store, place_of};
 use crate::copies::Copies;
+use crate::held::Held;
 use crate::id::WriteId;
+use crate::ids::Ids;
+use crate::limits::MOST_IDS;
 use crate::memory::NoMemory;
 use crate::roomy::Roomy;
 use std::alloc::Global;
 use std::marker::Model;
-
-/// The most ids of a lineage.
-pub const MOST_IDS: usize = 256;
 
 /// Why a lineage was not changed. It is as it was.
 #[derive(Clone, Copy, Debug, PartialEq, Eq)]
@@ -22,22 +21,30 @@ pub enum LineageRefused {
 }
 
 /// The set of the writes that a request depends on: at most `MOST_IDS` ids, each of version 1 or
-/// later, kept in ascending order.
-#[derive(Drop)]
+/// later, kept in ascending order. Its copies share its memory.
 pub struct Lineage {
-    pub(crate) ids: Vec<WriteId>,
+    pub(crate) held: Held,
 }
 
 impl Model for Lineage {
     ghost use Rattle.std.specs.Prelude.{List};
     ghost use Rattle.anti_ids.specs.declared.id.WriteId.{WriteId};
     ghost use Rattle.anti_ids.specs.Ids.{IsLineage};
+    ghost use Rattle.anti_ids.specs.inner.Held.{base_ids, held_ids};
 
     ghost Value = { List WriteId };
 
-    ghost view = { λ l. l.ids.items };
+    ghost view = { λ l. held_ids l.held };
 
-    ghost invariant = { λ l. IsLineage l.ids.items };
+    ghost invariant = { λ l. IsLineage (base_ids l.held) };
+}
+
+// By hand, so that no caller sees the fields.
+impl Drop for Lineage {
+    fn drop(self) {
+        let Lineage { held } = self;
+        drop(held);
+    }
 }
 
 impl Lineage {
@@ -46,7 +53,7 @@ impl Lineage {
         ensures { result ≡ [] }
     {
         Lineage {
-            ids: Vec::new(alloc),
+            held: Held::Own(Vec::new(alloc)),
         }
     }
 
@@ -61,16 +68,8 @@ impl Lineage {
         ensures too_many { IsErrOf result LineageRefused.Full → MOST_IDS < length (with_id id self.old) }
         ensures err { OnErr result (self.new ≡ self.old) }
     {
-        let Err(at) = place_of(self.ids.as_slice(), &id) else {
-            return Ok(false);
-        };
-        if self.ids.len() == MOST_IDS {
-            return Err(LineageRefused::Full);
-        }
-        if self.ids.insert(at, id).is_err() {
-            return Err(LineageRefused::NoMemory);
-        }
-        Ok(true)
+        let is_new = self.held.add(id)?;
+        Ok(is_new)
     }
 
     /// Takes an id out, and tells whether it was there. It takes no memory.
@@ -79,13 +78,7 @@ impl Lineage {
         ensures ids { self.new ≡ without_id id.now self.old }
         ensures members { (i : WriteId) → has_id i self.new ≡ (has_id i self.old && not (is_id i id.now)) }
     {
-        match place_of(self.ids.as_slice(), id) {
-            Ok(at) => {
-                self.ids.remove(at);
-                true
-            }
-            Err(_) => false,
-        }
+        self.held.take_out(id)
     }
 
     /// Adds the ids of another lineage: the union of the two.
@@ -96,14 +89,7 @@ impl Lineage {
         ensures full { IsErrOf result LineageRefused.Full → MOST_IDS < length (with_ids other.now self.old) }
         ensures err { OnErr result (self.new ≡ self.old) }
     {
-        let more = count_new(self.ids.as_slice(), other.as_slice());
-        if more > MOST_IDS - self.ids.len() {
-            return Err(LineageRefused::Full);
-        }
-        if self.ids.reserve(more).is_err() {
-            return Err(LineageRefused::NoMemory);
-        }
-        add_all(&mut self.ids, other.as_slice());
+        self.held.transfer(&other.held)?;
         Ok(())
     }
 
@@ -113,11 +99,11 @@ impl Lineage {
         ensures spare { IfOk result (λ roomy. roomy.spare ≡ more) }
         ensures err { IfErr result (λ refused. refused.0 ≡ self) }
     {
-        let mut ids = self.ids;
         let spare = more as usize;
-        match ids.reserve(spare) {
-            Ok(()) => Ok(Roomy { ids, spare }),
-            Err(_) => Err((Lineage { ids }, NoMemory)),
+        let Lineage { held } = self;
+        match held.into_list(spare) {
+            Ok(ids) => Ok(Roomy { ids, spare }),
+            Err(held) => Err((Lineage { held }, NoMemory)),
         }
     }
 
@@ -126,10 +112,8 @@ impl Lineage {
         ensures ok { IfOk result (λ l. l ≡ ids_of store self.now) }
         ensures members { (i : WriteId) → IfOk result (λ l. has_id i l ≡ (has_id i self.now && i.store == store)) }
     {
-        match of_store(alloc, self.ids.as_slice(), store) {
-            Ok(ids) => Ok(Lineage { ids }),
-            Err(_) => Err(NoMemory),
-        }
+        let held = self.held.of_store(alloc, store)?;
+        Ok(Lineage { held })
     }
 
     /// Gives the lineage up.
@@ -139,7 +123,7 @@ impl Lineage {
     pub fn contains(&self, id: &WriteId) -> bool
         ensures { result ≡ has_id id.now self.now }
     {
-        is_among(self.ids.as_slice(), id)
+        self.held.has(id)
     }
 
     /// The number of ids, at most `MOST_IDS`.
@@ -147,14 +131,14 @@ impl Lineage {
         ensures len { result ≡ length self.now }
         ensures short { length self.now ≤ MOST_IDS }
     {
-        self.ids.len() as u32
+        self.held.len() as u32
     }
 
     /// Whether there is no id.
     pub fn is_empty(&self) -> bool
         ensures { result ≡ (length self.now == 0) }
     {
-        self.ids.is_empty()
+        self.held.len() == 0
     }
 
     /// The id at an index, counted from 0 in ascending order.
@@ -162,23 +146,30 @@ impl Lineage {
         requires { index < length self.now }
         ensures { slice_get self.now index ≡ Some result }
     {
-        self.ids[index as usize]
+        self.held.at(index as usize)
+    }
+
+    /// The last id in ascending order; `None` where there is none.
+    pub fn last(&self) -> Option<WriteId>
+        ensures last { result ≡ slice_get self.now (length self.now - 1) }
+        ensures lineage { IsLineage self.now }
+    {
+        let index = self.held.len().checked_sub(1)?;
+        Some(self.held.at(index))
     }
 
     /// The ids in ascending order.
-    pub fn as_slice(&self) -> &[WriteId]
-        ensures ids { result.now ≡ self.now }
+    pub fn iter(&self) -> Ids
+        ensures ids { result ≡ self.now }
         ensures lineage { IsLineage self.now }
     {
-        self.ids.as_slice()
+        self.held.ids()
     }
 }
 
 impl Copies for Lineage {
     fn copy(&self, alloc: Global) -> Result<Lineage, NoMemory> {
-        match Vec::from_slice(alloc, self.ids.as_slice()) {
-            Ok(ids) => Ok(Lineage { ids }),
-            Err(_) => Err(NoMemory),
-        }
+        let held = self.held.copy(alloc)?;
+        Ok(Lineage { held })
     }
 }

@@ -14,9 +14,6 @@ pub struct List<T> {
     spare: usize,
 }
 
-/// A list of bytes.
-pub type Bytes = List<u8>;
-
 impl<T> Model for List<T> {
     ghost use Rattle.std.specs.Prelude.{◌+◌, ◌≤◌, vec_len, vec_capacity};
     ghost use Rattle.anti_ids.specs.List.{Listed, list_code};
@@ -108,6 +105,13 @@ impl<T> List<T> {
         self.items.as_slice()
     }
 
+    // How many items can be put into the list without memory.
+    pub(crate) fn spare(&self) -> usize
+        ensures { result ≡ self.now.spare }
+    {
+        self.spare
+    }
+
     /// Makes room for at least `more` items. The items stay. Where the room is there it is not refused.
     pub fn reserve(&mut self, more: u32) -> Result<(), NoMemory>
         ensures ok { OnOk result (self.new ≡ reserved self.old more) }
@@ -152,12 +156,11 @@ impl<T: Copies> List<T> {
     fn copied(list: &List<T>, alloc: Global) -> Result<List<T>, NoMemory>
         ensures { IfOk result (λ l. l ≡ list.now) }
     {
-        let mut again = List::with_room_of(alloc, list)?;
-        let items = list.as_slice();
-        for item in items {
-            again.put(item.copy(alloc)?);
-        }
-        Ok(again)
+        let items = T::copy_all(list.as_slice(), list.spare, alloc)?;
+        Ok(List {
+            items,
+            spare: list.spare,
+        })
     }
 }
 

@@ -11,29 +11,24 @@ ghost use Rattle.anti_ids.specs.Names.{name_of, is_name, is_name_byte, is_plain,
 ghost use Rattle.anti_ids.specs.NameBytes.{padded};
 
 use crate::copies::Copies;
+use crate::limits::{LONGEST_NAME, LONGEST_PLAIN_NAME};
 use crate::memory::NoMemory;
 use std::alloc::Global;
 use std::cmp::Ordering;
 use std::marker::Model;
-
-/// The most bytes of a name.
-pub const LONGEST_NAME: usize = 32;
-
-/// The most bytes of a plain name.
-pub const LONGEST_PLAIN_NAME: usize = 24;
 
 /// Why bytes are no name. The faults are tried in this order.
 #[derive(Clone, Copy, Debug, PartialEq, Eq)]
 pub enum NameFault {
     /// There is no byte.
     Empty,
-    /// There are more than 32 bytes.
+    /// There are more than `LONGEST_NAME` bytes.
     TooLong,
     /// The byte at this position, counted from 0, is the first that no name has.
     BadByte(u32),
 }
 
-/// A name: 1 to 32 bytes, each an ASCII letter, a digit, `_`, `-` or `#`. It takes no memory.
+/// A name: 1 to `LONGEST_NAME` bytes, each an ASCII letter, a digit, `_`, `-` or `#`. It takes no memory.
 #[derive(Clone, Copy, Debug)]
 pub struct Name {
     text: [u8; LONGEST_NAME],
@@ -85,7 +80,7 @@ fn all_plain(bytes: &[u8]) -> bool
 
 // The bytes, and zeros behind them.
 fn padded(bytes: &[u8]) -> [u8; LONGEST_NAME]
-    requires { length bytes.now ≤ 32 }
+    requires { length bytes.now ≤ LONGEST_NAME }
     ensures { result ≡ padded bytes.now }
 {
     let mut text = [0; LONGEST_NAME];
@@ -121,7 +116,7 @@ impl Name {
         &self.text[..self.len as usize]
     }
 
-    /// Whether the name has no `#` and at most 24 bytes.
+    /// Whether the name has no `#` and at most `LONGEST_PLAIN_NAME` bytes.
     pub fn plain(&self) -> bool
         ensures { result ≡ is_plain self.now }
     {

@@ -2,8 +2,10 @@ ghost use Rattle.std.specs.Prelude.{◌≡◌, ◌+◌, ◌<◌, ◌≤◌, ◌|
 ghost use Rattle.anti_ids.specs.Ids.{has_id, is_id, with_id, with_ids};
 
 use crate::ascending::{add_all, count_new, place_of, put_at};
+use crate::held::Held;
 use crate::id::WriteId;
-use crate::lineage::{Lineage, MOST_IDS};
+use crate::limits::MOST_IDS;
+use crate::lineage::Lineage;
 use std::marker::Model;
 
 /// A lineage with room for further ids, which takes no memory. How many can be added to it is part of its value.
@@ -63,11 +65,11 @@ impl Roomy {
         ensures full { OnErr result (MOST_IDS < length (with_ids other.now self.old.ids)) }
         ensures err { OnErr result (self.new ≡ self.old) }
     {
-        let more = count_new(self.ids.as_slice(), other.as_slice());
+        let more = count_new(self.ids.as_slice(), other.iter());
         if more > MOST_IDS - self.ids.len() {
             return Err(RoomyFull);
         }
-        add_all(&mut self.ids, other.as_slice());
+        add_all(&mut self.ids, other.iter());
         self.spare -= more;
         Ok(())
     }
@@ -76,6 +78,8 @@ impl Roomy {
     pub fn into_lineage(self) -> Lineage
         ensures { result ≡ self.ids }
     {
-        Lineage { ids: self.ids }
+        Lineage {
+            held: Held::Own(self.ids),
+        }
     }
 }

@@ -1,19 +1,20 @@
 ghost use Rattle.std.specs.Prelude.{◌≡◌, ◌<◌, ◌≤◌, [], false, length, IfOk, IsErrOf};
 ghost use Rattle.std.specs.Str.{is_utf8};
-ghost use Rattle.anti_ids.specs.Values.{IsValue, value_of, Gives};
+ghost use Rattle.anti_ids.specs.Answers.{AnswersBut};
+ghost use Rattle.anti_ids.specs.Values.{IsValue, value_of};
+ghost use Rattle.anti_ids.specs.declared.value.ValueFault.TheVariants as faults;
 
 use crate::copies::Copies;
+use crate::limits::LONGEST_VALUE;
 use crate::memory::NoMemory;
+use crate::text::Text;
 use std::alloc::Global;
 use std::marker::Model;
-
-/// The most bytes of a value.
-pub const LONGEST_VALUE: usize = 256;
 
 /// Why bytes are no value. The faults of the bytes are tried in this order.
 #[derive(Clone, Copy, Debug, PartialEq, Eq)]
 pub enum ValueFault {
-    /// There are more than 256 bytes.
+    /// There are more than `LONGEST_VALUE` bytes.
     TooLong,
     /// The bytes are no UTF-8.
     BadUtf8,
@@ -21,21 +22,38 @@ pub enum ValueFault {
     NoMemory,
 }
 
-/// A value: 0 to 256 bytes of UTF-8.
-#[derive(Drop)]
+/// A value: 0 to 256 bytes of UTF-8. A copy and its further copies share their memory.
 pub struct Value {
-    text: Vec<u8>,
+    memory: ValueMemory,
+}
+
+// Where the bytes of a value are held.
+#[derive(Drop)]
+pub(crate) enum ValueMemory {
+    // Nobody else holds them.
+    Own(Vec<u8>),
+    // Others may hold the text too.
+    Shared(Text),
 }
 
 impl Model for Value {
     ghost use Rattle.std.specs.Prelude.{List, ℕ};
     ghost use Rattle.anti_ids.specs.Values.{IsValue};
+    ghost use Rattle.anti_ids.specs.inner.Texts.{bytes_of};
 
     ghost Value = { List ℕ };
 
-    ghost view = { λ v. v.text.items };
+    ghost view = { λ v. bytes_of v.memory };
 
-    ghost invariant = { λ v. IsValue v.text.items };
+    ghost invariant = { λ v. IsValue (bytes_of v.memory) };
+}
+
+// By hand, so that no caller sees the fields.
+impl Drop for Value {
+    fn drop(self) {
+        let Value { memory } = self;
+        drop(memory);
+    }
 }
 
 // Whether bytes are UTF-8.
@@ -51,7 +69,7 @@ fn is_text(bytes: &[u8]) -> bool
 impl Value {
     /// The value with these bytes.
     pub fn new(alloc: Global, text: &[u8]) -> Result<Value, ValueFault>
-        ensures { Gives result (value_of text.now) }
+        ensures { AnswersBut faults.NoMemory result (value_of text.now) }
     {
         if text.len() > LONGEST_VALUE {
             return Err(ValueFault::TooLong);
@@ -60,7 +78,9 @@ impl Value {
             return Err(ValueFault::BadUtf8);
         }
         match Vec::from_slice(alloc, text) {
-            Ok(text) => Ok(Value { text }),
+            Ok(bytes) => Ok(Value {
+                memory: ValueMemory::Own(bytes),
+            }),
             Err(_) => Err(ValueFault::NoMemory),
         }
     }
@@ -70,7 +90,7 @@ impl Value {
         ensures { result ≡ [] }
     {
         Value {
-            text: Vec::new(alloc),
+            memory: ValueMemory::Own(Vec::new(alloc)),
         }
     }
 
@@ -79,15 +99,20 @@ impl Value {
         ensures bytes { result.now ≡ self.now }
         ensures value { IsValue self.now }
     {
-        self.text.as_slice()
+        match &self.memory {
+            ValueMemory::Own(bytes) => bytes.as_slice(),
+            ValueMemory::Shared(text) => text.bytes(),
+        }
     }
 }
 
 impl Copies for Value {
     fn copy(&self, alloc: Global) -> Result<Value, NoMemory> {
-        match Vec::from_slice(alloc, self.text.as_slice()) {
-            Ok(text) => Ok(Value { text }),
-            Err(_) => Err(NoMemory),
-        }
+        let memory = match &self.memory {
+            ValueMemory::Own(bytes) if bytes.is_empty() => ValueMemory::Own(Vec::new(alloc)),
+            ValueMemory::Own(bytes) => ValueMemory::Shared(Text::copied(alloc, bytes.as_slice())?),
+            ValueMemory::Shared(text) => ValueMemory::Shared(text.share()?),
+        };
+        Ok(Value { memory })
     }
 }

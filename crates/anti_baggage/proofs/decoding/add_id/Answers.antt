@@ -10,4 +10,4 @@ returns-in-Ok c =
     let ids = c.args.lineage.now in
     let id = c.in_ok-id.id in
     let named : id_named stores (last_of ids) (length ids + 1) (named_in c.args.text.now) ≡ Ok id = search rules in
-    (id, named, c.in-Ok.ensures.ok ∙ goes_last ids id c.as_slice.ensures.lineage.ascending (id_found stores (last_of ids) (length ids + 1) (named_in c.args.text.now) id named).above)
+    (id, named, c.in-Ok.ensures.ok ∙ goes_last ids id c.last-before.ensures.lineage.ascending (id_found stores (last_of ids) (length ids + 1) (named_in c.args.text.now) id named).above)

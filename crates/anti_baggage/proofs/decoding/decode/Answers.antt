@@ -4,11 +4,13 @@ use Rattle.std.specs.Prelude.{Result}
 use Rattle.std.proofs.lemmas.Iterator.Splits.{YieldsList-from_slice_split}
 use Rattle.std.proofs.lemmas.Result.{err_from_is_err_and}
 use borrow.Author.Tests.{tests}
+use Rattle.anti_ids.specs.Answers.{AnswersBut}
 use Rattle.anti_ids.specs.declared.id.WriteId.{WriteId}
 use Rattle.anti_baggage.specs.declared.fault.BaggageFault.{BaggageFault}
-use Rattle.anti_baggage.specs.Reading.{ids_in, Reads}
-use Rattle.anti_baggage.specs.Steps.{last_of, Fails}
-use Rattle.anti_baggage.proofs.Behind.{with_front, no_front, one_read, none_left, one_refused, read_pieces, fails_reads}
+use Rattle.anti_baggage.specs.declared.fault.BaggageFault.TheVariants.{NoMemory}
+use Rattle.anti_baggage.specs.Reading.{ids_in, read_lineage}
+use Rattle.anti_baggage.specs.Steps.{last_of}
+use Rattle.anti_baggage.proofs.Behind.{IsFault, with_front, no_front, one_read, none_left, one_refused, read_pieces}
 use Rattle.anti_baggage.proofs.decoding.decode.Given.{iterator-loop-piece}
 use Rattle.anti_baggage.proofs.decoding.decode.Goals as goal
 
@@ -34,13 +36,13 @@ returns-in_err-add_id c =
     let whole = read_pieces stores bytes (drop 2 bytes) c.in-Some.ensures.cases.0 (search rules) (search rules) in
     let fails = one_refused iterator-loop-piece.next_gives (λ x. x.now) stores c.loop-piece.piece-iterator c.next.new.self c.in-Some-piece.piece c.loop-piece.lineage c.in_err-add_id.field-0.0 _ c.loop-piece.invariant c.in-Some-piece.ensures.steps c.in_err-add_id.ensures in
     let fault = err_from_is_err_and c.from_residual.result c.from_residual.ensures.1 in
-    let said = subst (λ (r : Result (List WriteId) BaggageFault). Fails r c.in_err-add_id.field-0.0) whole fails in
     let is : c.from_residual.result ≡ Err c.in_err-add_id.field-0.0 = fault.1 ∙ ap Err fault.2 in
-    subst (λ (r : Result (List WriteId) BaggageFault). Reads stores bytes r) (sym is) (fails_reads stores bytes c.in_err-add_id.field-0.0 said)
+    let said = subst (λ (r : Result (List WriteId) BaggageFault). IsFault c.in_err-add_id.field-0.0 r) whole fails in
+    subst (λ (r : Result (List WriteId) BaggageFault). AnswersBut NoMemory r (read_lineage stores bytes)) (sym is) said
 
 pub returns : goal.returns
 returns c =
     let stores = c.args.stores.now in
     let bytes = c.args.bytes.now in
-    none_left iterator-loop-piece.next_gives (λ x. x.now) stores c.loop-piece.piece-iterator c.next.new.self c.loop-piece.lineage _ c.loop-piece.invariant c.in-None.ensures.steps
-    ∙ read_pieces stores bytes (drop 2 bytes) c.in-Some.ensures.cases.0 (search rules) (search rules)
+    sym (read_pieces stores bytes (drop 2 bytes) c.in-Some.ensures.cases.0 (search rules) (search rules))
+    ∙ none_left iterator-loop-piece.next_gives (λ x. x.now) stores c.loop-piece.piece-iterator c.next.new.self c.loop-piece.lineage _ c.loop-piece.invariant c.in-None.ensures.steps

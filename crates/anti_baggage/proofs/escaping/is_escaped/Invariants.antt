@@ -5,4 +5,4 @@ use Rattle.anti_baggage.proofs.escaping.is_escaped.Given as goal
 
 -- the whole text is as it should be where the rest of it is
 abbrev pub invariant-loop-byte : goal.invariant-loop-byte
-invariant-loop-byte l = bytes_eq (escaped (drop l.byte-index l.bytes)) l.rest ≡ bytes_eq (escaped l.bytes) l.text
+invariant-loop-byte l = bytes_eq (escaped (drop l.byte-index l.bytes)) l.rest ≡ bytes_eq (escaped l.bytes) l.fn.text

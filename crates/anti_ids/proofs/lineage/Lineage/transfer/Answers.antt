@@ -1,19 +1,11 @@
-use Rattle.std.proofs.Common.{◌≡◌, ◌≤◌, List, length, ap, ◌∙◌, rules}
+use Rattle.std.proofs.Common.{◌≡◌, List, ap, ◌∙◌, rules}
 use Rattle.anti_ids.specs.declared.id.WriteId.{WriteId}
-use Rattle.anti_ids.specs.declared.lineage.TheConstants.{MOST_IDS}
 use Rattle.anti_ids.specs.Ids.{has_id, with_ids}
-use Rattle.anti_ids.proofs.IdLemmas.{has_id-with_ids, lineage_with_ids}
+use Rattle.anti_ids.specs.inner.Held.{held_ids}
+use Rattle.anti_ids.proofs.IdLemmas.{has_id-with_ids}
 use Rattle.anti_ids.proofs.lineage.Lineage.transfer.Goals as goal
-
-pub invariant_of-self-2 : goal.invariant_of-self-2
-invariant_of-self-2 c =
-    let old = c.self.inside.ids.items in
-    let new = c.add_all.new.ids.items in
-    let is : new ≡ with_ids c.args.other.now old = search rules in
-    let short : length new ≤ MOST_IDS = search rules in
-    lineage_with_ids c.args.other.now old new c.as_slice-2.ensures.lineage.written c.self.invariant is short
 
 pub returns-clause-members : goal.returns-clause-members
 returns-clause-members c = λ i.
-    let is : c.add_all.new.ids.items ≡ with_ids c.args.other.now c.args.self.now = search rules in
+    let is : held_ids c.transfer.new.self ≡ with_ids c.args.other.now c.args.self.now = search rules in
     ap (λ (x : List WriteId). has_id i x) is ∙ has_id-with_ids i c.args.other.now c.args.self.now

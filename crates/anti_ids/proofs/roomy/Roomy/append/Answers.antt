@@ -1,6 +1,6 @@
 use Rattle.std.proofs.Common.{◌≡◌, ◌+◌, ◌-◌, ◌≤◌, false, List, length, ap, ◌∙◌, rules, vec_len, vec_capacity}
 use Rattle.anti_ids.specs.declared.id.WriteId.{WriteId}
-use Rattle.anti_ids.specs.declared.lineage.TheConstants.{MOST_IDS}
+use Rattle.anti_ids.specs.declared.limits.TheConstants.{MOST_IDS}
 use Rattle.anti_ids.specs.Ids.{has_id, with_id}
 use Rattle.anti_ids.proofs.IdLemmas.{has_id-with_id, length-with_id, lineage_with}
 use Rattle.anti_ids.proofs.roomy.Roomy.append.Goals as goal

@@ -1,0 +1,13 @@
+-- Which ids of a block are left for one of its owners.
+use Rattle.std.specs.Prelude.{ℕ, ◌+◌, ◌/◌, ◌%◌, List, [], ◌∷◌, ◌==◌, Bool, get_or, if◌then◌else◌}
+use Rattle.std.specs.Int.{bit_at}
+use Rattle.anti_ids.specs.declared.id.WriteId.{WriteId}
+
+-- whether the id at an index is gone, by a bit of four words of 64
+abbrev pub is_gone : List ℕ → ℕ → Bool
+is_gone words at = bit_at (get_or words (at / 64) 0) (at % 64) == 1
+
+-- the ids that are left, of those that stand from an index on
+abbrev pub left_of : List ℕ → ℕ → List WriteId → List WriteId
+left_of words at [] = []
+left_of words at (i ∷ is) = if is_gone words at then left_of words (at + 1) is else (i ∷ left_of words (at + 1) is)
