@@ -1,7 +1,9 @@
 pub mod Lists
 pub mod Fates
+pub mod Delivered
 pub mod Reading
 pub mod Outcomes
 pub mod Noting
 pub mod Standing
 pub mod Once
+pub mod Came

@@ -1,26 +1,26 @@
 -- What each call makes of what an inbox knows.
-use Rattle.std.proofs.Common.{◌≡◌, ℕ, ◌+◌, ◌-◌, ◌≤◌, Bool, true, false, not, cond, ◌&&◌, ◌||◌, List, [], ◌∷◌, ◌++◌, length, get_or, set, map, take, refl, sym, ap, ap₂, subst, ◌∙◌, inl, inr, ◌==◌, eq-eqb, ne_eqb, append-nil, length-append, arith}
+use Rattle.std.proofs.Common.{◌≡◌, ℕ, ◌+◌, ◌-◌, ◌≤◌, Bool, true, false, not, cond, ◌&&◌, ◌||◌, List, [], ◌∷◌, ◌++◌, length, get_or, set, map, take, refl, sym, ap, ap₂, subst, ◌∙◌, inl, inr, ◌==◌, leb, eq-eqb, ne_eqb, append-nil, length-append, arith}
 use Rattle.std.specs.List.{filter, range_with_len}
-use Rattle.std.proofs.lemmas.Bool.{and_parts, not-true, cases_eq}
+use Rattle.std.proofs.lemmas.Bool.{and_parts, not-true, leb-true, cases_eq}
 use Rattle.std.proofs.lemmas.List.{take-append-le}
 use Rattle.std.proofs.lemmas.List.Elements.{filter_agree, filter-append}
 use Rattle.std.proofs.lemmas.List.FromFn.{map-range_with_len_more}
 use Rattle.anti_kind.specs.declared.call.Call.{Call}
 use Rattle.anti_kind.specs.declared.call.Call.TheVariants.{Post, Take, Repost, TakeReply}
 use Rattle.anti_kind.specs.declared.call.Reply.TheVariants.{Posted, Got, Done}
-use Rattle.anti_kind.specs.declared.call.Entry.{Entry}
-use Rattle.anti_kind.specs.declared.call.Message.{Message}
-use Rattle.anti_kind.specs.declared.call.MessageKind.{MessageKind}
-use Rattle.anti_kind.specs.declared.call.MessageKind.TheVariants as kinds
+use Rattle.anti_kind.specs.declared.entry.Entry.{Entry}
+use Rattle.anti_kind.specs.declared.message.Message.{Message}
+use Rattle.anti_kind.specs.declared.message.MessageKind.{MessageKind}
+use Rattle.anti_kind.specs.declared.message.MessageKind.TheVariants as kinds
 use Rattle.anti_kind.specs.Inbox.{numbered, listed, posted, messages, numbers, is_call_message, delivered, deliveries, takes, is_taken, free, if_to, replied, has_reply, takes_reply, reply_is_taken, got_of, handed, post_ready, post_due, inbox_ready, inbox_due}
 use Rattle.anti_kind.specs.Objects.{Follows}
 use Rattle.anti_kind.proofs.Deliveries.{call_within, messages_more, deliveries_more, taken_more, taken_kept}
 use Rattle.anti_inbox.specs.declared.inbox.Fate.{Fate}
 use Rattle.anti_inbox.specs.declared.inbox.Inbox.{Inbox}
-use Rattle.anti_inbox.specs.Fates.{fate_of, untouched, taken, answered, heard}
-use Rattle.anti_inbox.specs.Inboxes.{start_of, requests_of, Knows, At, Keeps, Turns}
+use Rattle.anti_inbox.specs.inner.Fates.{reposts, fate_of, untouched, taken, reposted, answered, heard}
+use Rattle.anti_inbox.specs.inner.Inboxes.{start_of, requests_of, Knows, At, Keeps, Turns}
 use Rattle.anti_inbox.proofs.Lists.{filter-and, map_same, set_mapped}
-use Rattle.anti_inbox.proofs.Fates.{fate_outside, fate_kept, fate_taken, fate_answered, fate_heard}
+use Rattle.anti_inbox.proofs.Fates.{fate_outside, fate_kept, fate_taken, fate_reposted, fate_answered, fate_heard}
 use Rattle.anti_inbox.proofs.Reading.{its_counts, count_messages, count_fates, fate_at, at_number, IsHanding}
 
 -- What it keeps.
@@ -142,8 +142,8 @@ module _ (m n : Inbox) (h : List Entry) (e : Entry) (at : At m h) (f : Follows (
       due_by (Take nth) is ∙ ap (handed ms) hand.here ∙ ap (got_of k) (at_number ms k no_message hand.some hand.within) in
       let on : (j : ℕ) → takes j e.call e.reply ≡ (j == k) = λ j. ap₂ (takes j) is reply ∙ flipped k j in
       knows_set none k taken (filter (λ j. not (j == k)) m.free.items) hand.some hand.within turns
-      (sym (fate_taken rs h e k (on k ∙ eq-eqb k k refl) (ap (replied k) is) (ap (takes_reply k) is)))
-      (λ j differs. sym (fate_kept rs h e j (on j ∙ ne_eqb j k differs) (ap (replied j) is) (ap (takes_reply j) is)))
+      (sym (fate_taken rs h e k (on k ∙ eq-eqb k k refl) (ap (reposts k) is) (ap (replied k) is) (ap (takes_reply k) is)))
+      (λ j differs. sym (fate_kept rs h e j (on j ∙ ne_eqb j k differs) (ap (reposts j) is) (ap (replied j) is) (ap (takes_reply j) is)))
       (ap (filter (λ j. not (j == k))) at.state.knows.free_are ∙ sym (free_less rs h e k on (ap₂ delivered is reply)))
     where
       no_message : Message
@@ -156,12 +156,18 @@ module _ (m n : Inbox) (h : List Entry) (e : Entry) (at : At m h) (f : Follows (
       ]
 
   -- a repost
-  pub knows_reposted : (k : ℕ) → e.call ≡ Repost k → Turns m n m.messages.items m.fates.items (m.free.items ++ filter (λ j. not (is_taken h j)) (k ∷ [])) → Knows n (h ++ e ∷ [])
+  pub knows_reposted : (k : ℕ) → e.call ≡ Repost k
+      → ((d : Fate) → Turns m n m.messages.items (set m.fates.items (k - 1) (reposted (get_or m.fates.items (k - 1) d)))
+      (m.free.items ++ filter (λ j. not (is_taken h j)) (k ∷ [])))
+      → Knows n (h ++ e ∷ [])
   knows_reposted k is turns =
       let off : (j : ℕ) → takes j e.call e.reply ≡ false = λ j. ap (λ (c : Call). takes j c e.reply) is in
-      knows_other (ap posted is) m.fates.items (m.free.items ++ filter (λ j. not (is_taken h j)) (k ∷ [])) turns
-      (at.state.knows.fates_are
-      ∙ map_same (fate_of h) (fate_of (h ++ e ∷ [])) (numbers rs h) (λ j. sym (fate_kept rs h e j (off j) (ap (replied j) is) (ap (takes_reply j) is))))
+      let parts = and_parts (leb 1 k) (leb k count) (ready_by (Repost k) is) in
+      knows_set (ap posted is) k reposted (m.free.items ++ filter (λ j. not (is_taken h j)) (k ∷ []))
+      (leb-true 1 k parts.0) (leb-true k count parts.1) turns
+      (sym (fate_reposted rs h e k (off k) (ap (reposts k) is ∙ eq-eqb k k refl) (ap (replied k) is) (ap (takes_reply k) is)))
+      (λ j differs. sym (fate_kept rs h e j (off j) (ap (reposts j) is ∙ ne_eqb k j (λ x. differs (sym x))) (ap (replied j) is)
+      (ap (takes_reply j) is)))
       (ap (λ (ns : List ℕ). ns ++ filter (λ j. not (is_taken h j)) (k ∷ [])) at.state.knows.free_are
       ∙ sym (free_more rs h e off ∙ ap (λ (c : Call). free rs h ++ filter (λ j. not (is_taken h j)) (delivered c e.reply)) is))
 
@@ -173,8 +179,8 @@ module _ (m n : Inbox) (h : List Entry) (e : Entry) (at : At m h) (f : Follows (
       let parts = and_parts (has_reply h k) (not (reply_is_taken h k)) (ready_by (TakeReply k) is) in
       let within = call_within (messages rs h) k ((its_counts m h at).answered_call k parts.0) in
       knows_set (ap posted is) k heard m.free.items within.0 within.1 turns
-      (sym (fate_heard rs h e k (off k) (ap (replied k) is) (ap (takes_reply k) is ∙ eq-eqb k k refl)))
-      (λ j differs. sym (fate_kept rs h e j (off j) (ap (replied j) is) (ap (takes_reply j) is ∙ ne_eqb k j (λ x. differs (sym x)))))
+      (sym (fate_heard rs h e k (off k) (ap (reposts k) is) (ap (replied k) is) (ap (takes_reply k) is ∙ eq-eqb k k refl)))
+      (λ j differs. sym (fate_kept rs h e j (off j) (ap (reposts j) is) (ap (replied j) is) (ap (takes_reply j) is ∙ ne_eqb k j (λ x. differs (sym x)))))
       (at.state.knows.free_are ∙ sym (free_kept rs h e off (ap (λ (c : Call). delivered c e.reply) is)))
 
   -- a reply that is posted
@@ -190,9 +196,9 @@ module _ (m n : Inbox) (h : List Entry) (e : Entry) (at : At m h) (f : Follows (
       let off : (j : ℕ) → takes j e.call e.reply ≡ false = λ j. ap (λ (c : Call). takes j c e.reply) is in
       let replies_by : (j : ℕ) → replied j e.call ≡ cond (k == j) (message ∷ []) [] = λ j. ap (replied j) is ∙ ap (λ (x : MessageKind). if_to j x message) kind in
       knows_set (ap posted is ∙ ap (λ (x : MessageKind). listed x message) kind) k (answered message) m.free.items within.0 within.1 turns
-      (sym (fate_answered rs h e k message (off k) (not-true (has_reply h k) new.1)
+      (sym (fate_answered rs h e k message (off k) (not-true (has_reply h k) new.1) (ap (reposts k) is)
       (replies_by k ∙ ap (λ (b : Bool). cond {A = List Message} b (message ∷ []) []) (eq-eqb k k refl)) (ap (takes_reply k) is)))
-      (λ j differs. sym (fate_kept rs h e j (off j)
+      (λ j differs. sym (fate_kept rs h e j (off j) (ap (reposts j) is)
       (replies_by j ∙ ap (λ (b : Bool). cond {A = List Message} b (message ∷ []) []) (ne_eqb k j (λ x. differs (sym x)))) (ap (takes_reply j) is)))
       (at.state.knows.free_are ∙ sym (free_kept rs h e off (ap₂ delivered is reply)))
 
@@ -202,7 +208,7 @@ module _ (m n : Inbox) (h : List Entry) (e : Entry) (at : At m h) (f : Follows (
     off j = ap (λ (c : Call). takes j c e.reply) is
 
     kept : (j : ℕ) → fate_of (h ++ e ∷ []) j ≡ fate_of h j
-    kept j = fate_kept rs h e j (off j) (answers_none j) (ap (takes_reply j) is)
+    kept j = fate_kept rs h e j (off j) (ap (reposts j) is) (answers_none j) (ap (takes_reply j) is)
 
     fates_more : map (fate_of h) (numbers rs h) ++ untouched ∷ [] ≡ map (fate_of (h ++ e ∷ [])) (numbers rs (h ++ e ∷ []))
     fates_more =

@@ -5,13 +5,14 @@ use Rattle.std.proofs.lemmas.Bool.{and_parts, not-true, leb-true, le-leb, or_rig
 use Rattle.std.proofs.lemmas.List.Folds.{list_any-append}
 use Rattle.std.proofs.lemmas.List.Sums.{sum_by_push}
 use Rattle.std.proofs.lemmas.List.Elements.{All-contains, filter_passes}
+use Rattle.anti_ids.specs.declared.limits.TheConstants.{MOST_UNITS}
 use Rattle.anti_kind.specs.declared.call.Call.{Call}
 use Rattle.anti_kind.specs.declared.call.Call.TheVariants.{Post, Take, TakeReply}
 use Rattle.anti_kind.specs.declared.call.Reply.TheVariants.{Got}
-use Rattle.anti_kind.specs.declared.call.Entry.{Entry}
-use Rattle.anti_kind.specs.declared.call.Message.{Message}
-use Rattle.anti_kind.specs.declared.call.MessageKind.{MessageKind}
-use Rattle.anti_kind.specs.declared.call.MessageKind.TheVariants as kinds
+use Rattle.anti_kind.specs.declared.entry.Entry.{Entry}
+use Rattle.anti_kind.specs.declared.message.Message.{Message}
+use Rattle.anti_kind.specs.declared.message.MessageKind.{MessageKind}
+use Rattle.anti_kind.specs.declared.message.MessageKind.TheVariants as kinds
 use Rattle.anti_kind.specs.Inbox.{numbered, messages, deliveries, got, takes, is_taken, free, if_to, replied, replies, has_reply, takes_reply, reply_is_taken, is_call_message, got_of, handed, post_ready, inbox_ready, inbox_due, post_need, inbox_need}
 use Rattle.anti_kind.specs.Objects.{inbox, need, fits, held, owed, Follows, IsLegal, IsStart}
 use Rattle.anti_kind.proofs.Histories.{by_entries, legal_front, follows_in}
@@ -164,4 +165,4 @@ needs_none _ on = absurd (cc)
 
 pub reserved_fits : (requests : List Message) (h : List Entry) (c : Call) → IsStart (inbox requests) → IsLegal (inbox requests) h → is_reserved c ≡ true → fits (inbox requests) h c ≡ true
 reserved_fits requests h c sane legal on =
-    le-leb (held h + owed (inbox requests) h + need (inbox requests) h c) 4096 (omega (arith, within_units (inbox requests) h sane legal, needs_none c on))
+    le-leb (held h + owed (inbox requests) h + need (inbox requests) h c) MOST_UNITS (omega (arith, within_units (inbox requests) h sane legal, needs_none c on))

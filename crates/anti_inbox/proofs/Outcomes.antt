@@ -11,6 +11,11 @@ module _ {T E P Q : Type 0} (gives : P → Q) where
   on_err (Ok x) holds = tt
   on_err (Err e) holds = gives holds
 
+-- the same of what holds for each item
+pub on_ok_each : {T E X Q : Type 0} {P : X → Type 0} (r : Result T E) → ((x : X) → OnOk r (P x)) → (((x : X) → P x) → Q) → OnOk r Q
+on_ok_each (Ok y) holds gives = gives holds
+on_ok_each (Err e) holds gives = tt
+
 -- what holds of both outcomes
 pub both_ways : {T E P Q R : Type 0} (r : Result T E) → OnOk r P → OnErr r Q → (P → R) → (Q → R) → R
 both_ways (Ok x) p q left right = left p

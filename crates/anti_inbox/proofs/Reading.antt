@@ -7,12 +7,13 @@ use Rattle.std.proofs.lemmas.List.Sums.{sum_by-le}
 use Rattle.std.proofs.lemmas.List.Elements.{All-filter}
 use Rattle.std.proofs.lemmas.List.FromFn.{length-map-range_with_len, get_or-map-range_with_len}
 use Rattle.std.proofs.lemmas.Option.{slice_get-get_or}
+use Rattle.anti_ids.specs.declared.limits.TheConstants.{MOST_UNITS}
 use Rattle.anti_kind.specs.declared.call.Call.{Call}
-use Rattle.anti_kind.specs.declared.call.Call.TheVariants.{Post, Take, TakeReply}
-use Rattle.anti_kind.specs.declared.call.Entry.{Entry}
-use Rattle.anti_kind.specs.declared.call.Message.{Message}
-use Rattle.anti_kind.specs.declared.call.MessageKind.{MessageKind}
-use Rattle.anti_kind.specs.declared.call.MessageKind.TheVariants as kinds
+use Rattle.anti_kind.specs.declared.call.Call.TheVariants.{Post, Take, Repost, TakeReply}
+use Rattle.anti_kind.specs.declared.entry.Entry.{Entry}
+use Rattle.anti_kind.specs.declared.message.Message.{Message}
+use Rattle.anti_kind.specs.declared.message.MessageKind.{MessageKind}
+use Rattle.anti_kind.specs.declared.message.MessageKind.TheVariants as kinds
 use Rattle.anti_kind.specs.declared.call.Reply.TheVariants.{Got}
 use Rattle.anti_kind.specs.Inbox.{posted, messages, listed, numbered, is_call_message, is_taken, has_reply, reply_is_taken, deliveries, free, got_of, handed, post_ready}
 use Rattle.anti_kind.specs.Objects.{inbox, ready, IsInbox, IsLegal}
@@ -20,8 +21,8 @@ use Rattle.anti_kind.proofs.Bounds.{length_within}
 use Rattle.anti_kind.proofs.Deliveries.{IsCounted, counted, call_within}
 use Rattle.anti_inbox.specs.declared.inbox.Fate.{Fate}
 use Rattle.anti_inbox.specs.declared.inbox.Inbox.{Inbox}
-use Rattle.anti_inbox.specs.Fates.{fate_of, untouched}
-use Rattle.anti_inbox.specs.Inboxes.{start_of, requests_of, At}
+use Rattle.anti_inbox.specs.inner.Fates.{fate_of, untouched}
+use Rattle.anti_inbox.specs.inner.Inboxes.{start_of, requests_of, At}
 use Rattle.anti_inbox.proofs.Fates.{fate_outside}
 
 -- each entry adds at most one message
@@ -39,7 +40,7 @@ few_messages requests h sane legal =
     let both : length (messages requests h) ≡ length requests + length (flat_map (λ (e : Entry). posted e.call) h) = length-append requests (flat_map (λ (e : Entry). posted e.call) h) in
     let sum = length-flat_map (λ (e : Entry). posted e.call) h in
     let most = sum_by-le (λ (e : Entry). length (posted e.call)) 1 h (λ k d short. one_at_most (get_or h k d).call) in
-    let short : length h ≤ 4096 = length_within (inbox requests) h sane legal in
+    let short : length h ≤ MOST_UNITS = length_within (inbox requests) h sane legal in
     omega (arith, sane.few)
 
 module _ (m : Inbox) (h : List Entry) (at : At m h) where
@@ -108,6 +109,12 @@ hands_out m h nth k message at hand there =
     ap (λ (b : Bool). cond b (slice_get ms (k - 1)) None) (lt-ltb 0 k (omega (arith, hand.some)))
     ∙ ap (λ (xs : List Message). slice_get xs (k - 1)) (sym at.state.knows.messages_are) ∙ there in
     ap (handed ms) hand.here ∙ ap (got_of k) found
+
+-- what is delivered again is among them
+pub reposting_within : (m : Inbox) (h : List Entry) (k : ℕ) → At m h → ready (start_of m) h (Repost k) ≡ true → (1 ≤ k) × (k ≤ length m.fates.items)
+reposting_within m h k at is_ready =
+    let parts = and_parts (leb 1 k) (leb k (length (messages (requests_of m) h))) is_ready in
+    (leb-true 1 k parts.0, omega (arith, leb-true k (length (messages (requests_of m) h)) parts.1, count_fates m h at))
 
 -- the call that a reply is for is among the messages
 pub answering_within : (m : Inbox) (h : List Entry) (message : Message) → At m h → ready (start_of m) h (Post message) ≡ true → message.kind ≡ kinds.Reply

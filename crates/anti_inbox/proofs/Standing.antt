@@ -2,20 +2,20 @@
 use Rattle.std.proofs.Common.{◌≡◌, ℕ, ◌+◌, ◌-◌, ◌≤◌, true, not, List, [], ◌∷◌, ◌++◌, length, map, take, Option, Some, None, slice_get, refl, sym, ap, subst, ◌∙◌, append-nil, arith}
 use Rattle.std.specs.List.{range_with_len}
 use Rattle.std.proofs.Math.Seq.{take-length}
-use Rattle.anti_kind.specs.declared.call.Actor.TheVariants.{Carrier}
+use Rattle.anti_kind.specs.declared.actor.Actor.TheVariants.{Carrier}
 use Rattle.anti_kind.specs.declared.call.Call.{Call}
 use Rattle.anti_kind.specs.declared.call.Call.TheVariants.{Post, Take, TakeReply}
-use Rattle.anti_kind.specs.declared.call.Entry.{Entry}
-use Rattle.anti_kind.specs.declared.call.Message.{Message}
-use Rattle.anti_kind.specs.declared.call.MessageKind.{MessageKind}
-use Rattle.anti_kind.specs.declared.call.MessageKind.TheVariants as kinds
+use Rattle.anti_kind.specs.declared.entry.Entry.{Entry}
+use Rattle.anti_kind.specs.declared.message.Message.{Message}
+use Rattle.anti_kind.specs.declared.message.MessageKind.{MessageKind}
+use Rattle.anti_kind.specs.declared.message.MessageKind.TheVariants as kinds
 use Rattle.anti_kind.specs.Inbox.{numbered, messages, is_taken, deliveries, free, replies, got_of, handed, post_due, inbox_due}
 use Rattle.anti_kind.specs.Objects.{inbox, weight, owed, need, ready, fits, last_stamp, Follows, IsInbox, MayMake}
 use Rattle.anti_kind.proofs.Histories.{held_more, below_last}
 use Rattle.anti_kind.proofs.Deliveries.{inbox_units, start_owes}
 use Rattle.anti_inbox.specs.declared.inbox.Inbox.{Inbox}
-use Rattle.anti_inbox.specs.Fates.{fate_of}
-use Rattle.anti_inbox.specs.Inboxes.{start_of, requests_of, Knows, InboxStands, At, Keeps}
+use Rattle.anti_inbox.specs.inner.Fates.{fate_of}
+use Rattle.anti_inbox.specs.inner.Inboxes.{start_of, requests_of, Knows, InboxStands, At, Keeps}
 use Rattle.anti_inbox.proofs.Lists.{filter-all}
 
 -- an inbox on which nothing has happened

@@ -1,12 +1,12 @@
 -- Laws of an inbox. They hold of every legal history of each one that starts with requests alone.
-use Rattle.std.specs.Prelude.{◌≡◌, ℕ, ◌≤◌, Bool, true, false, List, ◌∷◌, ◌++◌, length, Some, count_by, Contains}
+use Rattle.std.specs.Prelude.{◌≡◌, ℕ, ◌≤◌, Bool, true, false, List, ◌∷◌, ◌++◌, length, Some, count_by, Contains, ◌⊎◌}
 use Rattle.anti_kind.specs.declared.call.Call.{Call}
 use Rattle.anti_kind.specs.declared.call.Call.TheVariants.{Post, Take, TakeReply}
-use Rattle.anti_kind.specs.declared.call.Reply.TheVariants.{Got}
-use Rattle.anti_kind.specs.declared.call.Entry.{Entry}
-use Rattle.anti_kind.specs.declared.call.Message.{Message}
-use Rattle.anti_kind.specs.declared.call.MessageKind.{MessageKind}
-use Rattle.anti_kind.specs.declared.call.MessageKind.TheVariants as kinds
+use Rattle.anti_kind.specs.declared.call.Reply.TheVariants.{Posted, Got}
+use Rattle.anti_kind.specs.declared.entry.Entry.{Entry}
+use Rattle.anti_kind.specs.declared.message.Message.{Message}
+use Rattle.anti_kind.specs.declared.message.MessageKind.{MessageKind}
+use Rattle.anti_kind.specs.declared.message.MessageKind.TheVariants as kinds
 use Rattle.anti_kind.specs.Inbox.{messages, numbered, takes, free, replies, takes_reply}
 use Rattle.anti_kind.specs.Objects.{inbox, fits, IsStart, IsLegal}
 
@@ -15,6 +15,20 @@ abbrev pub TakesGet : Type 0
 TakesGet =
     (requests : List Message) (h rest : List Entry) (e : Entry) (nth : ℕ) → IsStart (inbox requests) → IsLegal (inbox requests) (h ++ e ∷ rest)
     → e.call ≡ Take nth → (n : ℕ) × (m : Message) × (e.reply ≡ Got n m) × (numbered (messages requests h) n ≡ Some m)
+
+-- A message that is taken is a request of the start with that number, or was posted before, and the post told that number.
+abbrev pub TakenCame : Type 0
+TakenCame =
+    (requests : List Message) (h rest : List Entry) (e : Entry) (nth n : ℕ) (m : Message) → IsStart (inbox requests)
+    → IsLegal (inbox requests) (h ++ e ∷ rest) → e.call ≡ Take nth → e.reply ≡ Got n m
+    → (numbered requests n ≡ Some m) ⊎ ((d : Entry) × Contains h d × (d.call ≡ Post m) × (d.reply ≡ Posted n))
+
+-- A reply that is taken was posted before, to that call.
+abbrev pub HeardCame : Type 0
+HeardCame =
+    (requests : List Message) (h rest : List Entry) (e : Entry) (n : ℕ) → IsStart (inbox requests)
+    → IsLegal (inbox requests) (h ++ e ∷ rest) → e.call ≡ TakeReply n
+    → (m : Message) × (d : Entry) × (e.reply ≡ Got n m) × Contains h d × (d.call ≡ Post m) × (m.kind ≡ kinds.Reply) × (m.to ≡ n)
 
 -- Of each message at most one take gets it, whatever is delivered again.
 abbrev pub TakesOnce : Type 0

@@ -1,3 +1,2 @@
-pub mod Fates
-pub mod Inboxes
 pub mod InboxLaws
+pub mod inner

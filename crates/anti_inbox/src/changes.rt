@@ -1,15 +1,17 @@
 ghost use Rattle.std.specs.Prelude.{◌≡◌, ◌+◌, ◌-◌, ◌<◌, ◌≤◌, ◌^◌, not, ◌==◌, List, [], ◌∷◌, ◌++◌, length, filter, OnOk, OnErr, slice_index_or, slice_set};
-ghost use Rattle.anti_kind.specs.declared.call.Entry.{Entry};
+ghost use Rattle.anti_kind.specs.declared.entry.Entry.{Entry};
 ghost use Rattle.anti_kind.specs.Inbox.{is_taken};
 ghost use Rattle.anti_inbox.specs.declared.inbox.Fate.{Fate};
-ghost use Rattle.anti_inbox.specs.Fates.{untouched, taken, answered, heard};
+ghost use Rattle.anti_inbox.specs.inner.Fates.{untouched, taken, reposted, answered, heard};
 
 use crate::inbox::{Fate, Inbox};
 use anti_ids::NoMemory;
 use anti_kind::Message;
 
 impl Inbox {
-    ghost use Rattle.anti_inbox.specs.Inboxes.{At, Turns};
+    ghost use Rattle.anti_kind.specs.declared.call.Call.TheVariants.{Take, Repost};
+    ghost use Rattle.anti_kind.specs.Objects.{MayMake};
+    ghost use Rattle.anti_inbox.specs.inner.Inboxes.{start_of, At, InboxStands, Turns};
 
     // Adds a message, with a delivery that is free. All of it is added or nothing.
     pub(crate) fn post(&mut self, message: Message) -> Result<(), NoMemory>
@@ -20,14 +22,11 @@ impl Inbox {
     {
         let number = self.messages.len() as u32 + 1;
         self.messages.reserve(1)?;
-        if self.fates.reserve(1).is_err() {
-            return Err(NoMemory);
-        }
-        if self.free.push(number).is_err() {
-            return Err(NoMemory);
-        }
+        self.fates.reserve(1)?;
+        self.free.push(number)?;
         let fate = Fate {
             taken: false,
+            reposted: false,
             reply: None,
             heard: false,
         };
@@ -39,31 +38,47 @@ impl Inbox {
         Ok(())
     }
 
-    // Marks a message as taken, of which no delivery is free any more.
-    pub(crate) fn take(&mut self, number: u32)
-        requires some { 1 ≤ number }
-        requires within { number ≤ length self.old.fates.items }
-        ensures { (d : Fate) → Turns self.old self.new self.old.messages.items
+    // Takes the message of the nth free delivery, counted from 1, of which no delivery is free any more.
+    pub(crate) fn take(&mut self, nth: u32)
+        requires { MayMake (start_of self.old) (InboxStands self.old) (Take nth) }
+        ensures { (d : Fate) → let number = slice_index_or self.old.free.items (nth - 1) 0 in
+            Turns self.old self.new self.old.messages.items
             (slice_set self.old.fates.items (number - 1) (taken (slice_index_or self.old.fates.items (number - 1) d)))
             (filter (λ n. not (n == number)) self.old.free.items) }
     {
-        self.fates[number as usize - 1].taken = true;
-        self.free.retain(|delivery| *delivery != number);
+        let number = self.free.remove(nth as usize - 1);
+        let fate = &mut self.fates[number as usize - 1];
+        fate.taken = true;
+        // Only a message that was delivered again has further deliveries.
+        if fate.reposted {
+            self.free.retain(|delivery| *delivery != number);
+        }
     }
 
-    // Adds a delivery of a message, which is free unless the message was taken.
-    pub(crate) fn repost(&mut self, number: u32) -> Result<(), NoMemory>
+    // Adds a free delivery of a message, unless the message was taken.
+    fn deliver(&mut self, number: u32) -> Result<(), NoMemory>
         ensures ok { (h : List Entry) → At self.old h → OnOk result (Turns self.old self.new self.old.messages.items self.old.fates.items
             (self.old.free.items ++ filter (λ n. not (is_taken h n)) (number ∷ []))) }
-        ensures err { OnErr result (Turns self.old self.new self.old.messages.items self.old.fates.items self.old.free.items) }
+        ensures err { (h : List Entry) → At self.old h → OnErr result (Turns self.old self.new self.old.messages.items self.old.fates.items self.old.free.items) }
     {
         if self.is_taken(number) {
             return Ok(());
         }
-        match self.free.push(number) {
-            Ok(()) => Ok(()),
-            Err(_) => Err(NoMemory),
-        }
+        self.free.push(number)?;
+        Ok(())
+    }
+
+    // Adds a delivery of a message, which is free unless the message was taken.
+    pub(crate) fn repost(&mut self, number: u32) -> Result<(), NoMemory>
+        requires { MayMake (start_of self.old) (InboxStands self.old) (Repost number) }
+        ensures ok { (h : List Entry) (d : Fate) → At self.old h → OnOk result (Turns self.old self.new self.old.messages.items
+            (slice_set self.old.fates.items (number - 1) (reposted (slice_index_or self.old.fates.items (number - 1) d)))
+            (self.old.free.items ++ filter (λ n. not (is_taken h n)) (number ∷ []))) }
+        ensures err { (h : List Entry) → At self.old h → OnErr result (Turns self.old self.new self.old.messages.items self.old.fates.items self.old.free.items) }
+    {
+        self.deliver(number)?;
+        self.fates[number as usize - 1].reposted = true;
+        Ok(())
     }
 
     // Keeps the reply to a call.

@@ -1,18 +1,20 @@
 ghost use Rattle.std.specs.Prelude.{◌≡◌, ◌<◌, ◌^◌, List, [], map, IfOk, IfNone, IfSome, MatchOption, None, Some, slice_get};
 ghost use Rattle.std.specs.List.{range_with_len};
-ghost use Rattle.anti_kind.specs.declared.call.Entry.{Entry};
+ghost use Rattle.anti_kind.specs.declared.entry.Entry.{Entry};
 ghost use Rattle.anti_kind.specs.Inbox.{messages, numbered, is_call_message, is_taken, replies, has_reply, reply_is_taken, post_ready};
 ghost use Rattle.anti_kind.specs.Objects.{inbox, IsStart};
-ghost use Rattle.anti_inbox.specs.Fates.{fate_of, untouched};
+ghost use Rattle.anti_inbox.specs.inner.Fates.{fate_of, untouched};
 
 use anti_ids::NoMemory;
 use anti_kind::{Message, MessageKind, Messages};
 use std::alloc::Global;
 
-/// What became of a message: whether it was taken, and, where it is a call, its reply and whether that was taken.
+/// What became of a message: whether it was taken, whether it was delivered again, and, where it is a call, its reply and whether
+/// that was taken.
 #[derive(Drop)]
 pub(crate) struct Fate {
     pub(crate) taken: bool,
+    pub(crate) reposted: bool,
     pub(crate) reply: Option<Message>,
     pub(crate) heard: bool,
 }
@@ -31,7 +33,7 @@ pub struct Inbox {
 }
 
 impl Inbox {
-    ghost use Rattle.anti_inbox.specs.Inboxes.{start_of, requests_of, InboxStands, At};
+    ghost use Rattle.anti_inbox.specs.inner.Inboxes.{start_of, requests_of, InboxStands, At};
 
     /// The inbox with these requests, on which nothing has happened yet.
     pub fn new(alloc: Global, requests: Messages) -> Result<Inbox, NoMemory>
@@ -139,13 +141,11 @@ fn fates(alloc: Global, count: usize) -> Result<Vec<Fate>, NoMemory>
     for _before in 0..count {
         let fate = Fate {
             taken: false,
+            reposted: false,
             reply: None,
             heard: false,
         };
-        match fates.push(fate) {
-            Ok(()) => {}
-            Err(_) => return Err(NoMemory),
-        }
+        fates.push(fate)?;
     }
     Ok(fates)
 }
@@ -158,10 +158,7 @@ fn numbers(alloc: Global, count: usize) -> Result<Vec<u32>, NoMemory>
 {
     let mut numbers = Vec::new(alloc);
     for before in 0..count {
-        match numbers.push(before as u32 + 1) {
-            Ok(()) => {}
-            Err(_) => return Err(NoMemory),
-        }
+        numbers.push(before as u32 + 1)?;
     }
     Ok(numbers)
 }

@@ -5,8 +5,9 @@ mod changes;
 mod inbox;
 mod laws;
 mod machine;
-#[cfg(test)]
-mod tests;
 
 pub use inbox::Inbox;
-pub use laws::{answered_once, heard_once, reserved_fits, taken_is_gone, takes_get, takes_once};
+pub use laws::{
+    answered_once, heard_came, heard_once, reserved_fits, taken_came, taken_is_gone, takes_get,
+    takes_once,
+};

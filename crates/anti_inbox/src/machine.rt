@@ -1,5 +1,5 @@
 ghost use Rattle.std.specs.Prelude.{◌≡◌, ◌∷◌, ◌++◌, [], List, IfOk, OnOk, OnErr, slice_get};
-ghost use Rattle.anti_kind.specs.declared.call.Entry.{Entry};
+ghost use Rattle.anti_kind.specs.declared.entry.Entry.{Entry};
 ghost use Rattle.anti_kind.specs.declared.call.Call.TheVariants.{Post, Take};
 ghost use Rattle.anti_kind.specs.Inbox.{free, got_of, handed, messages, numbered, post_ready, replies};
 ghost use Rattle.anti_kind.specs.Objects.{Follows, MayMake};
@@ -9,7 +9,7 @@ use anti_ids::{Copies, NoMemory};
 use anti_kind::{Call, Machine, Message, MessageKind, Reply};
 
 impl Inbox {
-    ghost use Rattle.anti_inbox.specs.Inboxes.{start_of, requests_of, At, InboxStands, Keeps, Knows};
+    ghost use Rattle.anti_inbox.specs.inner.Inboxes.{start_of, requests_of, At, InboxStands, Keeps, Knows};
 
     // Whether a message can be posted.
     fn can_post(&self, message: &Message) -> bool
@@ -76,8 +76,7 @@ impl Inbox {
         match c {
             Call::Post { message } => self.note_post(message),
             Call::Take { nth } => {
-                let number = self.free[*nth as usize - 1];
-                self.take(number);
+                self.take(*nth);
                 Ok(())
             }
             Call::Repost { number } => self.repost(*number),
@@ -92,7 +91,7 @@ impl Inbox {
 
 /// The table of an inbox: `Post`, `Take`, `Repost` and `TakeReply`. No other call is ever ready.
 impl Machine for Inbox {
-    ghost use Rattle.anti_inbox.specs.Inboxes.{start_of, InboxStands};
+    ghost use Rattle.anti_inbox.specs.inner.Inboxes.{start_of, InboxStands};
 
     ghost start = { start_of };
 
@@ -131,6 +130,10 @@ impl Machine for Inbox {
 
     fn upto(&self, _region: u32) -> u64 {
         0
+    }
+
+    fn next_ship(&self, _region: u32) -> Option<(u64, u32)> {
+        None
     }
 
     fn due(&self, c: &Call) -> Result<Reply, NoMemory> {

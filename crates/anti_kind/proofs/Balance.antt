@@ -5,7 +5,7 @@ use Rattle.anti_ids.specs.declared.id.WriteId.{WriteId}
 use Rattle.anti_kind.specs.declared.call.Call.{Call}
 use Rattle.anti_kind.specs.declared.call.Call.TheVariants.{Write, Read, Scan, Poll, Look, Ship, Again, Pull, Repull, Ack, Nack, Post, Take, Repost, TakeReply}
 use Rattle.anti_kind.specs.declared.call.Reply.{Reply}
-use Rattle.anti_kind.specs.declared.call.Entry.{Entry}
+use Rattle.anti_kind.specs.declared.entry.Entry.{Entry}
 use Rattle.anti_kind.specs.Stored.{parts_of}
 use Rattle.anti_kind.specs.Store.{Store, is_queue, is_pull, is_out, store_ready, store_due, store_need, owed_shipments, owed_messages}
 use Rattle.anti_kind.specs.Objects.{store, weight, held, owed, need, Follows, IsLegal, IsStore}

@@ -1,7 +1,7 @@
 -- An object's history never passes its units.
 use Rattle.std.proofs.Common.{◌≡◌, ℕ, Bool, true, false, cond, ◌+◌, ◌≤◌, List, [], ◌∷◌, ◌++◌, length, refl, arith}
-use Rattle.anti_kind.specs.declared.limits.TheConstants.{MOST_UNITS}
-use Rattle.anti_kind.specs.declared.call.Entry.{Entry}
+use Rattle.anti_ids.specs.declared.limits.TheConstants.{MOST_UNITS}
+use Rattle.anti_kind.specs.declared.entry.Entry.{Entry}
 use Rattle.anti_kind.specs.Store.{is_queue}
 use Rattle.anti_kind.specs.Objects.{Start, store, inbox, held, owed, need, Follows, IsLegal, IsStart}
 use Rattle.anti_kind.proofs.Histories.{by_entries, length_held, fits_number}

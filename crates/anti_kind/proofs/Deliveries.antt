@@ -11,10 +11,10 @@ use Rattle.std.proofs.lemmas.Bool.{leb-true, ltb-true, and_parts, or_cases, case
 use Rattle.anti_kind.specs.declared.call.Call.{Call}
 use Rattle.anti_kind.specs.declared.call.Call.TheVariants.{Write, Read, Scan, Poll, Look, Ship, Again, Pull, Repull, Ack, Nack, Post, Take, Repost, TakeReply}
 use Rattle.anti_kind.specs.declared.call.Reply.TheVariants.{Posted, Got, Done}
-use Rattle.anti_kind.specs.declared.call.Entry.{Entry}
-use Rattle.anti_kind.specs.declared.call.Message.{Message}
-use Rattle.anti_kind.specs.declared.call.MessageKind.{MessageKind}
-use Rattle.anti_kind.specs.declared.call.MessageKind.TheVariants as kinds
+use Rattle.anti_kind.specs.declared.entry.Entry.{Entry}
+use Rattle.anti_kind.specs.declared.message.Message.{Message}
+use Rattle.anti_kind.specs.declared.message.MessageKind.{MessageKind}
+use Rattle.anti_kind.specs.declared.message.MessageKind.TheVariants as kinds
 use Rattle.anti_kind.specs.Inbox.{numbered, listed, posted, messages, is_call, is_call_message, delivered, deliveries, got, takes, is_taken, free, if_to, replied, replies, has_reply, takes_reply, reply_is_taken, got_of, handed, post_ready, post_due, post_need, inbox_ready, inbox_due, inbox_need, numbers, untaken, unanswered, unheard}
 use Rattle.anti_kind.specs.Objects.{inbox, weight, held, owed, need, Follows, IsLegal, IsInbox}
 use Rattle.anti_kind.proofs.Histories.{by_entries, held_more}
@@ -76,7 +76,7 @@ numbered_new xs x n is =
     let on : ltb 0 n ≡ true = lt-ltb 0 n (omega arith) in
     ap (λ (b : Bool). cond b (slice_get (xs ++ x ∷ []) (n - 1)) None) on ∙ slice_get_last xs x (n - 1) (omega arith)
 
-numbered_past : {A : Type 0} (xs : List A) (n : ℕ) → length xs < n → numbered xs n ≡ None
+pub numbered_past : {A : Type 0} (xs : List A) (n : ℕ) → length xs < n → numbered xs n ≡ None
 numbered_past xs n past =
     let on : ltb 0 n ≡ true = lt-ltb 0 n (omega arith) in
     ap (λ (b : Bool). cond b (slice_get xs (n - 1)) None) on ∙ slice_get_past xs (n - 1) (omega arith)

@@ -5,13 +5,13 @@ use Rattle.std.proofs.lemmas.Bool.{lt-leb, and_parts, and_from, or_cases, or_lef
 use Rattle.std.proofs.lemmas.List.Elements.{All-weaker}
 use Rattle.std.proofs.lemmas.List.Sums.{AllPass-from_list_all, list_all-from_AllPass}
 use Rattle.anti_ids.specs.declared.id.WriteId.{WriteId}
-use Rattle.anti_kind.specs.declared.limits.TheConstants.{MOST_UNITS}
+use Rattle.anti_ids.specs.declared.limits.TheConstants.{MOST_UNITS}
 use Rattle.anti_kind.specs.declared.call.Call.{Call}
 use Rattle.anti_kind.specs.declared.call.Call.TheVariants.{Write, Read, Scan, Poll, Look, Post}
-use Rattle.anti_kind.specs.declared.call.Entry.{Entry}
-use Rattle.anti_kind.specs.declared.call.Message.{Message}
-use Rattle.anti_kind.specs.declared.call.MessageKind.{MessageKind}
-use Rattle.anti_kind.specs.declared.call.MessageKind.TheVariants as kinds
+use Rattle.anti_kind.specs.declared.entry.Entry.{Entry}
+use Rattle.anti_kind.specs.declared.message.Message.{Message}
+use Rattle.anti_kind.specs.declared.message.MessageKind.{MessageKind}
+use Rattle.anti_kind.specs.declared.message.MessageKind.TheVariants as kinds
 use Rattle.anti_kind.specs.Stored.{shows_of}
 use Rattle.anti_kind.specs.Inbox.{post_ready}
 use Rattle.anti_kind.specs.Store.{Store, is_replica, is_visible, is_written, can_look, scanned}

@@ -1,5 +1,5 @@
 -- The messages of a queue that are out: what each call does to their number.
-use Rattle.std.proofs.Common.{◌≡◌, ℕ, suc, ◌+◌, ◌-◌, ◌<◌, ◌≤◌, Bool, true, false, not, cond, ◌&&◌, ◌||◌, List, [], ◌∷◌, ◌++◌, length, get_or, Option, Some, None, find, count_by, slice_get, refl, sym, ap, ap₂, ◌∙◌, ◌⊎◌, inl, inr, ⊎_elim, ◌==◌, eq-eqb, ne_eqb, eqb-true, length-append, arith}
+use Rattle.std.proofs.Common.{◌≡◌, ℕ, ◌+◌, ◌-◌, ◌<◌, ◌≤◌, Bool, true, false, not, cond, ◌&&◌, ◌||◌, List, [], ◌∷◌, ◌++◌, length, get_or, Option, Some, None, count_by, slice_get, refl, sym, ap, ap₂, ◌∙◌, ◌⊎◌, inl, inr, ⊎_elim, ◌==◌, eq-eqb, ne_eqb, eqb-true, length-append, arith}
 use Rattle.std.proofs.lemmas.List.Sums.{sum_by_push}
 use Rattle.std.proofs.lemmas.Bool.{and_parts, not-true, and_left, eqb-false, false_from_ne_true}
 use Rattle.anti_ids.specs.declared.id.WriteId.{WriteId}
@@ -7,37 +7,20 @@ use Rattle.anti_kind.specs.declared.call.Call.{Call}
 use Rattle.anti_kind.specs.declared.call.Call.TheVariants.{Write, Pull, Ack, Nack}
 use Rattle.anti_kind.specs.declared.call.Reply.{Reply}
 use Rattle.anti_kind.specs.declared.call.Reply.TheVariants.{Pulled}
-use Rattle.anti_kind.specs.declared.call.Entry.{Entry}
-use Rattle.anti_kind.specs.declared.call.Row.{Row}
-use Rattle.anti_kind.specs.declared.call.Sub.{Sub}
-use Rattle.anti_kind.specs.declared.call.StoreKind.{StoreKind}
-use Rattle.anti_kind.specs.declared.call.StoreKind.TheVariants.{Queue}
+use Rattle.anti_kind.specs.declared.entry.Entry.{Entry}
+use Rattle.anti_kind.specs.declared.row.Row.{Row}
+use Rattle.anti_kind.specs.declared.store_kind.Sub.{Sub}
+use Rattle.anti_kind.specs.declared.store_kind.StoreKind.{StoreKind}
+use Rattle.anti_kind.specs.declared.store_kind.StoreKind.TheVariants.{Queue}
 use Rattle.anti_kind.specs.Stored.{wrote, rows, is_whole, is_in}
 use Rattle.anti_kind.specs.Store.{Store, is_queue, is_pull, is_ack, is_nack, gives, pulls, settles, is_out, is_free, next, next_of, pulled_next, is_there, or_absent, store_ready, store_due}
 use Rattle.anti_kind.specs.Objects.{store, Follows, IsLegal}
+pub use Rattle.anti_kind.proofs.Finding.{Found, find_found}
 use Rattle.anti_kind.proofs.Histories.{by_entries}
 use Rattle.anti_kind.proofs.Rows.{is_write, or_false, new_row, rows_more, rows_other, rows_write, version_at}
 use Rattle.anti_kind.proofs.Sums.{count_same, count_one_less}
 
--- what was found stands in the list and passes
-pub record Found {X : Type 0} (p : X → Bool) (xs : List X) (x : X) : Type 0 where
-  pub index : ℕ
-  pub within : index < length xs
-  pub at : (d : X) → get_or xs index d ≡ x
-  pub passes : p x ≡ true
-
-found_later : {X : Type 0} (p : X → Bool) (y : X) (xs : List X) (x : X) → Found p xs x → Found p (y ∷ xs) x
-found_later p y xs x f = record { index = suc f.index; within = omega (arith, f.within); at = f.at; passes = f.passes }
-
-found_by : {X : Type 0} (p : X → Bool) (y : X) (xs : List X) (x : X) (b : Bool) → p y ≡ b → cond b (Some y) (find p xs) ≡ Some x → (find p xs ≡ Some x → Found p xs x) → Found p (y ∷ xs) x
-found_by p y xs x true passes is later = let same : y ≡ x = cc in record { index = 0; within = omega arith; at = λ d. same; passes = ap p (sym same) ∙ passes }
-found_by p y xs x false passes is later = found_later p y xs x (later is)
-
-pub find_found : {X : Type 0} (p : X → Bool) (xs : List X) (x : X) → find p xs ≡ Some x → Found p xs x
-find_found p [] x is = absurd (cc)
-find_found p (y ∷ xs) x is = found_by p y xs x (p y) refl is (find_found p xs x)
-
-is_there_some : (o : Option Row) → is_there o ≡ true → (r : Row) × (o ≡ Some r)
+pub is_there_some : (o : Option Row) → is_there o ≡ true → (r : Row) × (o ≡ Some r)
 is_there_some None is = absurd (cc)
 is_there_some (Some r) is = (r, refl)
 

@@ -4,8 +4,8 @@ use Rattle.std.proofs.lemmas.List.{length_push, get_or_append_left, get_or_push}
 use Rattle.std.proofs.lemmas.List.Sums.{sum_by_push, sum_by-cons}
 use Rattle.std.proofs.lemmas.List.Quantifiers.{all_pairs_push}
 use Rattle.std.proofs.lemmas.Bool.{leb-true, cases_lt}
-use Rattle.anti_kind.specs.declared.limits.TheConstants.{MOST_UNITS}
-use Rattle.anti_kind.specs.declared.call.Entry.{Entry}
+use Rattle.anti_ids.specs.declared.limits.TheConstants.{MOST_UNITS}
+use Rattle.anti_kind.specs.declared.entry.Entry.{Entry}
 use Rattle.anti_kind.specs.declared.call.Reply.{Reply}
 use Rattle.anti_kind.specs.declared.call.Reply.TheVariants.{Shown}
 use Rattle.anti_kind.specs.Objects.{Start, weight, held, owed, need, last_stamp, Follows, LegalAfter, IsLegal}
@@ -120,3 +120,9 @@ length_held (e ∷ h) =
 -- a call that fits, in numbers
 pub fits_number : (start : Start) (h : List Entry) (e : Entry) → Follows start h e → held h + owed start h + need start h e.call ≤ MOST_UNITS
 fits_number start h e f = leb-true _ _ f.fits
+
+-- so no legal history has many more entries than an object has units
+pub few_entries : (start : Start) (h : List Entry) → IsLegal start h → length h ≤ MOST_UNITS + 1
+few_entries start h l =
+    by_entries start (λ k. length k ≤ MOST_UNITS + 1) (omega arith)
+    (λ k e legal f was. omega (arith, fits_number start k e f, length_held k, length_push k e)) h l

@@ -1,15 +1,28 @@
+-- lists
+pub mod Finding
+pub mod Sums
+-- legal histories, and what of a store was written, shipped and shown in them
 pub mod Histories
 pub mod Rows
 pub mod Shipped
-pub mod Sums
+pub mod NextShipments
+pub mod Showing
+-- units
 pub mod Units
 pub mod Handed
 pub mod Balance
 pub mod Deliveries
 pub mod Bounds
-pub mod Showing
-pub mod Keeping
-pub mod Scans
 pub mod Fullness
+-- the laws of a kind
+pub mod Lineages
+pub mod Scans
+pub mod Tables
+pub mod Sources
+pub mod Keeping
+-- cells of a channel, and who pulled them
+pub mod Cells
+pub mod Pulls
+-- ports
 pub mod Making
 mod Worked

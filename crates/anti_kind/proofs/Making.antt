@@ -1,35 +1,36 @@
 -- A port over one object: when a call is made, what it adds to the history, and what it answers.
-use Rattle.std.proofs.Common.{◌≡◌, ℕ, ◌+◌, ◌-◌, ◌^◌, ◌<◌, ◌≤◌, max, min, true, List, [], ◌∷◌, ◌++◌, length, refl, sym, ap, ap₂, subst, ◌∙◌, append-nil, eq-eqb, arith}
+use Rattle.std.proofs.Common.{◌≡◌, ℕ, ◌+◌, ◌-◌, ◌^◌, ◌<◌, ◌≤◌, max, min, true, List, [], ◌∷◌, ◌++◌, length, refl, sym, ap, subst, ◌∙◌, append-nil, eq-eqb, arith}
 use Rattle.std.proofs.lemmas.Bool.{le-leb}
 use Rattle.std.proofs.lemmas.List.Elements.{All-push}
 use Rattle.anti_ids.specs.List.{Listed, pushed, reserved}
-use Rattle.anti_kind.specs.declared.limits.TheConstants.{MOST_UNITS}
-use Rattle.anti_kind.specs.declared.call.Actor.{Actor}
-use Rattle.anti_kind.specs.declared.call.Call.{Call}
+use Rattle.anti_ids.specs.declared.limits.TheConstants.{MOST_UNITS}
 use Rattle.anti_kind.specs.declared.call.Reply.{Reply}
-use Rattle.anti_kind.specs.declared.call.Entry.{Entry}
+use Rattle.anti_kind.specs.declared.entry.Entry.{Entry}
 use Rattle.anti_kind.specs.declared.port.Answer.{Answer}
 use Rattle.anti_kind.specs.declared.port.Answer.TheVariants.{Made, NotYet, Full, Spent, NoMemory}
 use Rattle.anti_kind.specs.Objects.{Start, ready, due, need, held, owed, fits, last_stamp, Follows, IsLegal, IsStart}
-use Rattle.anti_kind.specs.Ports.{View, Asking, named, entry_of, IsFront, Rises, IsRefused, IsSpent, Answers, Answered}
-use Rattle.anti_kind.specs.Lones.{Alone, AreOwn, IsLone, Goes, IsRefusal, Makes, lone_start, lone_view}
+use Rattle.anti_kind.specs.Ports.{View, entry_of, IsFront, IsRefused, IsSpent, Answers, Answered}
+use Rattle.anti_kind.specs.declared.asking.Asking.{Asking}
+use Rattle.anti_ids.specs.Counts.{Rose}
+use Rattle.anti_kind.specs.Records.{IsRecorded, Goes}
+use Rattle.anti_kind.specs.Lones.{Alone, AreOwn, Gives, lone_start, lone_view}
 use Rattle.anti_kind.proofs.Histories.{below_last, held_more, weighs, last_of_follows, legal_more}
 use Rattle.anti_kind.proofs.Bounds.{units}
 
 -- Whether a call is made.
 
-module _ (start : Start) (h : List Entry) (c : Call) (a b n : ℕ) (held_is : a ≡ held h) (owed_is : b ≡ owed start h) (need_is : n ≡ need start h c) (within : a + b + n ≤ MOST_UNITS) where
-  pub it_fits : fits start h c ≡ true
-  it_fits = le-leb (held h + owed start h + need start h c) MOST_UNITS (omega arith)
+module _ (start : Start) (h : List Entry) (q : Asking) (a b n : ℕ) (held_is : a ≡ held h) (owed_is : b ≡ owed start h) (need_is : n ≡ need start h q.call) (within : a + b + n ≤ MOST_UNITS) where
+  it_fits : fits start h q.call ≡ true
+  it_fits = le-leb (held h + owed start h + need start h q.call) MOST_UNITS (omega arith)
 
   -- a call that is ready goes, as long as there are stamps
-  pub goes : (clock : ℕ) → ready start h c ≡ true → max clock (last_stamp h) < 2 ^ 64 - 1 → Goes start h clock c (b + n)
-  goes clock can stamps = record { is_ready = can; fits = it_fits; stamp = stamps; room_is = omega arith }
+  pub goes : ready start h q.call ≡ true → max q.clock (last_stamp h) < 2 ^ 64 - 1 → Goes start h q
+  goes can stamps = record { is_ready = can; fits = it_fits; stamp = stamps }
 
-  pub is_spent : (q : Asking) (last : ℕ) → q.call ≡ c → ready start h c ≡ true → last ≡ max q.clock (last_stamp h) → last ≡ 2 ^ 64 - 1 → IsSpent start h q last
-  is_spent q last is can clock none = record {
-    is_ready = ap (ready start h) is ∙ can;
-    fits = ap (fits start h) is ∙ it_fits;
+  pub is_spent : (last : ℕ) → ready start h q.call ≡ true → last ≡ max q.clock (last_stamp h) → last ≡ 2 ^ 64 - 1 → IsSpent start h q last
+  is_spent last can clock none = record {
+    is_ready = can;
+    fits = it_fits;
     clock_is = clock;
     last = none;
   }
@@ -43,9 +44,9 @@ owed_after start h e sane l f =
     omega (arith, held_more h e, weighs e.reply)
 
 -- the entry of a call that goes follows the history
-pub made_follows : (start : Start) (h : List Entry) (q : Asking) (room place stamp : ℕ) (reply : Reply) → Goes start h q.clock q.call room
-    → place ≡ length h + 1 → stamp ≡ max q.clock (last_stamp h) + 1 → reply ≡ due start h q.call → Follows start h (entry_of q 0 place stamp reply)
-made_follows start h q room place stamp reply goes place_is stamp_is reply_is = record {
+pub made_follows : (start : Start) (h : List Entry) (q : Asking) (seat place stamp : ℕ) (reply : Reply) → Goes start h q
+    → place ≡ length h + 1 → stamp ≡ max q.clock (last_stamp h) + 1 → reply ≡ due start h q.call → Follows start h (entry_of q seat place stamp reply)
+made_follows start h q seat place stamp reply goes place_is stamp_is reply_is = record {
   place = place_is;
   is_ready = goes.is_ready;
   fits = goes.fits;
@@ -54,30 +55,26 @@ made_follows start h q room place stamp reply goes place_is stamp_is reply_is = 
 }
 
 -- the state after it
-pub lone_more : (start : Start) (stands next : List Entry → Type 0) (object last room : ℕ) (old new : Listed Entry) (e : Entry) → IsLone start stands object last old
-    → Follows start old.items e → next (old.items ++ e ∷ []) → e.object ≡ object → e.seat ≡ 0 → room ≡ owed start old.items + need start old.items e.call
-    → new ≡ pushed (reserved old room) e → IsLone start next object e.stamp new
-lone_more start stands next object last room old new e lone f state here seat room_is new_is =
+pub recorded_more : (start : Start) (stands next : List Entry → Type 0) (last room : ℕ) (old new : Listed Entry) (e : Entry) → IsRecorded start stands last old
+    → Follows start old.items e → next (old.items ++ e ∷ []) → room ≡ owed start old.items + need start old.items e.call
+    → new ≡ pushed (reserved old room) e → IsRecorded start next e.stamp new
+recorded_more start stands next last room old new e recorded f state room_is new_is =
     let items_are : new.items ≡ old.items ++ e ∷ [] = ap (λ (l : Listed Entry). l.items) new_is in
     let spare_is : new.spare ≡ max old.spare room - 1 = ap (λ (l : Listed Entry). l.spare) new_is in
-    let less : owed start (old.items ++ e ∷ []) + 1 ≤ owed start old.items + need start old.items e.call = owed_after start old.items e lone.stands_for.sane lone.stands_for.legal f in
+    let less : owed start (old.items ++ e ∷ []) + 1 ≤ owed start old.items + need start old.items e.call = owed_after start old.items e recorded.stands_for.sane recorded.stands_for.legal f in
     record {
       stands_for = record {
-        sane = lone.stands_for.sane;
-        legal = subst (IsLegal start) (sym items_are) (legal_more start old.items e lone.stands_for.legal f);
+        sane = recorded.stands_for.sane;
+        legal = subst (IsLegal start) (sym items_are) (legal_more start old.items e recorded.stands_for.legal f);
         state = subst next (sym items_are) state;
       };
-      numbered = lone.numbered;
-      own = subst (AreOwn object) (sym items_are) (All-push (λ (d : Entry). (d.object ≡ object) × (d.seat ≡ 0)) old.items e lone.own (here, seat));
       last_is = sym (ap last_stamp items_are ∙ last_of_follows start old.items e f);
       room = omega (arith, ap (owed start) items_are);
     }
 
--- the entry as the code writes it
-pub entry_is : (q : Asking) (place stamp : ℕ) (actor : Actor) (reply other : Reply) → actor ≡ named q.actor q.object place → reply ≡ other
-    → record { stamp = stamp; object = q.object; place = place; seat = 0; actor = actor; span = q.span; call = q.call; reply = reply } ≡ entry_of q 0 place stamp other
-entry_is q place stamp actor reply other is same =
-    ap₂ (λ (a : Actor) (r : Reply). record { stamp = stamp; object = q.object; place = place; seat = 0; actor = a; span = q.span; call = q.call; reply = r }) is same
+-- the histories of a port over one object are its own
+pub own_more : (object : ℕ) (h : List Entry) (e : Entry) → AreOwn object h → e.object ≡ object → e.seat ≡ 0 → AreOwn object (h ++ e ∷ [])
+own_more object h e own here seat = All-push (λ (d : Entry). (d.object ≡ object) × (d.seat ≡ 0)) h e own (here, seat)
 
 -- What is answered.
 
@@ -89,22 +86,15 @@ pub whole_front : (h : List Entry) → IsFront h h
 whole_front h = ([], sym (append-nil h))
 
 -- a count in 64 bits that stays at its last value
-pub rises : (before now : ℕ) → before < 2 ^ 64 → now ≡ min (before + 1) (2 ^ 64 - 1) → Rises before now
+pub rises : (before now : ℕ) → before < 2 ^ 64 → now ≡ min (before + 1) (2 ^ 64 - 1) → Rose before now
 rises before now fits is = grind arith
 
 module _ (start : Start) (h : List Entry) (q : Asking) (before now : ℕ) (in_range : before < 2 ^ 64) (is : now ≡ min (before + 1) (2 ^ 64 - 1)) where
   pub refused : IsRefused (sight h before) (sight h now)
   refused = record { front = whole_front h; made = refl; visits = rises before now in_range is }
 
-  pub refused_answers : (answer : Answer) → IsRefusal start h q answer → Answers start q (sight h before) (sight h now) answer
-  refused_answers NotYet cause = (refused, cause)
-  refused_answers (Full a b n) cause = (refused, cause)
-  refused_answers (Spent clock) cause = (refused, cause)
-  refused_answers (Made place stamp reply) cause = absurd cause
-  refused_answers NoMemory cause = absurd cause
-
-  pub made_answers : (new : List Entry) (answer : Answer) → Makes start h q new answer → Answers start q (sight h before) (sight new now) answer
-  made_answers new (Made place stamp reply) makes = (
+  pub given_answers : (new : List Entry) (answer : Answer) → Gives start h q new answer → Answers start q (sight h before) (sight new now) answer
+  given_answers new (Made place stamp reply) makes = (
     h,
     (
       0,
@@ -118,18 +108,14 @@ module _ (start : Start) (h : List Entry) (q : Asking) (before now : ℕ) (in_ra
       },
     ),
   )
-  made_answers new NoMemory makes = record {
-    front = subst (IsFront h) (sym makes) (whole_front h);
-    made = makes;
+  given_answers new NotYet gives = rw gives.0 (refused, gives.1)
+  given_answers new (Full a b n) gives = rw gives.0 (refused, gives.1)
+  given_answers new (Spent clock) gives = rw gives.0 (refused, gives.1)
+  given_answers new NoMemory gives = record {
+    front = subst (IsFront h) (sym gives) (whole_front h);
+    made = gives;
     visits = omega arith;
   }
-  made_answers new NotYet makes = absurd makes
-  made_answers new (Full a b n) makes = absurd makes
-  made_answers new (Spent clock) makes = absurd makes
-
--- want of memory is no refusal
-pub never_wanting : (start : Start) (h : List Entry) (q : Asking) (answer : Answer) → IsRefusal start h q answer → answer ≡ NoMemory → ⊥
-never_wanting start h q answer cause is = subst (IsRefusal start h q) is cause
 
 -- the same in the words of a port
 pub answered : {M : Type 0} (start : M → Start) (a b : Alone M) (q : Asking) → q.object ≡ a.object → b.object ≡ a.object → (answer : Answer)

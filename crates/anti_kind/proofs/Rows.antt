@@ -1,5 +1,6 @@
 -- What a store wrote and shipped: the effect of one entry, the numbers of the rows, and that only what was written was shipped.
 use Rattle.std.proofs.Common.{◌≡◌, ℕ, zero, suc, ◌+◌, ◌<◌, ◌≤◌, Bool, true, false, ◌&&◌, ◌||◌, List, [], ◌∷◌, ◌++◌, length, get_or, Some, None, find, refl, sym, ap, subst, ◌∙◌, append-nil, ◌⊎◌, inl, inr, ⊎_elim, ◌==◌, eq-eqb, ne_eqb, arith, length-append}
+use Rattle.std.specs.Prelude.{Contains}
 use Rattle.std.proofs.lemmas.List.Concat.{flat_map-append}
 use Rattle.std.proofs.lemmas.List.Folds.{list_any-append}
 use Rattle.anti_ids.specs.declared.id.WriteId.{WriteId}
@@ -7,11 +8,12 @@ use Rattle.anti_kind.specs.declared.call.Call.{Call}
 use Rattle.anti_kind.specs.declared.call.Call.TheVariants.{Write, Ship}
 use Rattle.anti_kind.specs.declared.call.Reply.{Reply}
 use Rattle.anti_kind.specs.declared.call.Reply.TheVariants.{Written}
-use Rattle.anti_kind.specs.declared.call.Entry.{Entry}
-use Rattle.anti_kind.specs.declared.call.Row.{Row}
+use Rattle.anti_kind.specs.declared.entry.Entry.{Entry}
+use Rattle.anti_kind.specs.declared.row.Row.{Row}
 use Rattle.anti_kind.specs.Stored.{stored, wrote, rows, row_of, is_ship, is_shipped}
 use Rattle.anti_kind.specs.Store.{Store, over, key_for, store_due}
 use Rattle.anti_kind.specs.Objects.{store, held, Follows, IsLegal}
+use Rattle.anti_kind.specs.Laws.{IsOfWrite, VersionsGrow}
 use Rattle.anti_kind.proofs.Histories.{by_entries, length_held}
 
 abbrev pub is_write : Call → Bool
@@ -104,6 +106,10 @@ rows_numbered s h l = by_entries (store s) (λ h. Numbered 0 (rows h)) tt (numbe
 pub version_at : (s : Store) (h : List Entry) → IsLegal (store s) h → (i : ℕ) (d : Row) → i < length (rows h) → (get_or (rows h) i d).version ≡ i + 1
 version_at s h l i d short = let at : (get_or (rows h) i d).version ≡ 0 + i + 1 = numbered_at 0 (rows h) (rows_numbered s h l) i d short in omega arith
 
+-- so the versions of the rows grow
+pub versions_grow : (s : Store) → VersionsGrow s
+versions_grow s h l i j d less short = omega (arith, version_at s h l i d (omega arith), version_at s h l j d short)
+
 -- Finding a row by its version.
 
 find_at : (n : ℕ) (rs : List Row) → Numbered n rs → (v i : ℕ) (d : Row) → v ≡ n + i + 1 → i < length rs → find (λ r. r.version == v) rs ≡ Some (get_or rs i d)
@@ -126,6 +132,12 @@ row_of_at s h l v i d is short = find_at 0 (rows h) (rows_numbered s h l) v i d 
 pub row_of_none : (s : Store) (h : List Entry) → IsLegal (store s) h → (v : ℕ) → (v ≡ 0) ⊎ (length (rows h) < v) → row_of h v ≡ None
 row_of_none s h l v out =
     find_none 0 (rows h) (rows_numbered s h l) v (⊎_elim (λ (low : v ≡ 0). inl (omega arith)) (λ (high : length (rows h) < v). inr (omega arith)) out)
+
+-- each row is that of its version
+pub row_in : (s : Store) (h : List Entry) → IsLegal (store s) h → (r : Row) → Contains (rows h) r → IsOfWrite h r
+row_in s h l r in' =
+    let number : r.version ≡ in'.0 + 1 = ap (λ (x : Row). x.version) (sym in'.2) ∙ version_at s h l in'.0 r in'.1 in
+    row_of_at s h l r.version in'.0 r number in'.1 ∙ ap Some in'.2
 
 -- Each row is that of an entry.
 

@@ -1,25 +1,19 @@
 -- Only what was written was shipped, and only to replicas.
-use Rattle.std.proofs.Common.{◌≡◌, ℕ, ◌<◌, ◌≤◌, Bool, true, false, not, cond, List, [], ◌∷◌, ◌++◌, length, Option, Some, None, find, refl, sym, ap, ◌∙◌, inl, inr, ⊎_elim, ◌==◌, eqb-true, arith}
-use Rattle.std.proofs.lemmas.Bool.{and_parts, or_cases, cases_lt, false_from_ne_true, not-true}
+use Rattle.std.proofs.Common.{◌≡◌, ℕ, ◌<◌, ◌≤◌, true, false, not, List, [], ◌∷◌, ◌++◌, length, Option, Some, None, refl, sym, ap, ◌∙◌, inl, inr, ⊎_elim, ◌==◌, leb, eqb-true, subst, arith}
+use Rattle.std.proofs.lemmas.Bool.{and_parts, or_cases, cases_lt, leb-true, false_from_ne_true, not-true}
 use Rattle.anti_kind.specs.declared.call.Call.{Call}
 use Rattle.anti_kind.specs.declared.call.Call.TheVariants.{Ship}
-use Rattle.anti_kind.specs.declared.call.Entry.{Entry}
-use Rattle.anti_kind.specs.declared.call.Row.{Row}
-use Rattle.anti_kind.specs.declared.call.StoreKind.{StoreKind}
-use Rattle.anti_kind.specs.Stored.{wrote, rows, row_of, is_ship, is_shipped}
+use Rattle.anti_kind.specs.declared.entry.Entry.{Entry}
+use Rattle.anti_kind.specs.declared.row.Row.{Row}
+use Rattle.anti_kind.specs.declared.store_kind.StoreKind.{StoreKind}
+use Rattle.anti_kind.specs.Stored.{wrote, rows, row_of, parts_of, is_ship, is_shipped}
 use Rattle.anti_kind.specs.Store.{Store, is_replica, has_part, can_ship, store_ready}
 use Rattle.anti_kind.specs.Objects.{store, Follows, IsLegal}
+use Rattle.anti_kind.proofs.Finding.{find_kept}
 use Rattle.anti_kind.proofs.Histories.{by_entries}
 use Rattle.anti_kind.proofs.Rows.{rows_more, shipped_more, row_of_none}
 
 -- A row that is there stays.
-
-find_kept : {X : Type 0} (p : X → Bool) (xs ys : List X) (x : X) → find p xs ≡ Some x → find p (xs ++ ys) ≡ Some x
-find_kept p [] ys x is = absurd (cc)
-find_kept p (y ∷ xs) ys x is = elim (p y) as (λ b. cond b (Some y) (find p xs) ≡ Some x → cond b (Some y) (find p (xs ++ ys)) ≡ Some x) [
-  | true ↦ λ here. here
-  | false ↦ λ later. find_kept p xs ys x later
-] is
 
 pub row_of_kept : (h : List Entry) (e : Entry) (v : ℕ) (r : Row) → row_of h v ≡ Some r → row_of (h ++ e ∷ []) v ≡ Some r
 row_of_kept h e v r is = rw (rows_more h e) (find_kept (λ (x : Row). x.version == v) (rows h) (wrote e.call e.reply) r is)
@@ -27,6 +21,14 @@ row_of_kept h e v r is = rw (rows_more h e) (find_kept (λ (x : Row). x.version 
 pub row_with_part : (kind : StoreKind) (o : Option Row) (p : ℕ) → has_part kind o p ≡ true → (r : Row) × (o ≡ Some r)
 row_with_part kind None p has = absurd (cc)
 row_with_part kind (Some r) p has = (r, refl)
+
+-- and the part is one of its value
+pub part_within : (kind : StoreKind) (o : Option Row) (r : Row) (p : ℕ) → has_part kind o p ≡ true → o ≡ Some r → (1 ≤ p) × (p ≤ parts_of kind r.value)
+part_within kind None r p has is = absurd (cc)
+part_within kind (Some x) r p has is =
+    let same : x ≡ r = cc in
+    let both = and_parts (leb 1 p) (leb p (parts_of kind x.value)) has in
+    (leb-true 1 p both.0, subst (λ (y : Row). p ≤ parts_of kind y.value) same (leb-true p (parts_of kind x.value) both.1))
 
 part_kept : (kind : StoreKind) (h : List Entry) (e : Entry) (v p : ℕ) → has_part kind (row_of h v) p ≡ true → has_part kind (row_of (h ++ e ∷ []) v) p ≡ true
 part_kept kind h e v p has =
@@ -56,7 +58,7 @@ ready_ship s h e g v p f is = ready_shipment s h g v p (ap (λ (c : Call). store
 shipment_kept : (s : Store) (h : List Entry) (e : Entry) (g v p : ℕ) → IsShipment s h g v p → IsShipment s (h ++ e ∷ []) g v p
 shipment_kept s h e g v p was = record { replica = was.replica; part = part_kept s.kind h e v p was.part }
 
-ship_same : (g v p : ℕ) (c : Call) → is_ship g v p c ≡ true → c ≡ Ship g v p
+pub ship_same : (g v p : ℕ) (c : Call) → is_ship g v p c ≡ true → c ≡ Ship g v p
 ship_same g v p (Ship region version part) yes' =
     let first = and_parts (region == g) _ yes' in
     let second = and_parts (version == v) _ first.1 in

@@ -1,18 +1,18 @@
 -- What a region shows: it never falls and is what was written, at each store that shows the greatest version that is whole; and the
 -- row that is shown.
-use Rattle.std.proofs.Common.{◌≡◌, ℕ, ◌+◌, ◌<◌, ◌≤◌, max, Bool, true, false, cond, ◌&&◌, List, [], ◌∷◌, ◌++◌, length, Some, refl, sym, ap, ◌∙◌, ◌⊎◌, inl, inr, ⊎_elim, ◌==◌, eqb-true, eq-eqb, arith}
-use Rattle.std.specs.Prelude.{bytes_eq}
+use Rattle.std.proofs.Common.{◌≡◌, ℕ, zero, suc, get_or, ◌+◌, ◌<◌, ◌≤◌, max, Bool, true, false, cond, ◌&&◌, List, [], ◌∷◌, ◌++◌, length, Some, refl, sym, ap, ◌∙◌, ◌⊎◌, inl, inr, ⊎_elim, ◌==◌, eqb-true, eq-eqb, arith}
+use Rattle.std.specs.Prelude.{bytes_eq, Contains}
 use Rattle.std.specs.List.{list_any, Any}
 use Rattle.std.proofs.lemmas.List.Concat.{flat_map-append}
 use Rattle.std.proofs.lemmas.List.Folds.{list_any-append, Any-from_list_any}
 use Rattle.std.proofs.lemmas.List.Sums.{AllPass-from_list_all, list_all-from_AllPass}
-use Rattle.std.proofs.lemmas.List.Elements.{All-weaker}
+use Rattle.std.proofs.lemmas.List.Elements.{All-weaker, Contains-append_right}
 use Rattle.std.proofs.lemmas.Slice.Eq.{bytes_eq-Decides}
 use Rattle.std.proofs.lemmas.Bool.{and_parts, and_from, or_left, or_right, cases_lt}
 use Rattle.anti_ids.specs.declared.id.WriteId.{WriteId}
-use Rattle.anti_kind.specs.declared.call.Entry.{Entry}
-use Rattle.anti_kind.specs.declared.call.Row.{Row}
-use Rattle.anti_kind.specs.declared.call.StoreKind.{StoreKind}
+use Rattle.anti_kind.specs.declared.entry.Entry.{Entry}
+use Rattle.anti_kind.specs.declared.row.Row.{Row}
+use Rattle.anti_kind.specs.declared.store_kind.StoreKind.{StoreKind}
 use Rattle.anti_kind.specs.Stored.{wrote, rows, row_of, is_ship, is_shipped, is_whole, parts, greatest, shows_of}
 use Rattle.anti_kind.specs.Store.{Store, is_written, absent, or_absent, shown_row}
 use Rattle.anti_kind.specs.Objects.{store, IsLegal}
@@ -39,6 +39,12 @@ whole_stays kind h rest g r was =
     list_all-from_AllPass (λ p. is_shipped (h ++ rest) g r.version p) (parts kind r)
     (All-weaker (λ (p : ℕ). is_shipped h g r.version p ≡ true) (λ (p : ℕ). is_shipped (h ++ rest) g r.version p ≡ true) (λ p. shipped_stays h rest g r.version p) (parts kind r)
     (AllPass-from_list_all (λ p. is_shipped h g r.version p) (parts kind r) was))
+
+pub written_stays : (h rest : List Entry) (id : WriteId) → is_written h id ≡ true → is_written (h ++ rest) id ≡ true
+written_stays h rest id was =
+    ap (list_any (λ (r : Row). (r.version == id.version) && bytes_eq r.key id.key)) (rows-append h rest)
+    ∙ list_any-append (λ (r : Row). (r.version == id.version) && bytes_eq r.key id.key) (rows h) (rows rest)
+    ∙ or_left (is_written h id) _ was
 
 -- The greatest version only grows with the rows and with what passes.
 
@@ -85,6 +91,32 @@ greatest_among test k (r ∷ rs) =
     (λ (new : (bytes_eq r.key k && test r ≡ true) × (max (cond (bytes_eq r.key k && test r) r.version 0) (greatest test k rs) ≡ r.version)).
     inr (or_left _ _ (and_from _ (bytes_eq r.key k) (eq-eqb r.version _ (sym new.1)) (and_parts (bytes_eq r.key k) (test r) new.0).0)))
     (larger (bytes_eq r.key k && test r) r.version (greatest test k rs))
+
+-- and where there is one, it passes the test
+pub record IsGreatest (test : Row → Bool) (k : List ℕ) (rs : List Row) (r : Row) : Type 0 where
+  pub here : Contains rs r
+  pub version : r.version ≡ greatest test k rs
+  pub key : r.key ≡ k
+  pub passes : test r ≡ true
+
+pub greatest_passes : (test : Row → Bool) (k : List ℕ) (rs : List Row) → 1 ≤ greatest test k rs → (r : Row) × IsGreatest test k rs r
+greatest_passes test k [] some = absurd (omega arith)
+greatest_passes test k (r ∷ rs) some =
+    ⊎_elim
+    (λ (stays : max (cond (bytes_eq r.key k && test r) r.version 0) (greatest test k rs) ≡ greatest test k rs).
+    let found : (x : Row) × IsGreatest test k rs x = greatest_passes test k rs (omega arith) in
+    (found.0, record { here = Contains-append_right (r ∷ []) rs found.0 found.1.here; version = found.1.version ∙ sym stays; key = found.1.key; passes = found.1.passes }))
+    (λ (new : (bytes_eq r.key k && test r ≡ true) × (max (cond (bytes_eq r.key k && test r) r.version 0) (greatest test k rs) ≡ r.version)).
+    let both = and_parts (bytes_eq r.key k) (test r) new.0 in
+    (r, record { here = (0, omega arith, refl); version = sym new.1; key = bytes_same r.key k both.0; passes = both.1 }))
+    (larger (bytes_eq r.key k && test r) r.version (greatest test k rs))
+
+-- it is at least that of each row with the key that passes
+pub greatest_least : (test : Row → Bool) (k : List ℕ) (rs : List Row) (i : ℕ) (d : Row) → i < length rs → bytes_eq (get_or rs i d).key k ≡ true → test (get_or rs i d) ≡ true → (get_or rs i d).version ≤ greatest test k rs
+greatest_least test k [] i d short same on = absurd (omega arith)
+greatest_least test k (r ∷ rs) zero d short same on =
+    let here : cond (bytes_eq r.key k && test r) r.version 0 ≡ r.version = ap (λ (b : Bool). cond b r.version 0) (and_from (bytes_eq r.key k) (test r) same on) in omega arith
+greatest_least test k (r ∷ rs) (suc i) d short same on = let rest : (get_or rs i d).version ≤ greatest test k rs = greatest_least test k rs i d (omega arith) same on in omega arith
 
 pub shows_written : (s : Store) → s.shows ≡ shows_of s.kind → ShowsWritten s
 shows_written s is h l g k = rw is (greatest_among (is_whole s.kind h g) k (rows h))

@@ -1,23 +1,22 @@
 -- The units of a store: what each call does to what is reserved.
-use Rattle.std.proofs.Common.{◌≡◌, ℕ, ◌+◌, ◌-◌, ◌*◌, ◌<◌, ◌≤◌, Bool, true, false, not, ◌&&◌, ◌||◌, List, [], ◌∷◌, ◌++◌, length, get_or, Option, Some, None, AllPairs, Any, sum_by, refl, sym, ap, ap₂, subst, ◌∙◌, ◌⊎◌, ⊎_elim, ◌==◌, leb, eq-eqb, ne_eqb, eqb-true, arith}
+use Rattle.std.proofs.Common.{◌≡◌, ℕ, ◌+◌, ◌-◌, ◌*◌, ◌<◌, ◌≤◌, Bool, true, false, not, ◌&&◌, ◌||◌, List, [], ◌∷◌, ◌++◌, length, get_or, AllPairs, Any, sum_by, refl, sym, ap, ap₂, ◌∙◌, ◌⊎◌, ⊎_elim, ◌==◌, eq-eqb, ne_eqb, eqb-true, arith}
 use Rattle.std.specs.List.{range_with_len}
 use Rattle.std.proofs.lemmas.List.{get_or_default}
 use Rattle.std.proofs.lemmas.List.FromFn.{get_or-range_with_len, length-range_with_len}
 use Rattle.std.proofs.lemmas.List.Folds.{Any-from_list_any}
 use Rattle.std.proofs.lemmas.List.Sums.{sum_by_push}
-use Rattle.std.proofs.lemmas.Bool.{leb-true, and_parts, cases_order, and_left, and_right}
+use Rattle.std.proofs.lemmas.Bool.{cases_order, and_left, and_right}
 use Rattle.anti_ids.specs.declared.id.WriteId.{WriteId}
 use Rattle.anti_kind.specs.declared.call.Call.TheVariants.{Write, Ship}
-use Rattle.anti_kind.specs.declared.call.Actor.TheVariants.{Newborn}
+use Rattle.anti_kind.specs.declared.actor.Actor.TheVariants.{Newborn}
 use Rattle.anti_kind.specs.declared.call.Reply.TheVariants.{Moved}
-use Rattle.anti_kind.specs.declared.call.Entry.{Entry}
-use Rattle.anti_kind.specs.declared.call.Row.{Row}
-use Rattle.anti_kind.specs.declared.call.StoreKind.{StoreKind}
+use Rattle.anti_kind.specs.declared.entry.Entry.{Entry}
+use Rattle.anti_kind.specs.declared.row.Row.{Row}
 use Rattle.anti_kind.specs.Stored.{rows, row_of, is_shipped, parts_of, parts}
-use Rattle.anti_kind.specs.Store.{Store, is_replica, has_part, owed_at, owed_shipments, store_ready}
+use Rattle.anti_kind.specs.Store.{Store, is_replica, owed_at, owed_shipments, store_ready}
 use Rattle.anti_kind.specs.Objects.{store, Follows, IsLegal, IsStore}
 use Rattle.anti_kind.proofs.Rows.{is_write, is_shipping, new_row, or_false, rows_other, rows_write, shipped_other, shipped_ship, version_at, row_of_at}
-use Rattle.anti_kind.proofs.Shipped.{IsReadyShipment, ready_ship, ready_shipment, version_within, never_shipped}
+use Rattle.anti_kind.proofs.Shipped.{IsReadyShipment, ready_ship, ready_shipment, part_within, version_within, never_shipped}
 use Rattle.anti_kind.proofs.Sums.{sum_same, sum_one_less, count_same, count_one_less, count_all, sum_equal}
 
 -- what is owed of rows at regions depends on what was shipped alone
@@ -115,13 +114,6 @@ module _ (s : Store) (h : List Entry) (e : Entry) (g v p : ℕ) (is : e.call ≡
       sum_same (owed_at s h r) (owed_at s (h ++ e ∷ []) r) s.regions (λ j d within.
       count_same (λ q. not (is_shipped h (get_or s.regions j d) r.version q)) (λ q. not (is_shipped (h ++ e ∷ []) (get_or s.regions j d) r.version q)) (parts s.kind r)
       (λ n f in'. ap not (sym (other_version (get_or s.regions j d) r.version (get_or (parts s.kind r) n f) differs))))
-
-part_within : (kind : StoreKind) (o : Option Row) (r : Row) (p : ℕ) → has_part kind o p ≡ true → o ≡ Some r → (1 ≤ p) × (p ≤ parts_of kind r.value)
-part_within kind None r p has is = absurd (cc)
-part_within kind (Some x) r p has is =
-    let same : x ≡ r = cc in
-    let both = and_parts (leb 1 p) (leb p (parts_of kind x.value)) has in
-    (leb-true 1 p both.0, subst (λ (y : Row). p ≤ parts_of kind y.value) same (leb-true p (parts_of kind x.value) both.1))
 
 settles_one : (s : Store) (h : List Entry) (e : Entry) (g v p : ℕ) → IsStore s → IsLegal (store s) h → IsReadyShipment s h g v p → e.call ≡ Ship g v p
     → owed_shipments s h ≡ owed_shipments s (h ++ e ∷ []) + 1

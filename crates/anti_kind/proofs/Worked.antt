@@ -1,25 +1,25 @@
 -- The tables at work: short runs of each kind of store and of an inbox, replayed by computation.
-use Rattle.std.specs.Prelude.{◌≡◌, ℕ, ◌+◌, Bool, true, false, ◌&&◌, List, [], ◌∷◌, ◌++◌, length, map, replicate, refl}
+use Rattle.std.specs.Prelude.{◌≡◌, ℕ, ◌+◌, Bool, true, false, ◌&&◌, List, [], ◌∷◌, ◌++◌, length, take, map, replicate, Some, None, refl}
 use Rattle.std.specs.Fmt.{digits}
 use Rattle.anti_ids.specs.List.{plain}
 use Rattle.anti_ids.specs.declared.id.WriteId.{WriteId}
-use Rattle.anti_kind.specs.declared.call.Actor.TheVariants.{Carrier}
+use Rattle.anti_kind.specs.declared.actor.Actor.TheVariants.{Carrier}
 use Rattle.anti_kind.specs.declared.call.Call.{Call}
 use Rattle.anti_kind.specs.declared.call.Call.TheVariants.{Write, Read, Scan, Poll, Look, Ship, Again, Pull, Repull, Ack, Nack, Post, Take, Repost, TakeReply}
 use Rattle.anti_kind.specs.declared.call.Reply.{Reply}
 use Rattle.anti_kind.specs.declared.call.Reply.TheVariants.{Written, Shown, Missing, Moved, Pulled, Posted, Got, Done}
-use Rattle.anti_kind.specs.declared.call.Entry.{Entry}
-use Rattle.anti_kind.specs.declared.call.Message.{Message}
-use Rattle.anti_kind.specs.declared.call.MessageKind.TheVariants as kinds
-use Rattle.anti_kind.specs.declared.call.Row.{Row}
-use Rattle.anti_kind.specs.declared.call.StoreKind.TheVariants.{Kv, Table, Blob, Queue, Topic}
+use Rattle.anti_kind.specs.declared.entry.Entry.{Entry}
+use Rattle.anti_kind.specs.declared.message.Message.{Message}
+use Rattle.anti_kind.specs.declared.message.MessageKind.TheVariants as kinds
+use Rattle.anti_kind.specs.declared.row.Row.{Row}
+use Rattle.anti_kind.specs.declared.store_kind.StoreKind.TheVariants.{Kv, Table, Blob, Queue, Topic}
 use Rattle.anti_kind.specs.Stored.{parts_of, upto_of}
-use Rattle.anti_kind.specs.Store.{store_of, kv_store, is_visible}
+use Rattle.anti_kind.specs.Store.{store_of, kv_store, table_store, is_visible}
 use Rattle.anti_kind.specs.Inbox.{free}
 use Rattle.anti_kind.specs.Laws.{speaks_of, shown, KeepsLaws}
 use Rattle.anti_kind.specs.Fulls.{is_asking}
 use Rattle.anti_kind.proofs.Keeping.{keeps_laws}
-use Rattle.anti_kind.specs.Objects.{Start, store, inbox, ready, due, need, held, owed, fits, last_stamp}
+use Rattle.anti_kind.specs.Objects.{Start, store, inbox, ready, due, need, held, owed, next_ship, fits, last_stamp}
 
 -- the entry that a carrier's call makes
 abbrev made : Start → List Entry → Call → Entry
@@ -138,6 +138,12 @@ table_goes = refl
 table_replies : replies table table_calls ≡ (Written (114 ∷ 111 ∷ 119 ∷ 45 ∷ 98 ∷ []) 1 ∷ Written (114 ∷ 111 ∷ 119 ∷ 45 ∷ 98 ∷ []) 2 ∷ Written (114 ∷ 111 ∷ 119 ∷ 45 ∷ 97 ∷ []) 3 ∷ Moved ∷ Shown (plain ((record { key = (114 ∷ 111 ∷ 119 ∷ 45 ∷ 98 ∷ []); version = 1; value = (49 ∷ []); lineage = [] }) ∷ [])) ∷ Moved ∷ Moved ∷ Shown (plain ((record { key = (114 ∷ 111 ∷ 119 ∷ 45 ∷ 97 ∷ []); version = 3; value = (120 ∷ []); lineage = ((record { store = 0; key = (114 ∷ 111 ∷ 119 ∷ 45 ∷ 98 ∷ []); version = 1 }) ∷ (record { store = 0; key = (114 ∷ 111 ∷ 119 ∷ 45 ∷ 98 ∷ []); version = 2 }) ∷ []) }) ∷ (record { key = (114 ∷ 111 ∷ 119 ∷ 45 ∷ 98 ∷ []); version = 2; value = (50 ∷ []); lineage = ((record { store = 0; key = (114 ∷ 111 ∷ 119 ∷ 45 ∷ 98 ∷ []); version = 1 }) ∷ []) }) ∷ [])) ∷ [])
 table_replies = refl
 
+table_next : map (λ h. next_ship table h 0) (after table [] table_writes ∷ after table [] (take 4 table_calls) ∷ after table [] table_calls ∷ []) ≡ Some (1, 1) ∷ Some (2, 1) ∷ None ∷ []
+table_next = refl
+
+table_next_elsewhere : next_ship table (after table [] table_writes) 1 ≡ None
+table_next_elsewhere = refl
+
 table_held : held (after table [] table_calls) ≡ 9
 table_held = refl
 
@@ -175,6 +181,9 @@ blob_goes = refl
 
 blob_replies : replies blob blob_calls ≡ (Written (107 ∷ []) 1 ∷ Moved ∷ Shown (plain ((record { key = (107 ∷ []); version = 0; value = ([]); lineage = [] }) ∷ [])) ∷ Moved ∷ Shown (plain ((record { key = (107 ∷ []); version = 0; value = ([]); lineage = [] }) ∷ [])) ∷ Moved ∷ Shown (plain ((record { key = (107 ∷ []); version = 0; value = ([]); lineage = [] }) ∷ [])) ∷ Moved ∷ Shown (plain (record { key = (107 ∷ []); version = 1; value = big; lineage = [] } ∷ [])) ∷ [])
 blob_replies = refl
+
+blob_next : map (λ h. next_ship blob h 0) (after blob [] (take 1 blob_calls) ∷ after blob [] (take 4 blob_calls) ∷ after blob [] blob_calls ∷ []) ≡ Some (1, 1) ∷ Some (1, 2) ∷ None ∷ []
+blob_next = refl
 
 blob_owed : owed blob (after blob [] (write_big ∷ Ship 0 1 4 ∷ [])) ≡ 3
 blob_owed = refl
@@ -391,19 +400,22 @@ served_no_repost = refl
 served_no_answer : ready served (after served [] served_calls) (Post (record answer { to = 3 })) ≡ false
 served_no_answer = refl
 
--- The laws, of each kind of store that is no table.
+-- The laws, of each kind of store.
 
 laws_kv : KeepsLaws (kv_store 0 (0 ∷ 1 ∷ []))
-laws_kv = keeps_laws (kv_store 0 (0 ∷ 1 ∷ [])) refl refl
+laws_kv = keeps_laws (kv_store 0 (0 ∷ 1 ∷ [])) refl
+
+laws_table : KeepsLaws (table_store 4 (0 ∷ 1 ∷ []))
+laws_table = keeps_laws (table_store 4 (0 ∷ 1 ∷ [])) refl
 
 laws_blob : KeepsLaws (store_of Blob 1 (0 ∷ []) [] 0)
-laws_blob = keeps_laws (store_of Blob 1 (0 ∷ []) [] 0) refl refl
+laws_blob = keeps_laws (store_of Blob 1 (0 ∷ []) [] 0) refl
 
 laws_queue : KeepsLaws (store_of Queue 2 (0 ∷ []) [] 3)
-laws_queue = keeps_laws (store_of Queue 2 (0 ∷ []) [] 3) refl refl
+laws_queue = keeps_laws (store_of Queue 2 (0 ∷ []) [] 3) refl
 
 laws_topic : KeepsLaws (store_of Topic 3 (0 ∷ []) [] 0)
-laws_topic = keeps_laws (store_of Topic 3 (0 ∷ []) [] 0) refl refl
+laws_topic = keeps_laws (store_of Topic 3 (0 ∷ []) [] 0) refl
 
 -- A write whose lineage names a version that comes after it: a read then shows it without that version.
 

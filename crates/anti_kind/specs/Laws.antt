@@ -1,15 +1,15 @@
 -- The laws of a store's kind: what can be relied on at every store, whatever its table says and whatever its regions show.
-use Rattle.std.specs.Prelude.{◌≡◌, ℕ, ◌≤◌, ◌⊎◌, ◌↔◌, Bool, true, false, List, [], ◌∷◌, ◌++◌, length, take, ◌==◌, bytes_eq, All, Contains}
+use Rattle.std.specs.Prelude.{◌≡◌, ℕ, ◌<◌, ◌≤◌, ◌⊎◌, ◌↔◌, Bool, true, false, List, [], ◌∷◌, ◌++◌, length, take, ◌==◌, bytes_eq, All, AllPairs, Contains, None, Some}
 use Rattle.anti_ids.specs.declared.id.WriteId.{WriteId}
 use Rattle.anti_kind.specs.declared.call.Call.{Call}
-use Rattle.anti_kind.specs.declared.call.Call.TheVariants.{Read, Scan, Poll, Look}
+use Rattle.anti_kind.specs.declared.call.Call.TheVariants.{Read, Scan, Poll, Look, Ship, Again}
 use Rattle.anti_kind.specs.declared.call.Reply.{Reply}
-use Rattle.anti_kind.specs.declared.call.Reply.TheVariants.{Shown, Missing}
-use Rattle.anti_kind.specs.declared.call.Entry.{Entry}
-use Rattle.anti_kind.specs.declared.call.Row.{Row}
-use Rattle.anti_kind.specs.Stored.{stored}
-use Rattle.anti_kind.specs.Store.{Store, is_visible, is_written, shown_row}
-use Rattle.anti_kind.specs.Objects.{store, ready, due, IsLegal}
+use Rattle.anti_kind.specs.declared.call.Reply.TheVariants.{Shown, Missing, Pulled}
+use Rattle.anti_kind.specs.declared.entry.Entry.{Entry}
+use Rattle.anti_kind.specs.declared.row.Row.{Row}
+use Rattle.anti_kind.specs.Stored.{stored, rows, row_of}
+use Rattle.anti_kind.specs.Store.{Store, is_visible, is_written, absent, shown_row}
+use Rattle.anti_kind.specs.Objects.{store, ready, due, next_ship, IsLegal}
 
 -- What a region shows for a key never falls as a legal history grows.
 abbrev pub NeverFalls : Store → Type 0
@@ -82,6 +82,10 @@ abbrev pub OwnAfter : Store → List Entry → List Entry → Type 0
 OwnAfter s h [] = Unit {0}
 OwnAfter s h (e ∷ rest) = IsOwn s h e × OwnAfter s (h ++ e ∷ []) rest
 
+-- of the store itself, the lineages that a history stores hold only ids that were written before
+abbrev pub OwnIdsWritten : Store → List Entry → Type 0
+OwnIdsWritten s h = (before : List Entry) (e : Entry) (after : List Entry) → h ≡ before ++ e ∷ after → IsOwn s before e
+
 -- of each key that the read speaks of, the region shows at least the version that the row's lineage has
 abbrev pub IsTogether : Store → List Entry → ℕ → Call → Row → Type 0
 IsTogether s h g c r = All (λ id. id.store ≡ s.number → speaks_of id.key c ≡ true → is_visible s h g id ≡ true) r.lineage
@@ -90,6 +94,53 @@ IsTogether s h g c r = All (λ id. id.store ≡ s.number → speaks_of id.key c 
 abbrev pub ReadsTogether : Store → Type 0
 ReadsTogether s = (h : List Entry) (g : ℕ) (c : Call) → IsReading s h g c → OwnAfter s [] h → All (IsTogether s h g c) (shown (due (store s) h c))
 
+-- Rows.
+
+-- the row is that of a write of the history
+abbrev pub IsOfWrite : List Entry → Row → Type 0
+IsOfWrite h r = row_of h r.version ≡ Some r
+
+-- what a reply hands out: a read shows rows of writes, or that a key has none; a pull gives the row of a write
+abbrev pub AreSourced : List Entry → Reply → Type 0
+AreSourced h (Shown list) = All (λ r. (r ≡ absent r.key) ⊎ IsOfWrite h r) list.items
+AreSourced h (Pulled r) = IsOfWrite h r
+AreSourced h reply = Unit {0}
+
+-- Each row that a ready call hands out is that of a write, with its key, its value and the lineage that is kept beside it.
+abbrev pub RowsHaveSources : Store → Type 0
+RowsHaveSources s = (h : List Entry) (c : Call) → IsLegal (store s) h → ready (store s) h c ≡ true → AreSourced h (due (store s) h c)
+
+-- The versions of the writes grow in the order in which they were made.
+abbrev pub VersionsGrow : Store → Type 0
+VersionsGrow s = (h : List Entry) → IsLegal (store s) h → AllPairs (λ x y. x.version < y.version) (rows h)
+
+-- Regions and ids.
+
+-- the region that a call names is that of a replica, and the ids of a look are of the store itself
+abbrev pub NamesOwn : Store → Call → Type 0
+NamesOwn s (Read region key) = Contains s.regions region
+NamesOwn s (Scan region prefix) = Contains s.regions region
+NamesOwn s (Poll region key) = Contains s.regions region
+NamesOwn s (Look region ids dry) = Contains s.regions region × All (λ id. id.store ≡ s.number) ids
+NamesOwn s (Ship region version part) = Contains s.regions region
+NamesOwn s (Again region version part) = Contains s.regions region
+NamesOwn s c = Unit {0}
+
+-- A ready call names the store's own.
+abbrev pub CallsNameOwn : Store → Type 0
+CallsNameOwn s = (h : List Entry) (c : Call) → IsLegal (store s) h → ready (store s) h c ≡ true → NamesOwn s c
+
+-- The next shipment.
+
+-- The shipment that is named as the next to a region is ready.
+abbrev pub NextIsReady : Store → Type 0
+NextIsReady s = (h : List Entry) (g v p : ℕ) → next_ship (store s) h g ≡ Some (v, p) → ready (store s) h (Ship g v p) ≡ true
+
+-- Where none is named, none to that region is ready.
+abbrev pub NoneIsReady : Store → Type 0
+NoneIsReady s =
+    (h : List Entry) (g : ℕ) → IsLegal (store s) h → next_ship (store s) h g ≡ None → (v p : ℕ) → ready (store s) h (Ship g v p) ≡ false
+
 -- The laws together.
 pub record KeepsLaws (s : Store) : Type 0 where
   pub never_falls : NeverFalls s
@@ -97,3 +148,6 @@ pub record KeepsLaws (s : Store) : Type 0 where
   pub looks_right : LooksRight s
   pub reads_right : ReadsRight s
   pub reads_together : ReadsTogether s
+  pub rows_have_sources : RowsHaveSources s
+  pub versions_grow : VersionsGrow s
+  pub calls_name_own : CallsNameOwn s

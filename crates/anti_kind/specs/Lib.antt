@@ -5,4 +5,5 @@ pub mod Objects
 pub mod Laws
 pub mod Fulls
 pub mod Ports
+pub mod Records
 pub mod Lones

@@ -1,12 +1,13 @@
 -- A port over one object, on one thread.
-use Rattle.std.specs.Prelude.{◌≡◌, ℕ, ◌+◌, ◌-◌, ◌^◌, ◌<◌, ◌≤◌, max, cond, ◌==◌, true, false, List, [], ◌∷◌, ◌++◌, All, Option, None, Some}
-use Rattle.anti_ids.specs.List.{Listed}
-use Rattle.anti_kind.specs.declared.call.Call.{Call}
-use Rattle.anti_kind.specs.declared.call.Entry.{Entry}
+use Rattle.std.specs.Prelude.{◌≡◌, ℕ, ◌+◌, max, cond, ◌==◌, false, List, [], ◌∷◌, ◌++◌, All, Option, None, Some}
+use Rattle.anti_kind.specs.declared.asking.Asking.{Asking}
+use Rattle.anti_kind.specs.declared.entry.Entry.{Entry}
 use Rattle.anti_kind.specs.declared.port.Answer.{Answer}
 use Rattle.anti_kind.specs.declared.port.Answer.TheVariants.{Made, NotYet, Full, Spent, NoMemory}
-use Rattle.anti_kind.specs.Objects.{Start, store, inbox, ready, need, owed, fits, last_stamp, Follows, StandsFor}
-use Rattle.anti_kind.specs.Ports.{View, Asking, entry_of, IsFull, IsSpent}
+use Rattle.anti_kind.specs.declared.recorded.Refusal.{Refusal}
+use Rattle.anti_kind.specs.declared.recorded.Refusal.TheVariants as refusals
+use Rattle.anti_kind.specs.Objects.{Start, store, inbox, ready, last_stamp, Follows}
+use Rattle.anti_kind.specs.Ports.{View, entry_of, IsFull, IsSpent}
 
 -- What is seen of such a port: the number of its object, the object's state, the calls that were made on it, and how many calls
 -- came to it.
@@ -33,32 +34,22 @@ IsNumbered (inbox requests) object = Unit {0}
 abbrev pub AreOwn : ℕ → List Entry → Type 0
 AreOwn object h = All (λ e. (e.object ≡ object) × (e.seat ≡ 0)) h
 
--- The state stands for the history, and the history has room for all entries that units are reserved for.
-pub record IsLone (start : Start) (stands : List Entry → Type 0) (object last : ℕ) (history : Listed Entry) : Type 0 where
-  pub stands_for : StandsFor start stands history.items
+-- The object's number is that of its start, and its history is its own.
+pub record IsLone (start : Start) (object : ℕ) (history : List Entry) : Type 0 where
   pub numbered : IsNumbered start object
-  pub own : AreOwn object history.items
-  pub last_is : last ≡ last_stamp history.items
-  pub room : owed start history.items ≤ history.spare
+  pub own : AreOwn object history
 
--- A call can be made: it is ready and fits, and there is a stamp after the two clocks. The room is that of its entry and of all
--- those that units are then reserved for.
-pub record Goes (start : Start) (h : List Entry) (clock : ℕ) (c : Call) (room : ℕ) : Type 0 where
-  pub is_ready : ready start h c ≡ true
-  pub fits : fits start h c ≡ true
-  pub stamp : max clock (last_stamp h) < 2 ^ 64 - 1
-  pub room_is : room ≡ owed start h + need start h c
+-- the answer of a refusal
+abbrev pub answer_of : Refusal → Answer
+answer_of refusals.NotYet = NotYet
+answer_of (refusals.Full held owed need) = Full held owed need
+answer_of (refusals.Spent clock) = Spent clock
 
--- A call is refused, and the answer has its cause in the history h.
-abbrev pub IsRefusal : Start → List Entry → Asking → Answer → Type 0
-IsRefusal start h q NotYet = ready start h q.call ≡ false
-IsRefusal start h q (Full a b n) = IsFull start h q.call a b n
-IsRefusal start h q (Spent clock) = IsSpent start h q clock
-IsRefusal start h q _ = ⊥
-
--- What a call that can be made does and answers: the history h becomes a new one.
-abbrev pub Makes : Start → List Entry → Asking → List Entry → Answer → Type 0
-Makes start h q new (Made place stamp reply) =
+-- What is answered where the history h has become a new one: the entry that was made, or the cause why none was.
+abbrev pub Gives : Start → List Entry → Asking → List Entry → Answer → Type 0
+Gives start h q new (Made place stamp reply) =
     Follows start h (entry_of q 0 place stamp reply) × (stamp ≡ max q.clock (last_stamp h) + 1) × (new ≡ h ++ entry_of q 0 place stamp reply ∷ [])
-Makes start h q new NoMemory = new ≡ h
-Makes start h q new _ = ⊥
+Gives start h q new NotYet = (new ≡ h) × (ready start h q.call ≡ false)
+Gives start h q new (Full a b n) = (new ≡ h) × IsFull start h q.call a b n
+Gives start h q new (Spent clock) = (new ≡ h) × IsSpent start h q clock
+Gives start h q new NoMemory = new ≡ h

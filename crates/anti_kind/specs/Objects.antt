@@ -1,18 +1,18 @@
 -- Objects: a store or an inbox, what it starts as, and which histories are legal from there.
-use Rattle.std.specs.Prelude.{◌≡◌, ℕ, ◌+◌, ◌<◌, ◌≤◌, max, Bool, true, List, [], ◌∷◌, ◌++◌, length, nat_le, All, AllPairs, Contains, sum_by}
+use Rattle.std.specs.Prelude.{◌≡◌, ℕ, ◌+◌, ◌<◌, ◌≤◌, max, Bool, true, List, [], ◌∷◌, ◌++◌, length, nat_le, All, AllPairs, Contains, Option, None, sum_by}
 use Rattle.anti_ids.specs.Names.{is_plain}
-use Rattle.anti_kind.specs.declared.limits.TheConstants.{MOST_UNITS, MOST_REGIONS, MOST_TRIES, MOST_REQUESTS}
+use Rattle.anti_ids.specs.declared.limits.TheConstants.{MOST_UNITS, MOST_REGIONS, MOST_TRIES, MOST_REQUESTS}
 use Rattle.anti_kind.specs.declared.call.Call.{Call}
 use Rattle.anti_kind.specs.declared.call.Call.TheVariants.{Ship}
 use Rattle.anti_kind.specs.declared.call.Reply.{Reply}
 use Rattle.anti_kind.specs.declared.call.Reply.TheVariants.{Shown}
-use Rattle.anti_kind.specs.declared.call.Entry.{Entry}
-use Rattle.anti_kind.specs.declared.call.Message.{Message}
-use Rattle.anti_kind.specs.declared.call.MessageKind.TheVariants as kinds
-use Rattle.anti_kind.specs.declared.call.StoreKind.{StoreKind}
-use Rattle.anti_kind.specs.declared.call.StoreKind.TheVariants.{Queue}
+use Rattle.anti_kind.specs.declared.entry.Entry.{Entry}
+use Rattle.anti_kind.specs.declared.message.Message.{Message}
+use Rattle.anti_kind.specs.declared.message.MessageKind.TheVariants as kinds
+use Rattle.anti_kind.specs.declared.store_kind.StoreKind.{StoreKind}
+use Rattle.anti_kind.specs.declared.store_kind.StoreKind.TheVariants.{Queue}
 use Rattle.anti_kind.specs.Stored.{upto_of}
-use Rattle.anti_kind.specs.Store.{Store, store_ready, store_due, store_need, store_owed}
+use Rattle.anti_kind.specs.Store.{Store, next_shipment, store_ready, store_due, store_need, store_owed}
 use Rattle.anti_kind.specs.Inbox.{inbox_ready, inbox_due, inbox_need, inbox_owed}
 
 -- what an object starts as
@@ -51,6 +51,11 @@ owed (inbox requests) h = inbox_owed requests h
 abbrev pub upto : Start → List Entry → ℕ → ℕ
 upto (store s) h g = upto_of s.kind h g
 upto (inbox requests) h g = 0
+
+-- the next shipment to a region, its version and its part
+abbrev pub next_ship : Start → List Entry → ℕ → Option (ℕ × ℕ)
+next_ship (store s) h g = next_shipment s h g
+next_ship (inbox requests) h g = None
 
 abbrev pub fits : Start → List Entry → Call → Bool
 fits start h c = nat_le (held h + owed start h + need start h c) MOST_UNITS

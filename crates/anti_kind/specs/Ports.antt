@@ -1,11 +1,13 @@
 -- A port: some objects, and what a call on one of them does and answers.
-use Rattle.std.specs.Prelude.{◌≡◌, ℕ, ◌+◌, ◌-◌, ◌^◌, ◌<◌, ◌≤◌, ◌⊎◌, max, true, false, List, [], ◌∷◌, ◌++◌, Option, None, Some}
-use Rattle.anti_kind.specs.declared.limits.TheConstants.{MOST_UNITS}
-use Rattle.anti_kind.specs.declared.call.Actor.{Actor}
-use Rattle.anti_kind.specs.declared.call.Actor.TheVariants.{Process, Newborn}
+use Rattle.std.specs.Prelude.{◌≡◌, ℕ, ◌+◌, ◌-◌, ◌^◌, ◌<◌, ◌≤◌, max, true, false, List, [], ◌∷◌, ◌++◌, Option, None, Some}
+use Rattle.anti_ids.specs.declared.limits.TheConstants.{MOST_UNITS}
+use Rattle.anti_ids.specs.Counts.{Rose}
+use Rattle.anti_kind.specs.declared.asking.Asking.{Asking}
+use Rattle.anti_kind.specs.declared.actor.Actor.{Actor}
+use Rattle.anti_kind.specs.declared.actor.Actor.TheVariants.{Process, Newborn}
 use Rattle.anti_kind.specs.declared.call.Call.{Call}
 use Rattle.anti_kind.specs.declared.call.Reply.{Reply}
-use Rattle.anti_kind.specs.declared.call.Entry.{Entry}
+use Rattle.anti_kind.specs.declared.entry.Entry.{Entry}
 use Rattle.anti_kind.specs.declared.port.Answer.{Answer}
 use Rattle.anti_kind.specs.declared.port.Answer.TheVariants.{Made, NotYet, Full, Spent, NoMemory}
 use Rattle.anti_kind.specs.Objects.{Start, ready, need, held, owed, fits, last_stamp, Follows, IsLegal}
@@ -16,14 +18,6 @@ pub record View : Type 0 where
   pub seen : List Entry
   pub made : List Entry
   pub visits : ℕ
-
--- what is asked at an object: who asks, in which span, and the actor's last stamp
-pub record Asking : Type 0 where
-  pub object : ℕ
-  pub actor : Actor
-  pub span : ℕ
-  pub clock : ℕ
-  pub call : Call
 
 -- a process that the entry itself begins is named by the entry's object and place
 abbrev pub named : Actor → ℕ → ℕ → Actor
@@ -46,10 +40,6 @@ entry_of q seat place stamp reply = record {
 abbrev pub IsFront : List Entry → List Entry → Type 0
 IsFront front whole = (rest : List Entry) × (whole ≡ front ++ rest)
 
--- a count rose; at its greatest it stands still
-abbrev pub Rises : ℕ → ℕ → Type 0
-Rises before now = (before < now) ⊎ (now ≡ 2 ^ 64 - 1)
-
 -- The entry was made behind the history h.
 pub record IsMade (start : Start) (clock : ℕ) (old new : View) (h : List Entry) (e : Entry) : Type 0 where
   pub front : IsFront old.seen h
@@ -57,13 +47,13 @@ pub record IsMade (start : Start) (clock : ℕ) (old new : View) (h : List Entry
   pub stamp : e.stamp ≡ max clock (last_stamp h) + 1
   pub seen : new.seen ≡ h ++ e ∷ []
   pub made : new.made ≡ old.made ++ e ∷ []
-  pub visits : Rises old.visits new.visits
+  pub visits : Rose old.visits new.visits
 
 -- Nothing was made, and the object was asked.
 pub record IsRefused (old new : View) : Type 0 where
   pub front : IsFront old.seen new.seen
   pub made : new.made ≡ old.made
-  pub visits : Rises old.visits new.visits
+  pub visits : Rose old.visits new.visits
 
 -- the call is ready, and the three numbers pass the units of an object
 pub record IsFull (start : Start) (h : List Entry) (c : Call) (held_units owed_units need_units : ℕ) : Type 0 where

@@ -1,16 +1,17 @@
 -- What a history of a store wrote, which parts of it were shipped where, and what a region therefore shows.
 use Rattle.std.specs.Prelude.{ℕ, ◌+◌, ◌/◌, max, Bool, false, cond, not, ◌&&◌, List, [], ◌∷◌, length, ◌==◌, bytes_eq, Option, find, flat_map}
 use Rattle.std.specs.List.{list_any, list_all, range_with_len, prefix_len, take_while}
+use Rattle.anti_ids.specs.Ascii.{hash}
 use Rattle.anti_ids.specs.declared.id.WriteId.{WriteId}
-use Rattle.anti_kind.specs.declared.limits.TheConstants.{PART_BYTES}
+use Rattle.anti_ids.specs.declared.limits.TheConstants.{PART_BYTES}
 use Rattle.anti_kind.specs.declared.call.Call.{Call}
 use Rattle.anti_kind.specs.declared.call.Call.TheVariants.{Write, Ship}
 use Rattle.anti_kind.specs.declared.call.Reply.{Reply}
 use Rattle.anti_kind.specs.declared.call.Reply.TheVariants.{Written}
-use Rattle.anti_kind.specs.declared.call.Entry.{Entry}
-use Rattle.anti_kind.specs.declared.call.Row.{Row}
-use Rattle.anti_kind.specs.declared.call.StoreKind.{StoreKind}
-use Rattle.anti_kind.specs.declared.call.StoreKind.TheVariants.{Blob}
+use Rattle.anti_kind.specs.declared.entry.Entry.{Entry}
+use Rattle.anti_kind.specs.declared.row.Row.{Row}
+use Rattle.anti_kind.specs.declared.store_kind.StoreKind.{StoreKind}
+use Rattle.anti_kind.specs.declared.store_kind.StoreKind.TheVariants.{Blob}
 
 -- the lineage that is kept beside a write
 abbrev pub stored : Call → Reply → List WriteId
@@ -43,7 +44,7 @@ is_ship g v p _ = false
 abbrev pub is_shipped : List Entry → ℕ → ℕ → ℕ → Bool
 is_shipped h g v p = list_any (λ e. is_ship g v p e.call) h
 
--- how many parts a value has: one, but in a blob one for each 64 bytes begun, and one where there is none
+-- how many parts a value has: one, but in a blob one for each `PART_BYTES` bytes begun, and one where there is none
 abbrev pub parts_of : StoreKind → List ℕ → ℕ
 parts_of Blob value = max 1 ((length value + 63) / PART_BYTES)
 parts_of _ value = 1
@@ -71,7 +72,7 @@ upto_of kind h g = prefix_len (is_whole kind h g) (rows h)
 
 -- A write to a queue or a topic names its channel; the key of the nth write to the channel c is c#n.
 abbrev pub channel_of : List ℕ → List ℕ
-channel_of key = take_while (λ b. not (b == 35)) key
+channel_of key = take_while (λ b. not (b == hash)) key
 
 -- the rows of a channel, in their order
 abbrev pub is_in : List ℕ → Row → Bool

@@ -1,90 +1,7 @@
-ghost use Rattle.std.specs.Prelude.{◌≡◌};
-ghost use Rattle.anti_kind.specs.Ports.{named};
-
-use anti_ids::{Bytes, Copies, Lineage, List, Name, NoMemory, Value};
+use crate::message::Message;
+use crate::row::{Row, Rows};
+use anti_ids::{Copies, Lineage, Name, NoMemory, Value};
 use std::alloc::Global;
-
-/// The entry that began a process: the number of its object and its place in that object's history, counted from 1.
-#[derive(Clone, Copy, PartialEq, Eq)]
-pub struct Birth {
-    pub object: u32,
-    pub place: u32,
-}
-
-/// Who makes a call: a carrier, which moves shipments and repeats deliveries, by its number; a process, by the entry that began
-/// it; or a process that the call itself begins. The last stands in no entry, since the entry names the process that it began.
-#[derive(Clone, Copy, PartialEq, Eq)]
-pub enum Actor {
-    Carrier(u32),
-    Process(Birth),
-    Newborn,
-}
-
-impl Actor {
-    /// The actor of the entry with this object and place. A process that the entry itself begins is named by them.
-    pub fn named(self, birth: Birth) -> Actor
-        ensures { result ≡ named self birth.object birth.place }
-    {
-        match self {
-            Actor::Newborn => Actor::Process(birth),
-            actor => actor,
-        }
-    }
-}
-
-/// The kinds of store.
-#[derive(Clone, Copy, PartialEq, Eq)]
-pub enum StoreKind {
-    Kv,
-    Table,
-    Blob,
-    Queue,
-    Topic,
-}
-
-/// A subscription: the messages of a channel, as they come to a region.
-#[derive(Clone, Copy)]
-pub struct Sub {
-    pub channel: Name,
-    pub region: u32,
-}
-
-/// What a store shows for a key: the version, with its value and the lineage that is kept beside it. An absent key has version 0,
-/// the empty value and the empty lineage.
-#[derive(Drop)]
-pub struct Row {
-    pub key: Name,
-    pub version: u64,
-    pub value: Value,
-    pub lineage: Lineage,
-}
-
-/// A list of rows.
-pub type Rows = List<Row>;
-
-/// What a message is: a request of the application, a call that waits for a reply, a send that doesn't, or the reply to a call.
-#[derive(Clone, Copy, PartialEq, Eq)]
-pub enum MessageKind {
-    Request,
-    Call,
-    Send,
-    Reply,
-}
-
-/// A message. In a reply `to` is the number of the call that it answers, and `handler` the one that answered; else `to` is 0.
-/// `depth` is 0 in a request and a reply, and one more than its sender's in a call and a send. `baggage` is the text of a lineage.
-#[derive(Drop)]
-pub struct Message {
-    pub kind: MessageKind,
-    pub to: u32,
-    pub depth: u32,
-    pub handler: Name,
-    pub value: Value,
-    pub baggage: Bytes,
-}
-
-/// A list of messages.
-pub type Messages = List<Message>;
 
 /// What an object is asked. Versions, parts and the numbers of messages and free deliveries count from 1, regions and
 /// subscriptions from 0; a subscription is named by its position among those of its store.
@@ -194,51 +111,6 @@ pub enum Reply {
     Done,
 }
 
-/// One call that was made on an object: its stamp, the object, its place in the object's history, counted from 1, the number of
-/// the pass that made it, 0 where there is none, who made it, the span of its process, 0 for a carrier, the call and the reply.
-#[derive(Drop)]
-pub struct Entry {
-    pub stamp: u64,
-    pub object: u32,
-    pub place: u32,
-    pub seat: u32,
-    pub actor: Actor,
-    pub span: u32,
-    pub call: Call,
-    pub reply: Reply,
-}
-
-/// The calls that were made on an object, in their order.
-pub type History = List<Entry>;
-
-impl Copies for Row {
-    fn copy(&self, alloc: Global) -> Result<Row, NoMemory> {
-        let value = self.value.copy(alloc)?;
-        let lineage = self.lineage.copy(alloc)?;
-        Ok(Row {
-            key: self.key,
-            version: self.version,
-            value,
-            lineage,
-        })
-    }
-}
-
-impl Copies for Message {
-    fn copy(&self, alloc: Global) -> Result<Message, NoMemory> {
-        let value = self.value.copy(alloc)?;
-        let baggage = self.baggage.copy(alloc)?;
-        Ok(Message {
-            kind: self.kind,
-            to: self.to,
-            depth: self.depth,
-            handler: self.handler,
-            value,
-            baggage,
-        })
-    }
-}
-
 impl Copies for Call {
     fn copy(&self, alloc: Global) -> Result<Call, NoMemory> {
         match self {
@@ -342,22 +214,5 @@ impl Copies for Reply {
             }
             Reply::Done => Ok(Reply::Done),
         }
-    }
-}
-
-impl Copies for Entry {
-    fn copy(&self, alloc: Global) -> Result<Entry, NoMemory> {
-        let call = self.call.copy(alloc)?;
-        let reply = self.reply.copy(alloc)?;
-        Ok(Entry {
-            stamp: self.stamp,
-            object: self.object,
-            place: self.place,
-            seat: self.seat,
-            actor: self.actor,
-            span: self.span,
-            call,
-            reply,
-        })
     }
 }

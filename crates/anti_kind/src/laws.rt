@@ -1,9 +1,10 @@
 // Laws of the tables, each proved once for all objects. The functions do nothing: what they say is in their contracts.
-ghost use Rattle.std.specs.Prelude.{◌≡◌, false};
+ghost use Rattle.std.specs.Prelude.{◌≡◌, List, []};
+ghost use Rattle.anti_kind.specs.declared.entry.Entry.{Entry};
 ghost use Rattle.anti_kind.specs.Stored.{shows_of};
-ghost use Rattle.anti_kind.specs.Store.{Store, is_table};
+ghost use Rattle.anti_kind.specs.Store.{Store};
 ghost use Rattle.anti_kind.specs.Objects.{store};
-ghost use Rattle.anti_kind.specs.Laws.{LooksRight, KeepsLaws};
+ghost use Rattle.anti_kind.specs.Laws.{LooksRight, OwnAfter, OwnIdsWritten, RowsHaveSources, VersionsGrow, CallsNameOwn, NextIsReady, NoneIsReady, KeepsLaws};
 ghost use Rattle.anti_kind.specs.Fulls.{ShowsStay, UnitsAddUp, UnitsSuffice, NeedNeverFalls, FullStaysFull, AskingStaysReady};
 
 /// Where the regions of a store show the greatest version that is whole there, what they show is what was written, and it never
@@ -17,9 +18,9 @@ pub fn looks_are_right()
     ensures { (s : Store) → LooksRight s }
 {}
 
-/// The laws of a kind hold of each store that is no table and whose regions show the greatest version that is whole there.
+/// The laws of a kind hold of each store whose regions show the greatest version that is whole there.
 pub fn stores_keep_laws()
-    ensures { (s : Store) → s.shows ≡ shows_of s.kind → is_table s.kind ≡ false → KeepsLaws s }
+    ensures { (s : Store) → s.shows ≡ shows_of s.kind → KeepsLaws s }
 {}
 
 /// What is held and owed after an entry is what it was before and what the entry's call needed.
@@ -46,4 +47,35 @@ pub fn full_stays_full()
 /// poll, the post of a call or send, a dry look, and a look that misses none.
 pub fn asking_stays_ready()
     ensures { AskingStaysReady }
+{}
+
+/// At every store, whatever its regions show, each row that a ready call hands out is that of a write; a read may also show that a
+/// key has none.
+pub fn rows_have_sources()
+    ensures { (s : Store) → RowsHaveSources s }
+{}
+
+/// The versions of a store's writes grow in the order in which they were made.
+pub fn versions_grow()
+    ensures { (s : Store) → VersionsGrow s }
+{}
+
+/// The region that a ready call names is that of a replica, and the ids of a ready look are of the store itself.
+pub fn calls_name_own()
+    ensures { (s : Store) → CallsNameOwn s }
+{}
+
+/// What the law on reads that show rows together asks of a history, from each of its entries alone.
+pub fn own_after()
+    ensures { (s : Store) (h : List Entry) → OwnIdsWritten s h → OwnAfter s [] h }
+{}
+
+/// The shipment that is named as the next to a region is ready.
+pub fn next_is_ready()
+    ensures { (s : Store) → NextIsReady s }
+{}
+
+/// Where no shipment to a region is named as the next, none is ready.
+pub fn none_is_ready()
+    ensures { (s : Store) → NoneIsReady s }
 {}

@@ -2,24 +2,34 @@
 //! kinds of store and of an inbox as definitions over whole histories, and what a machine that keeps a table promises.
 #![tactic(auto)]
 
+mod actor;
+mod asking;
 mod call;
+mod entry;
 mod kind;
 mod laws;
-mod limits;
 mod lone;
 mod machine;
+mod message;
 mod port;
+mod recorded;
+mod row;
+mod store_kind;
 
-pub use call::{
-    Actor, Birth, Call, Entry, History, Message, MessageKind, Messages, Reply, Row, Rows,
-    StoreKind, Sub,
-};
+pub use actor::{Actor, Birth};
+pub use asking::Asking;
+pub use call::{Call, Reply};
+pub use entry::{Entry, History};
 pub use kind::Kind;
 pub use laws::{
-    asking_stays_ready, full_stays_full, looks_are_right, need_never_falls, shows_stay,
-    stores_keep_laws, units_add_up, units_suffice,
+    asking_stays_ready, calls_name_own, full_stays_full, looks_are_right, need_never_falls,
+    next_is_ready, none_is_ready, own_after, rows_have_sources, shows_stay, stores_keep_laws,
+    units_add_up, units_suffice, versions_grow,
 };
-pub use limits::{MOST_REGIONS, MOST_REQUESTS, MOST_TRIES, MOST_UNITS, PART_BYTES};
 pub use lone::Lone;
 pub use machine::Machine;
+pub use message::{Message, MessageKind, Messages};
 pub use port::{Answer, Port, WaitPort};
+pub use recorded::{Recorded, Refusal};
+pub use row::{Row, Rows};
+pub use store_kind::{StoreKind, Sub};

@@ -1,13 +1,16 @@
 ghost use Rattle.std.specs.Prelude.{◌≡◌, ℕ, ◌+◌, ◌-◌, ◌^◌, min, [], IfErr, IfOk, Some};
 ghost use Rattle.anti_kind.specs.Objects.{IsLegal, IsShip, StandsFor};
-ghost use Rattle.anti_kind.specs.Ports.{Answered, Asking};
-ghost use Rattle.anti_kind.specs.Lones.{AreOwn, Goes, IsNumbered, IsRefusal, Makes, lone_start, lone_view};
+ghost use Rattle.anti_kind.specs.Ports.{Answered};
+ghost use Rattle.anti_kind.specs.Lones.{AreOwn, Gives, IsNumbered, answer_of, lone_start, lone_view};
 
-use crate::call::{Actor, Birth, Call, Entry, History};
-use crate::limits::MOST_UNITS;
+use crate::actor::Actor;
+use crate::asking::Asking;
+use crate::call::Call;
+use crate::entry::History;
 use crate::machine::Machine;
 use crate::port::{Answer, Port};
-use anti_ids::{List, NoMemory};
+use crate::recorded::{Recorded, Refusal};
+use anti_ids::NoMemory;
 use std::alloc::Global;
 use std::marker::Model;
 
@@ -15,10 +18,7 @@ use std::marker::Model;
 #[derive(Drop)]
 pub struct Lone<M: Machine> {
     object: u32,
-    machine: M,
-    history: History,
-    // the last stamp of the history
-    last: u64,
+    recorded: Recorded<M>,
     visits: u64,
 }
 
@@ -27,9 +27,9 @@ impl<M: Machine> Model for Lone<M> {
 
     ghost Value = { Alone M };
 
-    ghost view = { λ l. record { object = l.object; machine = l.machine; history = l.history.items; visits = l.visits } };
+    ghost view = { λ l. record { object = l.object; machine = l.recorded.machine; history = l.recorded.history; visits = l.visits } };
 
-    ghost invariant = { λ l. IsLone (M.start l.machine) (M.Stands l.machine) l.object l.last l.history };
+    ghost invariant = { λ l. IsLone (M.start l.recorded.machine) l.object l.recorded.history };
 }
 
 impl<M: Machine> Lone<M> {
@@ -43,17 +43,14 @@ impl<M: Machine> Lone<M> {
         ensures alone { IfOk result (λ l. l ≡ record { object = object; machine = start; history = []; visits = 0 }) }
         ensures err { IfErr result (λ e. e.0 ≡ start) }
     {
-        let mut history = List::new(alloc);
-        if history.reserve(start.owed()).is_err() {
-            return Err((start, NoMemory));
+        match Recorded::new(alloc, start) {
+            Ok(recorded) => Ok(Lone {
+                object,
+                recorded,
+                visits: 0,
+            }),
+            Err(refused) => Err(refused),
         }
-        Ok(Lone {
-            object,
-            machine: start,
-            history,
-            last: 0,
-            visits: 0,
-        })
     }
 
     /// The calls that were made on the object. It takes no memory.
@@ -63,70 +60,48 @@ impl<M: Machine> Lone<M> {
         ensures own { AreOwn self.now.object self.now.history }
         ensures numbered { IsNumbered (M.start self.now.machine) self.now.object }
     {
-        &self.history
+        self.recorded.history()
     }
 
-    // The room that the history needs if the call is made, or why it is refused.
-    fn judge(&self, clock: u64, c: &Call) -> Result<u32, Answer>
-        ensures goes { IfOk result (λ room. Goes (M.start self.now.machine) self.now.history clock c.now room) }
-        ensures refused { (q : Asking) → q.clock ≡ clock → q.call ≡ c.now → IfErr result (λ a. IsRefusal (M.start self.now.machine) self.now.history q a) }
-    {
-        if !self.machine.ready(c) {
-            return Err(Answer::NotYet);
-        }
-        let held = self.machine.held();
-        let owed = self.machine.owed();
-        let need = self.machine.need(c);
-        if need > MOST_UNITS - (held + owed) {
-            return Err(Answer::Full { held, owed, need });
-        }
-        let clock = clock.max(self.last);
-        if clock == u64::MAX {
-            return Err(Answer::Spent { clock });
-        }
-        Ok(owed + need)
-    }
-
-    // Makes a call that goes. Without memory nothing is made, and a `Ship` takes none.
-    fn make(&mut self, actor: Actor, span: u32, clock: u64, room: u32, c: Call) -> Answer
-        requires { Goes (M.start self.old.machine) self.old.history clock c room }
-        ensures made { Makes (M.start self.old.machine) self.old.history (record { object = self.old.object; actor = actor; span = span; clock = clock; call = c }) self.new.history result }
+    // Makes what is asked of the object, or says why it does not. Of a `Ship` it takes no memory.
+    fn ask(&mut self, asking: Asking) -> Answer
+        requires { asking.object ≡ self.old.object }
+        ensures gives { Gives (M.start self.old.machine) self.old.history asking self.new.history result }
         ensures object { self.new.object ≡ self.old.object }
         ensures visits { self.new.visits ≡ self.old.visits }
         ensures start { M.start self.new.machine ≡ M.start self.old.machine }
-        ensures legal { IsLegal (M.start self.old.machine) self.new.history }
-        ensures ship { IsShip c → result ≡ Answer.NoMemory → ⊥ }
+        ensures before { IsLegal (M.start self.old.machine) self.old.history }
+        ensures after { IsLegal (M.start self.old.machine) self.new.history }
+        ensures ship { IsShip asking.call → result ≡ Answer.NoMemory → ⊥ }
     {
-        let Ok(answered) = self.machine.due(&c) else {
+        if let Err(refusal) = self.recorded.judge(&asking) {
+            return refused(refusal);
+        }
+        let Ok(due) = self.recorded.due(&asking.call) else {
             return Answer::NoMemory;
         };
-        let Ok(()) = self.history.reserve(room) else {
+        let entry = self.recorded.entry(0, asking, due);
+        let place = entry.place;
+        let stamp = entry.stamp;
+        let Ok(reply) = self.recorded.make(entry) else {
             return Answer::NoMemory;
         };
-        let Ok(reply) = self.machine.apply(&c) else {
-            return Answer::NoMemory;
-        };
-        let place = self.history.len() as u32 + 1;
-        let stamp = clock.max(self.last) + 1;
-        self.history.put(Entry {
-            stamp,
-            object: self.object,
-            place,
-            seat: 0,
-            actor: actor.named(Birth {
-                object: self.object,
-                place,
-            }),
-            span,
-            call: c,
-            reply,
-        });
-        self.last = stamp;
         Answer::Made {
             place,
             stamp,
-            reply: answered,
+            reply,
         }
+    }
+}
+
+// The answer of a refusal.
+fn refused(refusal: Refusal) -> Answer
+    ensures { result ≡ answer_of refusal }
+{
+    match refusal {
+        Refusal::NotYet => Answer::NotYet,
+        Refusal::Full { held, owed, need } => Answer::Full { held, owed, need },
+        Refusal::Spent { clock } => Answer::Spent { clock },
     }
 }
 
@@ -151,9 +126,12 @@ impl<M: Machine> Port for Lone<M> {
             return Answer::NotYet;
         }
         self.visits = self.visits.saturating_add(1);
-        match self.judge(clock, &c) {
-            Ok(room) => self.make(actor, span, clock, room, c),
-            Err(refusal) => refusal,
-        }
+        self.ask(Asking {
+            object,
+            actor,
+            span,
+            clock,
+            call: c,
+        })
     }
 }

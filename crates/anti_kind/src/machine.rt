@@ -5,8 +5,8 @@ use anti_ids::NoMemory;
 /// object's table says after each history that it stands for. The calls but `due` and `apply` take no memory.
 pub trait Machine {
     ghost use Rattle.std.specs.Prelude.{◌≡◌, List, [], ◌∷◌, ◌++◌, true, IfOk, OnOk, OnErr, IsOk};
-    ghost use Rattle.anti_kind.specs.declared.call.Entry.{Entry};
-    ghost use Rattle.anti_kind.specs.Objects.{Start, ready, need, held, owed, upto, due, Follows, StandsFor, MayMake, IsShip};
+    ghost use Rattle.anti_kind.specs.declared.entry.Entry.{Entry};
+    ghost use Rattle.anti_kind.specs.Objects.{Start, ready, need, held, owed, upto, next_ship, due, Follows, StandsFor, MayMake, IsShip};
 
     ghost start: { Self → Start };
 
@@ -16,9 +16,9 @@ pub trait Machine {
     fn ready(&self, c: &Call) -> bool
         ensures { (h : List Entry) → StandsFor (start self.now) (Stands self.now) h → result ≡ ready (start self.now) h c.now };
 
-    /// The units that a ready call needs.
+    /// The units that a call needs.
     fn need(&self, c: &Call) -> u32
-        ensures { (h : List Entry) → StandsFor (start self.now) (Stands self.now) h → ready (start self.now) h c.now ≡ true → result ≡ need (start self.now) h c.now };
+        ensures { (h : List Entry) → StandsFor (start self.now) (Stands self.now) h → result ≡ need (start self.now) h c.now };
 
     /// The units of the calls that were made.
     fn held(&self) -> u32
@@ -31,6 +31,11 @@ pub trait Machine {
     /// How many versions, from the first on, are whole at the region. An object that is no store has none.
     fn upto(&self, region: u32) -> u64
         ensures { (h : List Entry) → StandsFor (start self.now) (Stands self.now) h → result ≡ upto (start self.now) h region };
+
+    /// The next shipment to the region, its version and its part: of the lowest version that can be shipped there the lowest part.
+    /// There is none where all is there, nor of an object that is no store.
+    fn next_ship(&self, region: u32) -> Option<(u64, u32)>
+        ensures { (h : List Entry) → StandsFor (start self.now) (Stands self.now) h → result ≡ next_ship (start self.now) h region };
 
     /// The reply that a call is due, which is ready and fits. Nothing changes. Of a `Ship` it takes no memory.
     fn due(&self, c: &Call) -> Result<Reply, NoMemory>

@@ -1,4 +1,5 @@
-use crate::call::{Actor, Call, Reply};
+use crate::actor::Actor;
+use crate::call::{Call, Reply};
 
 /// What a port answers to a call. Of the refusals `NotYet` comes first, then `Full`, then `Spent`; only `Made` adds anything.
 #[derive(Drop)]

@@ -1,11 +1,11 @@
--- A kv store keeps the laws of its kind: its regions show the greatest version that came, and it is no table.
+-- A kv store keeps the laws of its kind: its regions show the greatest version that is whole there.
 use Rattle.std.specs.Prelude.{◌≡◌, refl}
 use Rattle.anti_kind.specs.Store.{Store}
 use Rattle.anti_kind.specs.Objects.{store}
 use Rattle.anti_kind.specs.Laws.{KeepsLaws}
 use Rattle.anti_kind.proofs.Keeping.{keeps_laws, laws_of_start}
-use Rattle.anti_kv.specs.declared.state.Kv.{Kv}
+use Rattle.anti_kv.specs.declared.kv_store.Kv.{Kv}
 use Rattle.anti_kv.specs.KvStates.{its_store, its_start}
 
 pub kv_keeps : (m : Kv) (s : Store) → its_start m ≡ store s → KeepsLaws s
-kv_keeps m s is = laws_of_start (its_store m) s is (keeps_laws (its_store m) refl refl)
+kv_keeps m s is = laws_of_start (its_store m) s is (keeps_laws (its_store m) refl)

@@ -1,3 +1,2 @@
-pub mod KvLaws
 pub mod KvStates
-pub mod Newest
+pub mod KvLaws

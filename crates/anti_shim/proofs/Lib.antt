@@ -1,10 +1,7 @@
-pub mod Barring
-pub mod Drying
-pub mod Entering
-pub mod Going
-pub mod Looking
-pub mod Planning
-pub mod Sighting
-pub mod Stepping
-pub mod Turning
-pub mod Writing
+pub mod Planned
+pub mod NextCall
+pub mod LookLemmas
+pub mod PlanLemmas
+pub mod SightLemmas
+pub mod BarrierLoop
+pub mod DryRunLoop

@@ -1,5 +1,8 @@
 pub mod Plans
+pub mod Steps
 pub mod Shims
 pub mod Sights
+pub mod Looks
 pub mod Barriers
 pub mod DryRuns
+pub mod inner

@@ -1,89 +1,88 @@
--- The calls of a shim: the one call that it makes on a port, and what it gives for each answer.
-use Rattle.std.specs.Prelude.{◌≡◌, ℕ, ◌<◌, ◌≤◌, length, List, [], ◌∷◌, Option, None, Some, Result, Ok, Err}
+-- What the calls of a shim do and give: each makes one call on its store.
+use Rattle.std.specs.Prelude.{◌≡◌, ℕ, ◌<◌, ◌≤◌, false, length, List, [], ◌∷◌, Result, Ok, Err}
 use Rattle.anti_ids.specs.Ids.{with_id}
-use Rattle.anti_ids.specs.List.{plain}
-use Rattle.anti_ids.specs.declared.lineage.TheConstants.{MOST_IDS}
+use Rattle.anti_ids.specs.List.{Listed, plain}
+use Rattle.anti_ids.specs.declared.limits.TheConstants.{MOST_IDS}
 use Rattle.anti_ids.specs.declared.id.WriteId.{WriteId}
 use Rattle.anti_kind.specs.declared.call.Call.{Call}
+use Rattle.anti_kind.specs.declared.call.Call.TheVariants.{Write, Read, Scan, Look}
+use Rattle.anti_kind.specs.declared.call.Reply.{Reply}
 use Rattle.anti_kind.specs.declared.call.Reply.TheVariants.{Written, Shown, Missing}
-use Rattle.anti_kind.specs.declared.call.Row.{Row}
-use Rattle.anti_kind.specs.declared.port.Answer.{Answer}
-use Rattle.anti_kind.specs.declared.port.Answer.TheVariants as answers
-use Rattle.anti_kind.specs.Objects.{Start}
-use Rattle.anti_kind.specs.Ports.{View, Asking, Answered}
-use Rattle.anti_shim.specs.declared.caller.Caller.{Caller}
+use Rattle.anti_kind.specs.declared.row.Row.{Row}
+use Rattle.anti_shim.specs.declared.caller.Made.{Made}
 use Rattle.anti_shim.specs.declared.sight.Sight.{Sight}
 use Rattle.anti_shim.specs.declared.fault.ShimFault.{ShimFault}
-use Rattle.anti_shim.specs.declared.fault.ShimFault.TheVariants as faults
+use Rattle.anti_shim.specs.declared.fault.ShimFault.TheVariants.{Unwritten, LineageFull}
+use Rattle.anti_shim.specs.Steps.{Step, IsAsked, MayAsk}
 
--- what a caller asks of an object
-abbrev pub asking : Caller → ℕ → Call → Asking
-asking who object call = record { object = object; actor = who.actor; span = who.span; clock = who.clock; call = call }
+-- A call that was made gives the value that its reply shows, one that was refused the fault.
+module _ {A : Type 0} (Shows : Reply → A → Type 0) where
+  abbrev pub Gives : Result Made ShimFault → Result A ShimFault → Type 0
+  Gives (Ok made) (Ok value) = Shows made.reply value
+  Gives (Ok made) (Err fault) = ⊥
+  Gives (Err refusal) result = result ≡ Err refusal
 
--- The call was made on the port, which answered so: this is the object's view now, and the other objects' views stay.
-pub record IsCalled (starts : ℕ → Option Start) (q : Asking) (old new : ℕ → View) (answer : Answer) : Type 0 where
-  pub answered : Answered (starts q.object) q (old q.object) (new q.object) answer
-  pub others : (o : ℕ) → (o ≡ q.object → ⊥) → new o ≡ old o
+-- Just this call is made on the store, and gives what its reply shows.
+pub record OneCall {A : Type 0} (step : Step) (store : ℕ) (call : Call) (Shows : Reply → A → Type 0)
+    (result : Result A ShimFault) : Type 0 where
+  pub outcome : Result Made ShimFault
+  pub asked : IsAsked step store call outcome
+  pub gives : Gives Shows outcome result
 
--- The caller after an answer: the stamp of the entry that was made is its last stamp.
-abbrev pub after : Caller → Answer → Caller
-after who (answers.Made place stamp reply) = record who { clock = stamp }
-after who _ = who
+-- Reading.
 
--- With no answer there was no memory to ask, and all stays.
-abbrev pub IsAsked : (ℕ → Option Start) → Asking → (ℕ → View) → (ℕ → View) → Option Answer → Type 0
-IsAsked starts q old new None = (o : ℕ) → new o ≡ old o
-IsAsked starts q old new (Some answer) = IsCalled starts q old new answer
+-- a read gives the one row that is shown
+abbrev pub Reads : Step → ℕ → ℕ → List ℕ → Result Row ShimFault → Type 0
+Reads step store region key result =
+    OneCall step store (Read region key) (λ reply row. reply ≡ Shown (plain (row ∷ []))) result
 
-abbrev pub after_any : Caller → Option Answer → Caller
-after_any who None = who
-after_any who (Some answer) = after who answer
+-- a scan gives the rows that are shown
+abbrev pub Scans : Step → ℕ → ℕ → List ℕ → Result (Listed Row) ShimFault → Type 0
+Scans step store region prefix result =
+    OneCall step store (Scan region prefix) (λ reply rows. reply ≡ Shown rows) result
 
--- What a refusal gives: the same fault.
-abbrev pub Refuses : {A : Type 0} → Answer → Result A ShimFault → Type 0
-Refuses (answers.Made place stamp reply) result = ⊥
-Refuses answers.NotYet result = result ≡ Err faults.NotYet
-Refuses (answers.Full held owed need) result = result ≡ Err (faults.Full held owed need)
-Refuses (answers.Spent clock) result = result ≡ Err (faults.Spent clock)
-Refuses answers.NoMemory result = result ≡ Err faults.NoMemory
-
--- A read gives the one row that was shown.
-abbrev pub ReadGives : Answer → Result Row ShimFault → Type 0
-ReadGives (answers.Made place stamp reply) result = (row : Row) × (reply ≡ Shown (plain (row ∷ []))) × (result ≡ Ok row)
-ReadGives answer result = Refuses answer result
-
--- A write gives the id of the row that was written.
-abbrev pub PutGives : ℕ → Answer → Result WriteId ShimFault → Type 0
-PutGives store (answers.Made place stamp reply) result =
-    (key : List ℕ) × (version : ℕ) × (reply ≡ Written key version) × (1 ≤ version) × (result ≡ Ok (record { store = store; key = key; version = version }))
-PutGives store answer result = Refuses answer result
+-- Writing.
 
 -- The id goes into the lineage, unless it would be one too many.
-abbrev pub Appends : WriteId → List WriteId → List WriteId → Result WriteId ShimFault → Type 0
-Appends id old new (Ok given) = (given ≡ id) × (new ≡ with_id id old) × (length (with_id id old) ≤ MOST_IDS)
-Appends id old new (Err fault) = (fault ≡ faults.LineageFull id) × (new ≡ old) × (MOST_IDS < length (with_id id old))
+module _ (id : WriteId) (old new : List WriteId) where
+  abbrev pub Appends : Result WriteId ShimFault → Type 0
+  Appends (Ok given) =
+      (given ≡ id) × (new ≡ with_id id old) × (length (with_id id old) ≤ MOST_IDS)
+  Appends (Err fault) =
+      (fault ≡ LineageFull id) × (new ≡ old) × (MOST_IDS < length (with_id id old))
 
-abbrev pub WriteGives : ℕ → List WriteId → List WriteId → Option Answer → Result WriteId ShimFault → Type 0
-WriteGives store old new None result = (result ≡ Err faults.NoMemory) × (new ≡ old)
-WriteGives store old new (Some (answers.Made place stamp reply)) result =
-    (key : List ℕ) × (version : ℕ) × (reply ≡ Written key version) × Appends (record { store = store; key = key; version = version }) old new result
-WriteGives store old new (Some answer) result = Refuses answer result × (new ≡ old)
+-- The id of what was written goes into the lineage; with a refusal the lineage stays.
+module _ (store : ℕ) (old new : List WriteId) where
+  abbrev pub WriteGives : Result Made ShimFault → Result WriteId ShimFault → Type 0
+  WriteGives (Ok made) result =
+      (id : WriteId) × (id.store ≡ store) × (made.reply ≡ Written id.key id.version)
+      × Appends id old new result
+  WriteGives (Err refusal) result = (result ≡ Err refusal) × (new ≡ old)
 
--- A look that named nothing unwritten named nothing missing, and gives its place and stamp; another the first id that nobody wrote.
-abbrev pub Seen : Sight → List WriteId → List WriteId → Result Sight ShimFault → Type 0
-Seen sight missing [] result = (missing ≡ []) × (result ≡ Ok sight)
-Seen sight missing (id ∷ ids) result = result ≡ Err (faults.Unwritten id)
+-- A write stores the lineage as it was.
+pub record Writes (step : Step) (store : ℕ) (key value : List ℕ) (old new : List WriteId)
+    (result : Result WriteId ShimFault) : Type 0 where
+  pub outcome : Result Made ShimFault
+  pub asked : MayAsk step store (Write key value old) outcome
+  pub gives : WriteGives store old new outcome result
 
-abbrev pub SeeGives : ℕ → Answer → Result Sight ShimFault → Type 0
-SeeGives store (answers.Made place stamp reply) result =
-    (missing : List WriteId) × (unwritten : List WriteId) × (reply ≡ Missing missing unwritten) × Seen (record { store = store; place = place; stamp = stamp }) missing unwritten result
-SeeGives store answer result = Refuses answer result
+-- Waiting.
 
-abbrev pub WaitGives : ℕ → Option Answer → Result Sight ShimFault → Type 0
-WaitGives store None result = result ≡ Err faults.NoMemory
-WaitGives store (Some answer) result = SeeGives store answer result
+-- A look that named nothing gives its place and its stamp, and one that named ids as unwritten the
+-- first of them.
+module _ (store : ℕ) where
+  abbrev pub SeeGives : Result Made ShimFault → Result Sight ShimFault → Type 0
+  SeeGives (Ok made) (Ok sight) =
+      (sight ≡ record { store = store; place = made.place; stamp = made.stamp })
+      × (made.reply ≡ Missing [] [])
+  SeeGives (Ok made) (Err fault) =
+      (id : WriteId) × (missing : List WriteId) × (further : List WriteId)
+      × (fault ≡ Unwritten id) × (made.reply ≡ Missing missing (id ∷ further))
+  SeeGives (Err refusal) result = result ≡ Err refusal
 
--- A dry look gives what it named as missing.
-abbrev pub DryGives : Answer → Result (List WriteId) ShimFault → Type 0
-DryGives (answers.Made place stamp reply) result = (missing : List WriteId) × (unwritten : List WriteId) × (reply ≡ Missing missing unwritten) × (result ≡ Ok missing)
-DryGives answer result = Refuses answer result
+-- A look for these ids, which is not dry.
+pub record Sees (step : Step) (store region : ℕ) (ids : List WriteId)
+    (result : Result Sight ShimFault) : Type 0 where
+  pub outcome : Result Made ShimFault
+  pub asked : MayAsk step store (Look region ids false) outcome
+  pub gives : SeeGives store outcome result

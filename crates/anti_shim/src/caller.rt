@@ -1,10 +1,11 @@
 ghost use Rattle.std.specs.Prelude.{◌≡◌, ℕ};
-ghost use Rattle.anti_shim.specs.Shims.{asking, after, IsCalled};
+ghost use Rattle.anti_shim.specs.Steps.{between, IsAsked};
 
-use anti_kind::{Actor, Answer, Call, Port};
+use crate::fault::ShimFault;
+use anti_kind::{Actor, Answer, Call, Port, Reply};
 
-/// Who makes calls: the actor, the span of its process, and its last stamp, which becomes the stamp of each entry that its calls
-/// make.
+/// Who makes calls: the actor, the span of its process, and its last stamp, which becomes the stamp
+/// of each entry that its calls make.
 #[derive(Clone, Copy)]
 pub struct Caller {
     pub actor: Actor,
@@ -12,17 +13,43 @@ pub struct Caller {
     pub clock: u64,
 }
 
+/// What a call made: the place and the stamp of its entry, and the reply.
+#[derive(Drop)]
+pub struct Made {
+    pub place: u32,
+    pub stamp: u64,
+    pub reply: Reply,
+}
+
 impl Caller {
-    // Makes one call on an object of a port.
-    pub(crate) fn ask<P: Port>(&mut self, port: &mut P, object: u32, call: Call) -> Answer
-        ensures called { IsCalled (P.start port.old) (asking self.old object call) (P.view port.old) (P.view port.new) result }
-        ensures caller { self.new ≡ after self.old result }
+    // Makes one call on an object of a port. Where the port refuses it, the fault says so.
+    pub(crate) fn ask<P: Port>(
+        &mut self,
+        port: &mut P,
+        object: u32,
+        call: Call,
+    ) -> Result<Made, ShimFault>
+        ensures answer { let step = between P.Port port.old port.new self.old self.new in
+            IsAsked step object call result }
         ensures fixed { (o : ℕ) → P.start port.new o ≡ P.start port.old o }
     {
-        let answer = port.call(object, self.actor, self.span, self.clock, call);
-        if let Answer::Made { stamp, .. } = &answer {
-            self.clock = *stamp;
+        match port.call(object, self.actor, self.span, self.clock, call) {
+            Answer::Made {
+                place,
+                stamp,
+                reply,
+            } => {
+                self.clock = stamp;
+                Ok(Made {
+                    place,
+                    stamp,
+                    reply,
+                })
+            }
+            Answer::NotYet => Err(ShimFault::NotYet),
+            Answer::Full { held, owed, need } => Err(ShimFault::Full { held, owed, need }),
+            Answer::Spent { clock } => Err(ShimFault::Spent { clock }),
+            Answer::NoMemory => Err(ShimFault::NoMemory),
         }
-        answer
     }
 }

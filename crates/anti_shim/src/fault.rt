@@ -1,4 +1,4 @@
-use anti_ids::WriteId;
+use anti_ids::{NoMemory, WriteId};
 
 /// Why a call of a shim gives nothing.
 #[derive(Clone, Copy, Debug, PartialEq, Eq)]
@@ -11,8 +11,20 @@ pub enum ShimFault {
     Spent { clock: u64 },
     /// The look was made, and this id is the first that nobody wrote.
     Unwritten(WriteId),
-    /// The write was made, and its id would be the 257th of the lineage, which is as it was.
+    /// The write was made, and its id would be one more than the lineage can have, which is as it
+    /// was.
     LineageFull(WriteId),
     /// There was no memory.
     NoMemory,
+}
+
+impl From<NoMemory> for ShimFault {
+    ghost use Rattle.std.specs.Prelude.{◌≡◌};
+    ghost use Rattle.anti_shim.specs.declared.fault.ShimFault.TheVariants as faults;
+
+    ghost from_gives = { λ _ fault. fault ≡ faults.NoMemory };
+
+    fn from(_: NoMemory) -> ShimFault {
+        ShimFault::NoMemory
+    }
 }

@@ -1,21 +1,30 @@
-//! What a caller does with the stores of a port: reads and writes that keep the lineage, and barriers.
+//! What a caller does with the stores of a port: reads and writes that keep the lineage, and
+//! barriers.
+//!
+//! A `Caller` makes the calls. A `StoreShim`, which is a `KvShim`, a `TableShim` or a `BlobShim`,
+//! makes those of one store. `barrier` waits for the writes of a lineage at all stores of a region,
+//! and `dry_run` names those that are not visible there: both make the looks of `plan`. A `Sight`
+//! tells where a look found nothing missing, and a `Barrier` keeps the sights.
 #![tactic(auto)]
 
-mod barriers;
+mod barrier_answer;
+mod barrier_call;
+mod barrier_cursor;
 mod caller;
-mod cursor;
-mod dry;
+mod dry_run_call;
 mod fault;
-mod kv;
-mod look;
+mod kinds;
 mod looks;
 mod sight;
+mod store_shim;
 
-pub use barriers::barrier;
+pub use barrier_answer::BarrierAnswer;
+pub use barrier_call::barrier;
+pub use barrier_cursor::Barrier;
 pub use caller::Caller;
-pub use cursor::{Barrier, BarrierAnswer};
-pub use dry::dry_run;
+pub use dry_run_call::dry_run;
 pub use fault::ShimFault;
-pub use kv::KvShim;
+pub use kinds::{BlobShim, BlobStore, KvShim, KvStore, ReadByKey, TableShim, TableStore};
 pub use looks::{Looks, PlannedLook, plan};
 pub use sight::{Sight, Sights};
+pub use store_shim::StoreShim;

@@ -25,8 +25,8 @@ impl Copies for PlannedLook {
 /// The looks of a barrier, in the order in which they are made.
 pub type Looks = List<PlannedLook>;
 
-/// The looks that a barrier makes where the stores `here`, in ascending order, have a replica: one for each of them of which the
-/// lineage has ids, with just these ids.
+/// The looks that a barrier makes where the stores `here`, in ascending order, have a replica: one
+/// for each of them of which the lineage has ids, with just these ids.
 pub fn plan(alloc: Global, here: &[u32], lineage: &Lineage) -> Result<Looks, NoMemory>
     ensures { IfOk result (λ looks. looks ≡ plain (plan here.now lineage.now)) }
 {
@@ -37,9 +37,7 @@ pub fn plan(alloc: Global, here: &[u32], lineage: &Lineage) -> Result<Looks, NoM
             continue;
         }
         let look = PlannedLook { store: *store, ids };
-        if looks.push(look).is_err() {
-            return Err(NoMemory);
-        }
+        looks.add(look)?;
     }
     Ok(looks)
 }

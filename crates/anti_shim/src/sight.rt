@@ -1,7 +1,15 @@
-use anti_ids::{Copies, List, NoMemory};
+ghost use Rattle.std.specs.Prelude.{◌≡◌, ℕ};
+ghost use Rattle.anti_shim.specs.Steps.{between};
+ghost use Rattle.anti_shim.specs.Shims.{Sees};
+
+use crate::caller::{Caller, Made};
+use crate::fault::ShimFault;
+use anti_ids::{Copies, Lineage, List, NoMemory};
+use anti_kind::{Call, Port, Reply};
 use std::alloc::Global;
 
-/// A look that found nothing missing: the number of the store, and the place and the stamp of the look.
+/// A look that found nothing missing: the number of the store, and the place and the stamp of the
+/// look.
 #[derive(Clone, Copy, Debug, PartialEq, Eq)]
 pub struct Sight {
     pub store: u32,
@@ -17,3 +25,38 @@ impl Copies for Sight {
 
 /// A list of sights.
 pub type Sights = List<Sight>;
+
+// Makes one look that is not dry, and gives its sight.
+pub(crate) fn see<P: Port>(
+    port: &mut P,
+    who: &mut Caller,
+    store: u32,
+    region: u32,
+    ids: Lineage,
+) -> Result<Sight, ShimFault>
+    ensures answer { let step = between P.Port port.old port.new who.old who.new in
+        Sees step store region ids result }
+    ensures fixed { (o : ℕ) → P.start port.new o ≡ P.start port.old o }
+{
+    let look = Call::Look {
+        region,
+        ids,
+        dry: false,
+    };
+    let Made {
+        place,
+        stamp,
+        reply,
+    } = who.ask(port, store, look)?;
+    let Reply::Missing { unwritten, .. } = reply else {
+        unreachable!()
+    };
+    match unwritten.iter().next() {
+        Some(id) => Err(ShimFault::Unwritten(id)),
+        None => Ok(Sight {
+            store,
+            place,
+            stamp,
+        }),
+    }
+}

@@ -1,6 +1,6 @@
 use Rattle.std.proofs.Common.{◌≡◌, [], map}
 use Rattle.std.specs.List.{range_with_len}
-use Rattle.anti_inbox.specs.Fates.{fate_of}
+use Rattle.anti_inbox.specs.inner.Fates.{fate_of}
 use Rattle.anti_inbox.proofs.inbox.fates.Given as goal
 
 abbrev pub invariant-loop-before : goal.invariant-loop-before

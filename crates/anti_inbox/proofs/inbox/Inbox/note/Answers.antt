@@ -1,30 +1,13 @@
-use Rattle.std.proofs.Common.{◌∙◌, ◌≤◌, length, ap, sym, arith}
+use Rattle.std.proofs.Common.{ℕ, ◌-◌, ◌∙◌, ap, sym, get_or, arith}
+use Rattle.std.proofs.lemmas.List.{get_or_default}
 use Rattle.anti_kind.specs.declared.call.Call.{Call}
 use Rattle.anti_kind.specs.Objects.{ready}
-use Rattle.anti_inbox.specs.Inboxes.{start_of}
-use Rattle.anti_inbox.specs.Fates.{untouched}
-use Rattle.anti_inbox.proofs.Outcomes.{on_ok}
-use Rattle.anti_inbox.proofs.Reading.{IsHanding, taking_within, handing, hearing_within, count_fates}
+use Rattle.anti_inbox.specs.inner.Inboxes.{start_of}
+use Rattle.anti_inbox.specs.inner.Fates.{untouched}
+use Rattle.anti_inbox.proofs.Outcomes.{on_ok_each, both_ways}
+use Rattle.anti_inbox.proofs.Reading.{taking_within, handing, hearing_within}
 use Rattle.anti_inbox.proofs.Noting.{keeps, knows_taken, knows_reposted, knows_heard}
 use Rattle.anti_inbox.proofs.inbox.Inbox.note.Goals as goal
-use Rattle.anti_inbox.proofs.inbox.Inbox.note.Goals.{After-index-number}
-
-there : (c : After-index-number) → (1 ≤ c.in-Take.nth) × (c.in-Take.nth ≤ length c.args.self.now.free.items)
-there c =
-    let m = c.args.self.now in
-    let h = c.requires.history in
-    taking_within m h c.in-Take.nth c.requires.stands_for (ap (λ (x : Call). ready (start_of m) h x) (sym c.in-Take.is) ∙ c.requires.is_ready)
-
-is : (c : After-index-number) → IsHanding c.args.self.now c.requires.history c.in-Take.nth c.index-number.result.now
-is c = handing c.args.self.now c.requires.history c.in-Take.nth c.index-number.result.now c.requires.stands_for (there c) c.index-number.ensures
-
-pub take-requires-clause-some : goal.take-requires-clause-some
-take-requires-clause-some c = (is (goal.at.take-requires-clause-some c).After-index-number).some
-
-pub take-requires-clause-within : goal.take-requires-clause-within
-take-requires-clause-within c =
-    let hand = is (goal.at.take-requires-clause-within c).After-index-number in
-    omega (arith, hand.within, count_fates c.args.self.now c.requires.history c.requires.stands_for)
 
 pub hear-requires-clause-some : goal.hear-requires-clause-some
 hear-requires-clause-some c =
@@ -41,17 +24,32 @@ hear-requires-clause-within c =
 pub returns-in-Take-clause-ok : goal.returns-in-Take-clause-ok
 returns-in-Take-clause-ok c = λ h e at f same.
     let m = c.args.self.now in
-    let nth = c.in-Take.nth in
-    let k = c.index-number.result.now in
-    knows_taken m c.take.new.self h e at f nth k (same ∙ c.in-Take.is)
-    (handing m h nth k at (there (goal.at.returns-in-Take-clause-ok c).After-index-number) c.index-number.ensures) c.take.ensures
+    let nth : ℕ = c.in-Take.nth in
+    let k : ℕ = get_or m.free.items (nth - 1) 0 in
+    let can = ap (λ (x : Call). ready (start_of m) c.requires.history x) (sym c.in-Take.is) ∙ c.requires.is_ready in
+    let there = taking_within m c.requires.history nth c.requires.stands_for can in
+    let hand = handing m h nth k at there (get_or_default m.free.items (nth - 1) 0 k (omega (arith, there))) in
+    knows_taken m c.take.new.self h e at f nth k (same ∙ c.in-Take.is) hand c.take.ensures
 
 pub returns-in-Take-clause-keeps : goal.returns-in-Take-clause-keeps
 returns-in-Take-clause-keeps c = keeps c.args.self.now c.take.new.self _ _ c.requires.stands_for.state.knows.requests_within (c.take.ensures untouched)
 
 pub returns-in-Repost-clause-ok : goal.returns-in-Repost-clause-ok
 returns-in-Repost-clause-ok c = λ h e at f same.
-    on_ok (λ turns. knows_reposted c.args.self.now c.repost.new.self h e at f c.in-Repost.number (same ∙ c.in-Repost.is) turns) c.repost.result (c.repost.ensures.ok h at)
+    let m = c.args.self.now in
+    let n = c.repost.new.self in
+    on_ok_each c.repost.result (λ d. c.repost.ensures.ok h d at)
+    (λ turns. knows_reposted m n h e at f c.in-Repost.number (same ∙ c.in-Repost.is) turns)
+
+pub returns-in-Repost-clause-keeps : goal.returns-in-Repost-clause-keeps
+returns-in-Repost-clause-keeps c =
+    let m = c.args.self.now in
+    let n = c.repost.new.self in
+    let h = c.requires.history in
+    let at = c.requires.stands_for in
+    let within = at.state.knows.requests_within in
+    both_ways c.repost.result (c.repost.ensures.ok h untouched at) (c.repost.ensures.err h at)
+    (λ turns. keeps m n _ _ within turns) (λ turns. keeps m n _ _ within turns)
 
 pub returns-in-TakeReply-clause-ok : goal.returns-in-TakeReply-clause-ok
 returns-in-TakeReply-clause-ok c = λ h e at f same. knows_heard c.args.self.now c.hear.new.self h e at f c.in-TakeReply.number (same ∙ c.in-TakeReply.is) c.hear.ensures

@@ -1,7 +1,7 @@
 use Rattle.std.proofs.Common.{◌+◌, ◌++◌, ◌∷◌, [], length, get_or, set, ◌-◌, subst, arith}
-use Rattle.anti_kind.specs.declared.call.Message.{Message}
-use Rattle.anti_inbox.specs.Fates.{answered, untouched}
-use Rattle.anti_inbox.specs.Inboxes.{Turns}
+use Rattle.anti_kind.specs.declared.message.Message.{Message}
+use Rattle.anti_inbox.specs.inner.Fates.{answered, untouched}
+use Rattle.anti_inbox.specs.inner.Inboxes.{Turns}
 use Rattle.anti_inbox.proofs.Outcomes.{on_ok, on_err, both_ways}
 use Rattle.anti_inbox.proofs.Reading.{answering_within, its_few}
 use Rattle.anti_inbox.proofs.Noting.{keeps, keeps_more, knows_same, knows_answered, knows_posted}

@@ -1,7 +1,7 @@
 use Rattle.std.proofs.Common.{◌+◌, ◌≤◌, ◌∙◌, ap, sym, refl, arith}
 use Rattle.anti_kind.specs.declared.call.Call.{Call}
-use Rattle.anti_kind.specs.Objects.{need, ready}
-use Rattle.anti_inbox.specs.Inboxes.{start_of}
+use Rattle.anti_kind.specs.Objects.{need}
+use Rattle.anti_inbox.specs.inner.Inboxes.{start_of}
 use Rattle.anti_inbox.proofs.Outcomes.{if_err}
 use Rattle.anti_inbox.proofs.Standing.{stands_more, stands_same, some_unit}
 use Rattle.anti_inbox.proofs.machine.InboxMachine.apply.Goals as goal
@@ -13,12 +13,11 @@ returns-in_err-note-clause-err c = λ h stands.
 pub overflow_sub-self : goal.overflow_sub-self
 overflow_sub-self c =
     let some : 1 ≤ c.args.self.now.owed + c.need-need.result =
-    some_unit c.args.self.now c.args.c.now c.need-need.result c.requires (c.need-need.ensures c.requires.history c.requires.stands_for c.requires.is_ready) in
+    some_unit c.args.self.now c.args.c.now c.need-need.result c.requires (c.need-need.ensures c.requires.history c.requires.stands_for) in
     omega (arith, c.note.ensures.keeps.owed_is)
 
 pub returns-clause-stands : goal.returns-clause-stands
 returns-clause-stands c = λ h e at f is.
     let m = c.args.self.now in
-    let can = ap (λ (x : Call). ready (start_of m) h x) (sym is) ∙ f.is_ready in
-    stands_more m h e at f c.note.new.self _ c.need-need.result (c.need-need.ensures h at can ∙ ap (λ (x : Call). need (start_of m) h x) (sym is))
+    stands_more m h e at f c.note.new.self _ c.need-need.result (c.need-need.ensures h at ∙ ap (λ (x : Call). need (start_of m) h x) (sym is))
     c.note.ensures.keeps (c.in_ok-note.ensures.ok h e at f is) refl

@@ -1,0 +1,2 @@
+pub mod BlobStates
+pub mod BlobLaws

@@ -1,0 +1,161 @@
+ghost use Rattle.std.specs.Prelude.{◌≡◌, ◌+◌, ◌-◌, ◌^◌, ◌<◌, max, true, [], ◌∷◌, ◌++◌, length, IfErr, IfOk, OnOk, OnErr, IsOk};
+ghost use Rattle.anti_kind.specs.Objects.{Follows, IsLegal, IsShip, StandsFor, due, fits, last_stamp, ready};
+ghost use Rattle.anti_kind.specs.Ports.{entry_of};
+ghost use Rattle.anti_kind.specs.Records.{Goes, IsRefusal};
+
+use crate::actor::Birth;
+use crate::asking::Asking;
+use crate::call::{Call, Reply};
+use crate::entry::{Entry, History};
+use crate::machine::Machine;
+use anti_ids::{List, MOST_UNITS, NoMemory};
+use std::alloc::Global;
+use std::marker::Model;
+
+/// Why a call can't be made now. `NotYet` comes first, then `Full`, then `Spent`.
+#[derive(Clone, Copy, PartialEq, Eq)]
+pub enum Refusal {
+    /// The call is not ready.
+    NotYet,
+    /// It is ready, and the three numbers of units are together more than an object has.
+    Full { held: u32, owed: u32, need: u32 },
+    /// It is ready and fits, and the greater of the two clocks, the asker's and the object's, is the last stamp there is.
+    Spent { clock: u64 },
+}
+
+/// A machine with the history of the calls that were made on it. It keeps the last stamp, and room in the history for the
+/// entries of all calls that units are reserved for.
+#[derive(Drop)]
+pub struct Recorded<M: Machine> {
+    machine: M,
+    history: History,
+    // the last stamp of the history
+    last: u64,
+}
+
+impl<M: Machine> Model for Recorded<M> {
+    ghost use Rattle.anti_kind.specs.Records.{Record, IsRecorded};
+
+    ghost Value = { Record M };
+
+    ghost view = { λ r. record { machine = r.machine; history = r.history.items } };
+
+    ghost invariant = { λ r. IsRecorded (M.start r.machine) (M.Stands r.machine) r.last r.history };
+}
+
+impl<M: Machine> Recorded<M> {
+    /// A machine that is at its start: no call was made on it. Without memory for the room of its history it is given back.
+    pub fn new(alloc: Global, start: M) -> Result<Recorded<M>, (M, NoMemory)>
+        requires { StandsFor (M.start start) (M.Stands start) [] }
+        ensures ok { IfOk result (λ r. r ≡ record { machine = start; history = [] }) }
+        ensures err { IfErr result (λ e. e.0 ≡ start) }
+    {
+        let mut history = List::new(alloc);
+        if history.reserve(start.owed()).is_err() {
+            return Err((start, NoMemory));
+        }
+        Ok(Recorded {
+            machine: start,
+            history,
+            last: 0,
+        })
+    }
+
+    /// The machine, which stands for the history. It takes no memory.
+    pub fn machine(&self) -> &M
+        ensures machine { result.now ≡ self.now.machine }
+        ensures stands { StandsFor (M.start self.now.machine) (M.Stands self.now.machine) self.now.history }
+    {
+        &self.machine
+    }
+
+    /// The calls that were made. It takes no memory.
+    pub fn history(&self) -> &History
+        ensures items { result.now.items ≡ self.now.history }
+        ensures legal { IsLegal (M.start self.now.machine) self.now.history }
+    {
+        &self.history
+    }
+
+    /// The machine and the calls that were made. It takes no memory.
+    pub fn into_parts(self) -> (M, History)
+        ensures machine { result.0 ≡ self.machine }
+        ensures history { result.1.items ≡ self.history }
+    {
+        (self.machine, self.history)
+    }
+
+    /// Whether what is asked can be done now, or why it can't. It takes no memory.
+    pub fn judge(&self, asking: &Asking) -> Result<(), Refusal>
+        ensures goes { OnOk result (Goes (M.start self.now.machine) self.now.history asking.now) }
+        ensures refused { IfErr result (λ refusal. IsRefusal (M.start self.now.machine) self.now.history asking.now refusal) }
+        ensures legal { IsLegal (M.start self.now.machine) self.now.history }
+    {
+        if !self.machine.ready(&asking.call) {
+            return Err(Refusal::NotYet);
+        }
+        let held = self.machine.held();
+        let owed = self.machine.owed();
+        let need = self.machine.need(&asking.call);
+        if need > MOST_UNITS - (held + owed) {
+            return Err(Refusal::Full { held, owed, need });
+        }
+        let clock = asking.clock.max(self.last);
+        if clock == u64::MAX {
+            return Err(Refusal::Spent { clock });
+        }
+        Ok(())
+    }
+
+    /// The reply that a call is due, which is ready and fits. Of a `Ship` it takes no memory.
+    pub fn due(&self, call: &Call) -> Result<Reply, NoMemory>
+        requires ready { ready (M.start self.now.machine) self.now.history call.now ≡ true }
+        requires fits { fits (M.start self.now.machine) self.now.history call.now ≡ true }
+        ensures due { IfOk result (λ r. r ≡ due (M.start self.now.machine) self.now.history call.now) }
+        ensures ship { IsShip call.now → IsOk result }
+    {
+        self.machine.due(call)
+    }
+
+    /// The entry of what is asked, with the given reply and the number of the pass that makes it: it has the next place, and the
+    /// stamp after the two clocks, the asker's and the object's. It takes no memory.
+    pub fn entry(&self, seat: u32, asking: Asking, reply: Reply) -> Entry
+        requires { max asking.clock (last_stamp self.now.history) < 2 ^ 64 - 1 }
+        ensures { result ≡ entry_of asking seat (length self.now.history + 1) (max asking.clock (last_stamp self.now.history) + 1) reply }
+    {
+        let place = self.history.len() as u32 + 1;
+        let birth = Birth {
+            object: asking.object,
+            place,
+        };
+        Entry {
+            stamp: asking.clock.max(self.last) + 1,
+            object: asking.object,
+            place,
+            seat,
+            actor: asking.actor.named(birth),
+            span: asking.span,
+            call: asking.call,
+            reply,
+        }
+    }
+
+    /// Makes the call of an entry that may come next, and answers its reply. Without memory nothing was made. A `Ship` takes no
+    /// memory.
+    pub fn make(&mut self, entry: Entry) -> Result<Reply, NoMemory>
+        requires { Follows (M.start self.old.machine) self.old.history entry }
+        ensures made { OnOk result (self.new.history ≡ self.old.history ++ entry ∷ []) }
+        ensures reply { IfOk result (λ r. r ≡ entry.reply) }
+        ensures err { OnErr result (self.new.history ≡ self.old.history) }
+        ensures legal { IsLegal (M.start self.old.machine) self.new.history }
+        ensures start { M.start self.new.machine ≡ M.start self.old.machine }
+        ensures ship { IsShip entry.call → IsOk result }
+    {
+        let room = self.machine.owed() + self.machine.need(&entry.call);
+        self.history.reserve(room)?;
+        let reply = self.machine.apply(&entry.call)?;
+        self.last = entry.stamp;
+        self.history.put(entry);
+        Ok(reply)
+    }
+}

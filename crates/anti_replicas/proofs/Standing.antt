@@ -1,0 +1,416 @@
+-- A base that made one call more stands for the history with that call.
+use Rattle.std.proofs.Common.{◌≡◌, ◌≢◌, ℕ, ◌+◌, ◌-◌, ◌*◌, ◌<◌, ◌≤◌, max, min, Bool, true, false, cond, ◌&&◌, List, [], ◌∷◌, ◌++◌, length, map, get_or, set, drop, replicate, refl, sym, ap, subst, ◌∙◌, inr, ⊎_elim, ◌==◌, eq-eqb, leb-true, arith}
+use Rattle.std.specs.Prelude.{bytes_eq, ◌^◌}
+use Rattle.std.specs.List.{prefix_len}
+use Rattle.std.proofs.lemmas.Bool.{cases_lt, cases_eq}
+use Rattle.std.proofs.lemmas.List.{map_push, length_push, length-map, get_or-map, get_or_append_left, get_or_push, get_or-replicate, map-set, set-get_or, get_or-set_same, get_or-set_other, length-set}
+use Rattle.std.proofs.lemmas.List.Sums.{prefix_len_passes}
+use Rattle.anti_ids.specs.declared.limits.TheConstants.{MOST_UNITS}
+use Rattle.anti_ids.specs.declared.id.WriteId.{WriteId}
+use Rattle.anti_kind.specs.declared.call.Call.{Call}
+use Rattle.anti_kind.specs.declared.call.Call.TheVariants.{Write, Ship}
+use Rattle.anti_kind.specs.declared.entry.Entry.{Entry}
+use Rattle.anti_kind.specs.declared.row.Row.{Row}
+use Rattle.anti_kind.specs.declared.store_kind.StoreKind.{StoreKind}
+use Rattle.anti_kind.specs.Stored.{rows, is_shipped, parts_of, is_whole, shows_of, upto_of}
+use Rattle.anti_kind.specs.Store.{Store, absent, key_for, store_due, owed_shipments, owed_messages}
+use Rattle.anti_kind.specs.Objects.{store, Follows, IsLegal, weight, held}
+use Rattle.anti_kind.proofs.Histories.{held_more, legal_more}
+use Rattle.anti_kind.proofs.Bounds.{held_within}
+use Rattle.anti_kind.proofs.Rows.{is_write, is_shipping, new_row, rows_write, rows_other, shipped_other, shipped_ship, version_at}
+use Rattle.anti_kind.proofs.Shipped.{IsReadyShipment, ready_ship, ready_shipment}
+use Rattle.anti_kind.proofs.Units.{owed_write, owed_ship, owed_other, ship_owed}
+use Rattle.anti_replicas.specs.declared.replicas.Replicas.{Replicas}
+use Rattle.anti_replicas.specs.declared.kept.Kept.{Kept}
+use Rattle.anti_replicas.specs.declared.newest.Newest.{Newest}
+use Rattle.anti_replicas.specs.inner.Marks.{mark_at, came, has_all, marked}
+use Rattle.anti_replicas.specs.inner.Newest.{newest_at, HasPlace, MakesPlace}
+use Rattle.anti_replicas.specs.inner.Standing.{IsKept, AreKept, Stands, Keeps, BringsIf, Marks, Shippable}
+use Rattle.anti_replicas.specs.Stores.{At, MayShip, MayWrite, IsOther}
+use Rattle.anti_replicas.proofs.Numbers.{prefix_alike, prefix_on}
+use Rattle.anti_replicas.proofs.Places.{and_true, and_false, or_true, max_zero}
+use Rattle.anti_replicas.proofs.Reading.{row_is, count_is}
+use Rattle.anti_replicas.proofs.Bringing.{replica_below, whole_of, its_part, no_version, upto_within}
+use Rattle.anti_replicas.proofs.Shows.{shows_write, upto_write, shows_ship, shows_other, upto_other, whole_stays, elsewhere, of_another, another_part, upto_elsewhere}
+
+-- What is kept of a write stays, where nothing of its version is shipped and no key loses its place.
+kept_later : (s : Store) (h k : List Entry) (old new : Newest) (v : ℕ) (x : Kept) → ((g p : ℕ) → is_shipped k g v p ≡ is_shipped h g v p)
+    → ((key : List ℕ) → HasPlace old key → HasPlace new key) → IsKept s h old v x → IsKept s k new v x
+kept_later s h k old new v x same places kept = record {
+  marks = λ g p low first last. kept.marks g p low first last ∙ sym (same g p);
+  size = kept.size;
+  parts = kept.parts;
+  some = kept.some;
+  few = kept.few;
+  place = places x.row.key kept.place;
+}
+
+-- How far a region has everything, by the marks.
+module _ (s : Store) (h : List Entry) (newest : Newest) (ks : List Kept) (legal : IsLegal (store s) h) (rows_are : map (λ (k : Kept). k.row) ks ≡ rows h) (kept : AreKept s h newest ks) (g : ℕ) (low : g < 8) where
+  kept_whole : (i : ℕ) (d : Kept) (e : Row) → i < length ks → has_all g (get_or ks i d) ≡ is_whole s.kind h g (get_or (rows h) i e)
+  kept_whole i d e short =
+      let row : (get_or ks i d).row ≡ get_or (rows h) i e = sym (get_or-map (λ (k : Kept). k.row) ks i d e short) ∙ ap (λ (rs : List Row). get_or rs i e) rows_are in
+      let within : i < length (rows h) = omega (arith, length-map ks (λ (k : Kept). k.row), ap (λ (rs : List Row). length rs) rows_are) in
+      whole_of s h newest (i + 1) (get_or ks i d) (kept i d short) (ap (λ (r : Row). r.version) row ∙ version_at s h legal i e within) g low
+      ∙ ap (is_whole s.kind h g) row
+
+  upto_by : prefix_len (has_all g) ks ≡ upto_of s.kind h g
+  upto_by =
+      prefix_alike (has_all g) (is_whole s.kind h g) ks (rows h) (sym (length-map ks (λ (k : Kept). k.row)) ∙ ap (λ (rs : List Row). length rs) rows_are)
+      (λ i d e short. kept_whole i d e short)
+
+-- what an entry weighs, from the reply that it is due
+weighs_due : (s : Store) (h : List Entry) (e : Entry) (c : Call) → Follows (store s) h e → e.call ≡ c → weight (store_due s h c) ≡ 1 → held (h ++ e ∷ []) ≡ held h + 1
+weighs_due s h e c f is one =
+    let due : e.reply ≡ store_due s h c = f.reply ∙ ap (λ (x : Call). store_due s h x) is in
+    let weighs : weight e.reply ≡ 1 = ap weight due ∙ one in
+    omega (arith, held_more h e)
+
+-- A write.
+
+module _ (m n : Replicas) (s : Store) (h : List Entry) (e : Entry) (name key value : List ℕ) (lineage : List WriteId) (v : ℕ)
+    (at : At m s h) (f : Follows (store s) h e) (is : e.call ≡ Write name value lineage) (key_is : key ≡ key_for s.kind h name) (v_is : v ≡ length m.kept.items + 1)
+    (keeps : Keeps m n (record { key = key; version = v; value = value; lineage = lineage })) where
+  abbrev the_row : Row
+  the_row = record { key = key; version = v; value = value; lineage = lineage }
+
+  abbrev one_kept : Kept
+  one_kept = record { row = the_row; marks = replicate 32 false; parts = parts_of m.kind value }
+
+  wrote_rows : map (λ (k : Kept). k.row) n.kept.items ≡ rows (h ++ e ∷ [])
+  wrote_rows =
+      let number : v ≡ length (rows h) + 1 = omega (arith, count_is m s h at.state) in
+      let row : the_row ≡ new_row s h name value lineage =
+      ap (λ (x : ℕ). let r : Row = record { key = key; version = x; value = value; lineage = lineage } in r) number
+      ∙ ap (λ (x : List ℕ). let r : Row = record { key = x; version = length (rows h) + 1; value = value; lineage = lineage } in r) key_is in
+      ap (map (λ (k : Kept). k.row)) keeps.kept_is ∙ map_push (λ (k : Kept). k.row) m.kept.items one_kept
+      ∙ ap (λ (rs : List Row). rs ++ the_row ∷ []) at.state.rows_are
+      ∙ ap (λ (r : Row). rows h ++ r ∷ []) row
+      ∙ sym (rows_write s h e name value lineage f is)
+
+  stays : (g w p : ℕ) → is_shipped (h ++ e ∷ []) g w p ≡ is_shipped h g w p
+  stays g w p = shipped_other h e g w p (ap is_shipping is)
+
+  unmarked : (g p : ℕ) → g < 8 → 1 ≤ p → p ≤ 4 → came one_kept g p ≡ is_shipped (h ++ e ∷ []) g (length m.kept.items + 1) p
+  unmarked g p low first last =
+      get_or-replicate 32 (mark_at g p) false false (omega arith)
+      ∙ sym (stays g (length m.kept.items + 1) p ∙ no_version m s h at g (length m.kept.items + 1) p (inr (omega arith)))
+
+  new_kept : IsKept s (h ++ e ∷ []) n.newest (length m.kept.items + 1) one_kept
+  new_kept = record {
+    marks = unmarked;
+    size = refl;
+    parts = ap (λ (kind : StoreKind). parts_of kind value) at.state.kind_is;
+    some = keeps.some;
+    few = keeps.few;
+    place = keeps.place;
+  }
+
+  wrote_kept : AreKept s (h ++ e ∷ []) n.newest (m.kept.items ++ one_kept ∷ [])
+  wrote_kept i d short =
+      ⊎_elim (λ (before : i < length m.kept.items).
+      subst (IsKept s (h ++ e ∷ []) n.newest (i + 1)) (sym (get_or_append_left m.kept.items (one_kept ∷ []) d i before))
+      (kept_later s h (h ++ e ∷ []) m.newest n.newest (i + 1) (get_or m.kept.items i d) (λ g p. stays g (i + 1) p) keeps.makes.places (at.state.kept_are i d before)))
+      (λ (last : length m.kept.items ≤ i).
+      let here : length m.kept.items ≡ i = omega (arith, length_push m.kept.items one_kept) in
+      subst (IsKept s (h ++ e ∷ []) n.newest (i + 1)) (sym (get_or_push m.kept.items one_kept d i here))
+      (subst (λ (x : ℕ). IsKept s (h ++ e ∷ []) n.newest (x + 1) one_kept) here new_kept))
+      (cases_lt i (length m.kept.items))
+
+  wrote_owed : n.owed ≡ owed_shipments s (h ++ e ∷ [])
+  wrote_owed =
+      keeps.owed_is
+      ∙ ap (λ (x : ℕ). x + m.replicas * parts_of m.kind value) at.state.owed_is
+      ∙ ap (λ (x : ℕ). owed_shipments s h + x * parts_of m.kind value) at.state.replicas_are
+      ∙ ap (λ (kind : StoreKind). owed_shipments s h + length s.regions * parts_of kind value) at.state.kind_is
+      ∙ sym (owed_write s h e name value lineage at.legal f is)
+
+  pub stands_write : Stands n s (h ++ e ∷ [])
+  stands_write = record {
+    kind_is = keeps.kind_is ∙ at.state.kind_is;
+    number_is = keeps.store_is ∙ at.state.number_is;
+    regions_are = ap (λ (v : _). v.items) keeps.regions_are ∙ at.state.regions_are;
+    replicas_are = keeps.replicas_are ∙ at.state.replicas_are;
+    rows_are = wrote_rows;
+    kept_are = subst (AreKept s (h ++ e ∷ []) n.newest) (sym keeps.kept_is) wrote_kept;
+    marks = ap (λ (us : List ℕ). length us) keeps.upto_is ∙ at.state.marks;
+    upto_is = λ g low. ap (λ (us : List ℕ). get_or us g 0) keeps.upto_is ∙ at.state.upto_is g low ∙ sym (upto_write s h e at.legal f g name value lineage is);
+    shows = λ g k low. keeps.makes.same g k ∙ at.state.shows g k low ∙ sym (shows_write s h e at.legal f g name value lineage is k);
+    held_is = omega (arith, keeps.held_is, at.state.held_is, weighs_due s h e (Write name value lineage) f is refl);
+    owed_is = wrote_owed;
+  }
+
+-- A shipment.
+
+-- each part at each region has a mark of its own
+marks_apart : (g p region part : ℕ) → 1 ≤ p → p ≤ 4 → 1 ≤ part → part ≤ 4 → mark_at g p ≡ mark_at region part → (g ≡ region) × (p ≡ part)
+marks_apart g p region part a b c d same = (omega arith, omega arith)
+
+places_if : (b : Bool) (m n : Newest) (g : ℕ) (key : List ℕ) (v : ℕ) → BringsIf b m n g key v → (k : List ℕ) → HasPlace m k → HasPlace n k
+places_if true m n g key v brings k has = brings.places k has
+places_if false m n g key v brings k has = subst (λ (x : Newest). HasPlace x k) (sym brings) has
+
+now_if : (b : Bool) (m n : Newest) (region : ℕ) (key : List ℕ) (v : ℕ) → BringsIf b m n region key v → (g : ℕ) (k : List ℕ)
+    → newest_at n g k ≡ max (cond ((region == g) && (bytes_eq key k && b)) v 0) (newest_at m g k)
+now_if true m n region key v brings g k = brings.now g k ∙ ap (λ (b : Bool). max (cond ((region == g) && b) v 0) (newest_at m g k)) (sym (and_true (bytes_eq key k)))
+now_if false m n region key v brings g k =
+    ap (λ (x : Newest). newest_at x g k) brings ∙ max_zero (newest_at m g k)
+    ∙ ap (λ (b : Bool). max (cond b v 0) (newest_at m g k)) (sym (ap (λ (b : Bool). (region == g) && b) (and_false (bytes_eq key k)) ∙ and_false (region == g)))
+
+module _ (m n : Replicas) (s : Store) (h : List Entry) (e : Entry) (region version part : ℕ) (at : At m s h) (f : Follows (store s) h e) (is : e.call ≡ Ship region version part) (marks : Marks m n region version part) where
+  no_kept : Kept
+  no_kept = record { row = absent []; marks = []; parts = 0 }
+
+  ready_part : IsReadyShipment s h region version part
+  ready_part = ready_ship s h e region version part f is
+
+  low : region < 8
+  low = replica_below m s h at region ready_part.shipment.replica
+
+  there : (1 ≤ version) × (version ≤ length m.kept.items) × (1 ≤ part) × (part ≤ 4)
+  there = its_part m s h at version part ready_part.shipment.part
+
+  here : version - 1 < length m.kept.items
+  here = omega (arith, there.0, there.1)
+
+  legal : IsLegal (store s) (h ++ e ∷ [])
+  legal = legal_more (store s) h e at.legal f
+
+  abbrev was : Kept → Kept
+  was d = get_or m.kept.items (version - 1) d
+
+  abbrev new_one : Kept
+  new_one = marked region part (was no_kept)
+
+  shipped_rows : map (λ (k : Kept). k.row) n.kept.items ≡ rows (h ++ e ∷ [])
+  shipped_rows =
+      ap (map (λ (k : Kept). k.row)) (marks.kept_is no_kept)
+      ∙ map-set (λ (k : Kept). k.row) m.kept.items (version - 1) new_one
+      ∙ sym (map-set (λ (k : Kept). k.row) m.kept.items (version - 1) (was no_kept))
+      ∙ ap (map (λ (k : Kept). k.row)) (set-get_or m.kept.items (version - 1) no_kept)
+      ∙ at.state.rows_are ∙ sym (rows_other h e (ap is_write is))
+
+  was_kept : IsKept s h m.newest version (was no_kept)
+  was_kept = subst (λ (v : ℕ). IsKept s h m.newest v (was no_kept)) (omega (arith, there.0)) (at.state.kept_are (version - 1) no_kept here)
+
+  now_shipped : is_shipped (h ++ e ∷ []) region version part ≡ true
+  now_shipped =
+      let a : (region == region) ≡ true = eq-eqb region region refl in
+      let b : (version == version) ≡ true = eq-eqb version version refl in
+      let c : (part == part) ≡ true = eq-eqb part part refl in
+      shipped_ship h e region version part region version part is ∙ rw (a, b, c) (or_true (is_shipped h region version part))
+
+  other_mark : (g p : ℕ) → (mark_at g p ≡ mark_at region part → ⊥) → is_shipped h g version p ≡ is_shipped (h ++ e ∷ []) g version p
+  other_mark g p other =
+      ⊎_elim (λ (same : region ≡ g).
+      sym (another_part s h e at.legal f g region version part is version p
+      (λ eq. other (ap (λ (x : ℕ). mark_at x p) (sym same) ∙ ap (mark_at region) (sym eq)))))
+      (λ (differs : region ≡ g → ⊥). sym (elsewhere s h e at.legal f g region version part is differs version p))
+      (cases_eq region g)
+
+  mark_here : (g p : ℕ) → g < 8 → 1 ≤ p → p ≤ 4 → came new_one g p ≡ is_shipped (h ++ e ∷ []) g version p
+  mark_here g p low' first last =
+      let within : mark_at region part < length (was no_kept).marks = omega (arith, low, there.2, there.3, was_kept.size) in
+      ⊎_elim (λ (same : mark_at g p ≡ mark_at region part).
+      let both = marks_apart g p region part first last there.2 there.3 same in
+      ap (λ (x : ℕ). get_or (set (was no_kept).marks (mark_at region part) true) x false) same
+      ∙ get_or-set_same (was no_kept).marks (mark_at region part) true false within
+      ∙ sym (ap (λ (x : ℕ). is_shipped (h ++ e ∷ []) x version p) both.0 ∙ ap (is_shipped (h ++ e ∷ []) region version) both.1 ∙ now_shipped))
+      (λ (other : mark_at g p ≡ mark_at region part → ⊥).
+      get_or-set_other (was no_kept).marks (mark_at region part) (mark_at g p) true false other
+      ∙ was_kept.marks g p low' first last ∙ other_mark g p other)
+      (cases_eq (mark_at g p) (mark_at region part))
+
+  abbrev full : Bool
+  full = has_all region new_one
+
+  brings : BringsIf full m.newest n.newest region (was no_kept).row.key version
+  brings = marks.brings no_kept
+
+  places : (k : List ℕ) → HasPlace m.newest k → HasPlace n.newest k
+  places = places_if full m.newest n.newest region (was no_kept).row.key version brings
+
+  one_kept' : IsKept s (h ++ e ∷ []) n.newest version new_one
+  one_kept' = record {
+    marks = mark_here;
+    size = length-set (was no_kept).marks (mark_at region part) true ∙ was_kept.size;
+    parts = was_kept.parts;
+    some = was_kept.some;
+    few = was_kept.few;
+    place = places (was no_kept).row.key was_kept.place;
+  }
+
+  shipped_kept : AreKept s (h ++ e ∷ []) n.newest (set m.kept.items (version - 1) new_one)
+  shipped_kept i d short =
+      ⊎_elim (λ (same : i ≡ version - 1).
+      let is' : get_or (set m.kept.items (version - 1) new_one) i d ≡ new_one =
+      ap (λ (x : ℕ). get_or (set m.kept.items (version - 1) new_one) x d) same ∙ get_or-set_same m.kept.items (version - 1) new_one d here in
+      subst (IsKept s (h ++ e ∷ []) n.newest (i + 1)) (sym is')
+      (subst (λ (v : ℕ). IsKept s (h ++ e ∷ []) n.newest v new_one) (omega (arith, there.0)) one_kept'))
+      (λ (other : i ≢ version - 1).
+      let within : i < length m.kept.items = omega (arith, length-set m.kept.items (version - 1) new_one) in
+      subst (IsKept s (h ++ e ∷ []) n.newest (i + 1)) (sym (get_or-set_other m.kept.items (version - 1) i new_one d other))
+      (kept_later s h (h ++ e ∷ []) m.newest n.newest (i + 1) (get_or m.kept.items i d)
+      (λ g p. of_another s h e at.legal f g region version part is (i + 1) p (λ eq. other (omega (arith, eq))))
+      places (at.state.kept_are i d within)))
+      (cases_eq i (version - 1))
+
+  kept_now : AreKept s (h ++ e ∷ []) n.newest n.kept.items
+  kept_now = subst (AreKept s (h ++ e ∷ []) n.newest) (sym (marks.kept_is no_kept)) shipped_kept
+
+  -- how far the region has everything moves on
+  count_now : length n.kept.items ≡ length m.kept.items
+  count_now = ap (λ (ks : List Kept). length ks) (marks.kept_is no_kept) ∙ length-set m.kept.items (version - 1) new_one
+
+  stay_whole : (i : ℕ) (d : Kept) → i < upto_of s.kind h region → has_all region (get_or n.kept.items i d) ≡ true
+  stay_whole i d less =
+      let short : i < length n.kept.items = omega (arith, count_now, upto_within m s h at region) in
+      kept_whole s (h ++ e ∷ []) n.newest n.kept.items legal shipped_rows kept_now region low i d (absent []) short
+      ∙ ap (λ (rs : List Row). is_whole s.kind (h ++ e ∷ []) region (get_or rs i (absent []))) (rows_other h e (ap is_write is))
+      ∙ whole_stays s h e at.legal f region region version part is (get_or (rows h) i (absent [])) (prefix_len_passes (is_whole s.kind h region) (rows h) i (absent []) less)
+
+  moved_on : get_or m.upto region 0 + prefix_len (has_all region) (drop (get_or m.upto region 0) n.kept.items) ≡ upto_of s.kind (h ++ e ∷ []) region
+  moved_on =
+      ap (λ (u : ℕ). u + prefix_len (has_all region) (drop u n.kept.items)) (at.state.upto_is region low)
+      ∙ prefix_on (has_all region) (upto_of s.kind h region) n.kept.items (omega (arith, count_now, upto_within m s h at region)) stay_whole
+      ∙ upto_by s (h ++ e ∷ []) n.newest n.kept.items legal shipped_rows kept_now region low
+
+  shipped_upto : (g : ℕ) → g < 8 → get_or n.upto g 0 ≡ upto_of s.kind (h ++ e ∷ []) g
+  shipped_upto g low' =
+      let next : ℕ = get_or m.upto region 0 + prefix_len (has_all region) (drop (get_or m.upto region 0) n.kept.items) in
+      ap (λ (us : List ℕ). get_or us g 0) marks.upto_is
+      ∙ ⊎_elim (λ (same : g ≡ region).
+      ap (λ (x : ℕ). get_or (set m.upto region next) x 0) same
+      ∙ get_or-set_same m.upto region next 0 (omega (arith, low, at.state.marks))
+      ∙ moved_on ∙ ap (upto_of s.kind (h ++ e ∷ [])) (sym same))
+      (λ (other : g ≢ region).
+      get_or-set_other m.upto region g next 0 other ∙ at.state.upto_is g low'
+      ∙ sym (upto_elsewhere s h e at.legal f g region version part is (λ eq. other (sym eq))))
+      (cases_eq g region)
+
+  -- the version now stands beside its key, if it is whole
+  shipped_shows : (g : ℕ) (k : List ℕ) → g < 8 → newest_at n.newest g k ≡ shows_of s.kind (h ++ e ∷ []) g k
+  shipped_shows g k low' =
+      let short : version - 1 < length (rows h) = omega (arith, here, count_is m s h at.state) in
+      let place : version ≡ version - 1 + 1 = omega (arith, there.0) in
+      let row : get_or (rows h) (version - 1) (absent []) ≡ (was no_kept).row = row_is m s h at.state (version - 1) no_kept (absent []) here in
+      let number : (was no_kept).row.version ≡ version = ap (λ (r : Row). r.version) (sym row) ∙ version_at s h at.legal (version - 1) (absent []) short ∙ sym place in
+      now_if full m.newest n.newest region (was no_kept).row.key version brings g k
+      ∙ ap (λ (v : ℕ). max (cond ((region == g) && (bytes_eq (was no_kept).row.key k && full)) version 0) v) (at.state.shows g k low')
+      ∙ ap (λ (b : Bool). max (cond ((region == g) && (bytes_eq (was no_kept).row.key k && b)) version 0) (shows_of s.kind h g k))
+      (whole_of s (h ++ e ∷ []) n.newest version new_one one_kept' number region low)
+      ∙ ap (λ (r : Row). max (cond ((region == g) && (bytes_eq r.key k && is_whole s.kind (h ++ e ∷ []) region r)) version 0) (shows_of s.kind h g k)) (sym row)
+      ∙ sym (shows_ship s h e at.legal f g region version part is (version - 1) (absent []) place short k)
+
+  pub stands_ship : Stands n s (h ++ e ∷ [])
+  stands_ship = record {
+    kind_is = marks.kind_is ∙ at.state.kind_is;
+    number_is = marks.store_is ∙ at.state.number_is;
+    regions_are = ap (λ (v : _). v.items) marks.regions_are ∙ at.state.regions_are;
+    replicas_are = marks.replicas_are ∙ at.state.replicas_are;
+    rows_are = shipped_rows;
+    kept_are = kept_now;
+    marks = ap (λ (us : List ℕ). length us) marks.upto_is ∙ length-set m.upto region _ ∙ at.state.marks;
+    upto_is = shipped_upto;
+    shows = shipped_shows;
+    held_is = omega (arith, marks.held_is, at.state.held_is, weighs_due s h e (Ship region version part) f is refl);
+    owed_is =
+        let less : owed_shipments s h ≡ owed_shipments s (h ++ e ∷ []) + 1 = owed_ship s h e region version part at.sane at.legal f is in
+        omega (arith, marks.owed_is, at.state.owed_is);
+  }
+
+-- Any other call: only the units that are held grow.
+
+pub other_write : (c : Call) → IsOther c → is_write c ≡ false
+other_write (Write key value lineage) other = absurd other
+other_write _ other = refl
+
+pub other_ship : (c : Call) → IsOther c → is_shipping c ≡ false
+other_ship (Ship region version part) other = absurd other
+other_ship _ other = refl
+
+module _ (m n : Replicas) (s : Store) (h : List Entry) (e : Entry) (units : ℕ) (at : At m s h) (f : Follows (store s) h e) (other : IsOther e.call) (weighs : weight e.reply ≡ units)
+    (is : n ≡ record m { held = min (m.held + units) (2 ^ 32 - 1) }) where
+  writes : is_write e.call ≡ false
+  writes = other_write e.call other
+
+  ships : is_shipping e.call ≡ false
+  ships = other_ship e.call other
+
+  pub stands_other : Stands n s (h ++ e ∷ [])
+  stands_other = subst (λ (x : Replicas). Stands x s (h ++ e ∷ [])) (sym is) (record {
+    kind_is = at.state.kind_is;
+    number_is = at.state.number_is;
+    regions_are = at.state.regions_are;
+    replicas_are = at.state.replicas_are;
+    rows_are = at.state.rows_are ∙ sym (rows_other h e writes);
+    kept_are = λ i d short.
+        kept_later s h (h ++ e ∷ []) m.newest m.newest (i + 1) (get_or m.kept.items i d) (λ g p. shipped_other h e g (i + 1) p ships) (λ k has. has) (at.state.kept_are i d short);
+    marks = at.state.marks;
+    upto_is = λ g low. at.state.upto_is g low ∙ sym (upto_other s h e at.legal f g writes ships);
+    shows = λ g k low. at.state.shows g k low ∙ sym (shows_other s h e at.legal f g writes ships k);
+    held_is =
+        let within : held (h ++ e ∷ []) ≤ MOST_UNITS = held_within (store s) (h ++ e ∷ []) at.sane (legal_more (store s) h e at.legal f) in
+        omega (arith, at.state.held_is, held_more h e);
+    owed_is = at.state.owed_is ∙ sym (owed_other s h e writes ships);
+  })
+
+-- A write that found no memory: the key may have got its place.
+
+pub stands_with_place : (m n : Replicas) (s : Store) (h : List Entry) → Stands m s h → MakesPlace m.newest n.newest → n.kept.items ≡ m.kept.items
+    → n ≡ record m { newest = n.newest; kept = n.kept } → Stands n s h
+stands_with_place m n s h state makes kept is = subst (λ (x : Replicas). Stands x s h) (sym is) (record {
+  kind_is = state.kind_is;
+  number_is = state.number_is;
+  regions_are = state.regions_are;
+  replicas_are = state.replicas_are;
+  rows_are = ap (map (λ (k : Kept). k.row)) kept ∙ state.rows_are;
+  kept_are = subst (AreKept s h n.newest) (sym kept) (λ i d short.
+      kept_later s h h m.newest n.newest (i + 1) (get_or m.kept.items i d) (λ g p. refl) makes.places (state.kept_are i d short));
+  marks = state.marks;
+  upto_is = state.upto_is;
+  shows = λ g k low. makes.same g k ∙ state.shows g k low;
+  held_is = state.held_is;
+  owed_is = state.owed_is;
+})
+
+-- What a call finds that may be made.
+
+pub shippable : (m : Replicas) (g v p : ℕ) → MayShip m g v p → Shippable m g v p
+shippable m g v p may =
+    let s : Store = may.0 in
+    let h : List Entry = may.1.history in
+    let at : At m s h = may.1.stands_for in
+    let can = ready_shipment s h g v p may.1.is_ready in
+    let there = its_part m s h at v p can.shipment.part in
+    let low : g < 8 = replica_below m s h at g can.shipment.replica in
+    let owes : 1 ≤ owed_shipments s h = ship_owed s h g v p at.sane at.legal may.1.is_ready in
+    let units : held h + (owed_shipments s h + owed_messages s h) + 0 ≤ MOST_UNITS = leb-true _ _ may.1.fits in
+    record {
+      region = low;
+      first = there.0;
+      kept = there.1;
+      part = there.3;
+      marks = at.state.marks;
+      upto = omega (arith, at.state.upto_is g low, upto_within m s h at g);
+      size = λ d. (at.state.kept_are (v - 1) d (omega (arith, there.0, there.1))).size;
+      place = λ d. (at.state.kept_are (v - 1) d (omega (arith, there.0, there.1))).place;
+      owed = omega (arith, at.state.owed_is);
+      held = omega (arith, at.state.held_is);
+    }
+
+pub writable : (m : Replicas) (value : List ℕ) (lineage : List WriteId) → MayWrite m value lineage → m.held + m.owed + m.replicas * parts_of m.kind value < MOST_UNITS
+writable m value lineage may =
+    let s : Store = may.0 in
+    let h : List Entry = may.2.history in
+    let at : At m s h = may.2.stands_for in
+    let units : held h + (owed_shipments s h + owed_messages s h) + (1 + length s.regions * parts_of s.kind value) ≤ MOST_UNITS = leb-true _ _ may.2.fits in
+    let same : m.replicas * parts_of m.kind value ≡ length s.regions * parts_of s.kind value =
+    ap (λ (x : ℕ). x * parts_of m.kind value) at.state.replicas_are ∙ ap (λ (kind : StoreKind). length s.regions * parts_of kind value) at.state.kind_is in
+    omega (arith, at.state.held_is, at.state.owed_is)
+
+-- For the kinds: a store that is made of the base's number and regions stays the same one, where these stay.
+
+pub stands_for_own : (m : Replicas) (made : ℕ → List ℕ → Store) (a b : ℕ) (xs ys : List ℕ) (h : List Entry) → a ≡ b → xs ≡ ys → Stands m (made b ys) h → Stands m (made a xs) h
+stands_for_own m made a b xs ys h number regions stands =
+    subst (λ (x : ℕ). Stands m (made x xs) h) (sym number) (subst (λ (zs : List ℕ). Stands m (made b zs) h) (sym regions) stands)

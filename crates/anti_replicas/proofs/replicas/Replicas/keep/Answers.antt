@@ -1,0 +1,13 @@
+use Rattle.std.proofs.Common.{Ok, Err, Result, OnErr, refl, rules}
+use Rattle.anti_replicas.proofs.Standing.{stands_with_place}
+use Rattle.anti_replicas.proofs.replicas.Replicas.keep.Goals as goal
+
+on_err : {T E P : Type 0} (r : Result T E) → P → OnErr r P
+on_err (Ok x) holds = tt
+on_err (Err e) holds = holds
+
+pub returns-in_err-make_place-clause-err : goal.returns-in_err-make_place-clause-err
+returns-in_err-make_place-clause-err c = λ s h state. on_err c.from_residual-in_err-make_place.result (stands_with_place c.args.self.now _ s h state c.make_place.ensures.makes refl refl)
+
+pub returns-then-is_err-clause-err : goal.returns-then-is_err-clause-err
+returns-then-is_err-clause-err c = λ s h state. stands_with_place c.args.self.now _ s h state c.make_place.ensures.makes (search rules) refl

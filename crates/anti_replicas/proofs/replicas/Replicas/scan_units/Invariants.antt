@@ -1,0 +1,11 @@
+use Rattle.std.proofs.Common.{◌≡◌, ◌+◌, List, length}
+use Rattle.anti_kind.specs.declared.entry.Entry.{Entry}
+use Rattle.anti_kind.specs.Store.{Store}
+use Rattle.anti_replicas.specs.Stores.{At}
+use Rattle.anti_replicas.specs.inner.Scans.{listed}
+use Rattle.anti_replicas.proofs.replicas.Replicas.scan_units.Given as goal
+
+abbrev pub invariant-loop-key : goal.invariant-loop-key
+invariant-loop-key l =
+    (s : Store) (h : List Entry) → At l.self s h
+    → l.count + length (listed h l.region l.prefix l.key-iterator) ≡ length (listed h l.region l.prefix l.self.newest.versions.entries)

@@ -1,0 +1,48 @@
+-- The words of the base's clauses: which histories it stands for, and which calls may change it.
+use Rattle.std.specs.Prelude.{◌≡◌, ℕ, List}
+use Rattle.anti_ids.specs.declared.id.WriteId.{WriteId}
+use Rattle.anti_kind.specs.declared.call.Call.{Call}
+use Rattle.anti_kind.specs.declared.call.Call.TheVariants.{Write, Ship}
+use Rattle.anti_kind.specs.declared.entry.Entry.{Entry}
+use Rattle.anti_kind.specs.declared.store_kind.StoreKind.{StoreKind}
+use Rattle.anti_kind.specs.Store.{Store, store_of}
+use Rattle.anti_kind.specs.Objects.{store, StandsFor, MayMake}
+use Rattle.anti_replicas.specs.declared.replicas.Replicas.{Replicas}
+use Rattle.anti_replicas.specs.inner.Standing.{Stands}
+
+-- the kind, the number and the regions of the store whose base it is
+abbrev pub kind_of : Replicas → StoreKind
+kind_of m = m.kind
+
+abbrev pub number_of : Replicas → ℕ
+number_of m = m.store
+
+abbrev pub regions_of : Replicas → List ℕ
+regions_of m = m.regions.items
+
+-- the store has this kind, this number and these regions
+pub record IsOf (s : Store) (kind : StoreKind) (number : ℕ) (regions : List ℕ) : Type 0 where
+  pub kind_is : s.kind ≡ kind
+  pub number_is : s.number ≡ number
+  pub regions_are : s.regions ≡ regions
+
+-- m stands for h, a legal history of the store s
+abbrev pub At : Replicas → Store → List Entry → Type 0
+At m s h = StandsFor (store s) (Stands m s) h
+
+-- the same store, where each region shows the greatest version that is whole there
+abbrev pub showing_whole : Store → Store
+showing_whole s = store_of s.kind s.number s.regions s.subs s.tries
+
+-- after some history of some store for which m stands the shipment, or the write, is ready and fits
+abbrev pub MayShip : Replicas → ℕ → ℕ → ℕ → Type 0
+MayShip m g v p = (s : Store) × MayMake (store s) (Stands m s) (Ship g v p)
+
+abbrev pub MayWrite : Replicas → List ℕ → List WriteId → Type 0
+MayWrite m value lineage = (s : Store) × (name : List ℕ) × MayMake (store s) (Stands m s) (Write name value lineage)
+
+-- a call that writes and ships nothing
+abbrev pub IsOther : Call → Type 0
+IsOther (Write key value lineage) = ⊥
+IsOther (Ship region version part) = ⊥
+IsOther _ = Unit {0}

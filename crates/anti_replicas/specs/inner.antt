@@ -1,0 +1,4 @@
+pub mod Marks
+pub mod Newest
+pub mod Scans
+pub mod Standing

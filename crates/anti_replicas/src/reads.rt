@@ -1,0 +1,52 @@
+ghost use Rattle.std.specs.Prelude.{◌≡◌, List, [], ◌∷◌, IfOk};
+ghost use Rattle.anti_ids.specs.List.{plain};
+ghost use Rattle.anti_kind.specs.declared.call.Reply.TheVariants.{Shown};
+ghost use Rattle.anti_kind.specs.declared.entry.Entry.{Entry};
+ghost use Rattle.anti_kind.specs.Stored.{shows_of};
+ghost use Rattle.anti_kind.specs.Store.{Store, shown_row};
+
+use crate::replicas::Replicas;
+use anti_ids::{Copies, Lineage, MOST_REGIONS, Name, NoMemory, Value};
+use anti_kind::{Reply, Row, Rows};
+
+impl Replicas {
+    ghost use Rattle.anti_replicas.specs.Stores.{At, showing_whole};
+
+    /// The greatest version of the key that is whole at the region, 0 where none is.
+    pub fn shown_version(&self, region: u32, key: &Name) -> u64
+        ensures { (s : Store) (h : List Entry) → At self.now s h
+            → result ≡ shows_of s.kind h region key.now }
+    {
+        if region as usize >= MOST_REGIONS {
+            return 0;
+        }
+        self.newest.version(region, key)
+    }
+
+    /// The row of the key that the region shows.
+    pub fn shown_row(&self, region: u32, key: &Name) -> Result<Row, NoMemory>
+        ensures { (s : Store) (h : List Entry) → At self.now s h
+            → IfOk result (λ row. row ≡ shown_row (showing_whole s) h region key.now) }
+    {
+        match self.kept_at(self.shown_version(region, key)) {
+            Some(kept) => kept.row.copy(self.alloc),
+            None => Ok(Row {
+                key: *key,
+                version: 0,
+                value: Value::empty(self.alloc),
+                lineage: Lineage::root(self.alloc),
+            }),
+        }
+    }
+
+    /// The reply to a read: the row of the key that the region shows.
+    pub fn read(&self, region: u32, key: &Name) -> Result<Reply, NoMemory>
+        ensures { (s : Store) (h : List Entry) → At self.now s h
+            → IfOk result (λ reply. reply ≡ Shown (plain (shown_row (showing_whole s) h region key.now ∷ []))) }
+    {
+        let row = self.shown_row(region, key)?;
+        let mut rows = Rows::new(self.alloc);
+        rows.add(row)?;
+        Ok(Reply::Shown(rows))
+    }
+}

@@ -1,0 +1,69 @@
+ghost use Rattle.std.specs.Prelude.{◌≡◌, ◌≤◌, List, [], length, IfOk};
+ghost use Rattle.anti_kind.specs.declared.entry.Entry.{Entry};
+ghost use Rattle.anti_kind.specs.Store.{Store, is_replica};
+
+use crate::kept::Kept;
+use crate::newest::Newest;
+use anti_ids::{MOST_REGIONS, NoMemory};
+use anti_kind::StoreKind;
+use std::alloc::Global;
+
+/// What all kinds of store share. It stands for a history of a store of any kind.
+#[derive(Drop)]
+pub struct Replicas {
+    pub(crate) store: u32,
+    pub(crate) kind: StoreKind,
+    pub(crate) replicas: u8,
+    pub(crate) regions: Vec<u32>,
+    // the write of version v at the index v - 1
+    pub(crate) kept: Vec<Kept>,
+    // for each region how many versions, from the first on, are whole there
+    pub(crate) upto: [u64; MOST_REGIONS],
+    pub(crate) newest: Newest,
+    pub(crate) held: u32,
+    pub(crate) owed: u32,
+    pub(crate) alloc: Global,
+}
+
+impl Replicas {
+    ghost use Rattle.anti_replicas.specs.inner.Standing.{Stands};
+    ghost use Rattle.anti_replicas.specs.Stores.{At, kind_of, number_of, regions_of, IsOf};
+
+    /// The base of a store of this kind with this number, of which no call was made yet. It has a replica in each of these
+    /// regions. It is refused only for want of memory.
+    pub fn new(
+        alloc: Global,
+        kind: StoreKind,
+        store: u32,
+        regions: &[u32],
+    ) -> Result<Replicas, NoMemory>
+        requires { length regions.now ≤ MOST_REGIONS }
+        ensures kind { IfOk result (λ m. kind_of m ≡ kind) }
+        ensures number { IfOk result (λ m. number_of m ≡ store) }
+        ensures regions { IfOk result (λ m. regions_of m ≡ regions.now) }
+        ensures stands { (s : Store) → IsOf s kind store regions.now → IfOk result (λ m. Stands m s []) }
+    {
+        match Vec::from_slice(alloc, regions) {
+            Ok(regions) => Ok(Replicas {
+                store,
+                kind,
+                replicas: regions.len() as u8,
+                regions,
+                kept: Vec::new(alloc),
+                upto: [0; MOST_REGIONS],
+                newest: Newest::new(alloc),
+                held: 0,
+                owed: 0,
+                alloc,
+            }),
+            Err(_) => Err(NoMemory),
+        }
+    }
+
+    /// Whether the store has a replica in the region.
+    pub fn is_replica(&self, region: u32) -> bool
+        ensures { (s : Store) (h : List Entry) → At self.now s h → result ≡ is_replica s region }
+    {
+        self.regions.as_slice().contains(&region)
+    }
+}

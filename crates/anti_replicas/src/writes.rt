@@ -1,0 +1,111 @@
+ghost use Rattle.std.specs.Prelude.{◌≡◌, ℕ, ◌+◌, ◌-◌, ◌*◌, ◌≤◌, ◌⊎◌, ◌<◌, List, [], ◌∷◌, ◌++◌, length, IfOk, OnOk, OnErr, IfSome, IfNone, slice_get};
+ghost use Rattle.anti_kind.specs.declared.call.Call.TheVariants.{Write};
+ghost use Rattle.anti_kind.specs.declared.entry.Entry.{Entry};
+ghost use Rattle.anti_ids.specs.declared.limits.TheConstants.{MOST_UNITS};
+ghost use Rattle.anti_kind.specs.Stored.{rows, row_of, parts_of};
+ghost use Rattle.anti_kind.specs.Store.{Store, key_for, is_there};
+ghost use Rattle.anti_kind.specs.Objects.{store, Follows};
+
+use crate::kept::{Kept, MARKS};
+use crate::replicas::Replicas;
+use crate::units::parts_of;
+use anti_ids::{Copies, Lineage, Name, NoMemory, Value};
+use anti_kind::Row;
+
+impl Replicas {
+    ghost use Rattle.anti_replicas.specs.declared.kept.Kept.{Kept};
+    ghost use Rattle.anti_replicas.specs.inner.Standing.{Stands, Keeps};
+    ghost use Rattle.anti_replicas.specs.Stores.{At, MayWrite, kind_of, number_of, regions_of};
+
+    /// The version of the next write.
+    pub fn next_version(&self) -> u64
+        ensures { (s : Store) (h : List Entry) → At self.now s h → result ≡ length (rows h) + 1 }
+    {
+        self.kept.len() as u64 + 1
+    }
+
+    // What is kept of a version.
+    pub(crate) fn kept_at(&self, version: u64) -> Option<&Kept>
+        ensures first { IfSome result (λ kept. 1 ≤ version) }
+        ensures kept { IfSome result (λ kept. slice_get self.now.kept.items (version - 1) ≡ Some kept.now) }
+        ensures none { IfNone result ((version ≡ 0) ⊎ (length self.now.kept.items < version)) }
+    {
+        if version == 0 {
+            return None;
+        }
+        self.kept.as_slice().get((version - 1) as usize)
+    }
+
+    /// Whether the version was written.
+    pub fn is_version(&self, version: u64) -> bool
+        ensures { (s : Store) (h : List Entry) → At self.now s h
+            → result ≡ is_there (row_of h version) }
+    {
+        match self.kept_at(version) {
+            Some(_) => true,
+            None => false,
+        }
+    }
+
+    /// The row of a version.
+    pub fn written_row(&self, version: u64) -> Result<Option<Row>, NoMemory>
+        ensures { (s : Store) (h : List Entry) → At self.now s h
+            → IfOk result (λ row. row ≡ row_of h version) }
+    {
+        match self.kept_at(version) {
+            Some(kept) => {
+                let row = kept.row.copy(self.alloc)?;
+                Ok(Some(row))
+            }
+            None => Ok(None),
+        }
+    }
+
+    /// Writes a value to the key that it gets, and tells its version. The shipments of its parts are owed from now on.
+    pub fn write(&mut self, key: Name, value: &Value, lineage: &Lineage) -> Result<u64, NoMemory>
+        requires { MayWrite self.old value.now lineage.now }
+        ensures stands { (s : Store) (h : List Entry) (e : Entry) (name : List ℕ) → At self.old s h
+            → Follows (store s) h e → e.call ≡ Write name value.now lineage.now
+            → key ≡ key_for s.kind h name → OnOk result (Stands self.new s (h ++ e ∷ [])) }
+        ensures version { (s : Store) (h : List Entry) → At self.old s h
+            → IfOk result (λ v. v ≡ length (rows h) + 1) }
+        ensures err { (s : Store) (h : List Entry) → Stands self.old s h → OnErr result (Stands self.new s h) }
+        ensures kind { kind_of self.new ≡ kind_of self.old }
+        ensures number { number_of self.new ≡ number_of self.old }
+        ensures regions { regions_of self.new ≡ regions_of self.old }
+    {
+        self.keep(key, value, lineage)
+    }
+
+    // Keeps one more write.
+    fn keep(&mut self, key: Name, value: &Value, lineage: &Lineage) -> Result<u64, NoMemory>
+        requires { self.old.held + self.old.owed + self.old.replicas * parts_of self.old.kind value.now < MOST_UNITS }
+        ensures ok { IfOk result (λ v. Keeps self.old self.new (record { key = key; version = v; value = value.now; lineage = lineage.now })) }
+        ensures version { IfOk result (λ v. v ≡ length self.old.kept.items + 1) }
+        ensures err { (s : Store) (h : List Entry) → Stands self.old s h → OnErr result (Stands self.new s h) }
+        ensures kind { kind_of self.new ≡ kind_of self.old }
+        ensures number { number_of self.new ≡ number_of self.old }
+        ensures regions { regions_of self.new ≡ regions_of self.old }
+    {
+        let version = self.kept.len() as u64 + 1;
+        let parts = parts_of(self.kind, value);
+        let row = Row {
+            key,
+            version,
+            value: value.copy(self.alloc)?,
+            lineage: lineage.copy(self.alloc)?,
+        };
+        self.newest.make_place(key)?;
+        let kept = Kept {
+            row,
+            marks: [false; MARKS],
+            parts,
+        };
+        if self.kept.push(kept).is_err() {
+            return Err(NoMemory);
+        }
+        self.held += 1;
+        self.owed += u32::from(self.replicas) * u32::from(parts);
+        Ok(version)
+    }
+}

@@ -1,0 +1,17 @@
+use Rattle.std.proofs.Common.{◌≡◌, ℕ, true, take, All}
+use Rattle.anti_shim.specs.Plans.{plan}
+use Rattle.anti_shim.specs.Steps.{between}
+use Rattle.anti_shim.specs.Sights.{has_sight}
+use Rattle.anti_shim.proofs.BarrierLoop.{Went, Unasked}
+use Rattle.anti_shim.proofs.barrier_call.barrier.Given as goal
+
+abbrev pub invariant-loop-look : goal.invariant-loop-look
+invariant-loop-look g l =
+    let s = between g.P.Port l.fn.port l.port l.fn.who l.who in
+    let planned = plan l.here l.lineage in
+    record {
+      went : Went s l.region planned l.fn.cursor l.cursor;
+      unasked : Unasked s l.cursor;
+      covered : All (λ look. has_sight l.cursor look.store ≡ true) (take l.look-index planned);
+      fixed : (o : ℕ) → g.P.Port.start l.port o ≡ g.P.Port.start l.fn.port o;
+    }

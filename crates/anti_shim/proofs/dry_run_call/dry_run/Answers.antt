@@ -1,0 +1,111 @@
+use Rattle.std.proofs.Common.{◌≡◌, ◌<◌, ◌≤◌, ◌+◌, ℕ, true, List, length, get_or, refl, ap, sym, ◌∙◌, subst, arith}
+use Rattle.std.specs.Prelude.{Result, Ok, Err}
+use Rattle.std.proofs.lemmas.Result.{err_from_is_err_and}
+use Rattle.anti_ids.specs.declared.id.WriteId.{WriteId}
+use Rattle.anti_ids.specs.declared.limits.TheConstants.{MOST_IDS}
+use Rattle.anti_ids.specs.Ids.{has_id, with_ids}
+use Rattle.anti_shim.specs.declared.fault.ShimFault.{ShimFault}
+use Rattle.anti_shim.specs.declared.looks.PlannedLook.{PlannedLook}
+use Rattle.anti_shim.specs.Plans.{plan}
+use Rattle.anti_shim.specs.Steps.{between, CallerAfter}
+use Rattle.anti_shim.specs.Looks.{AtMostOneLook}
+use Rattle.anti_shim.specs.DryRuns.{DryRunGives}
+use Rattle.anti_shim.specs.inner.Looks.{SeesDry}
+use Rattle.anti_shim.proofs.NextCall.{last}
+use Rattle.anti_shim.proofs.LookLemmas.{made_bound}
+use Rattle.anti_shim.proofs.PlanLemmas.{plan_right, plan_ids, plan_ascends}
+use Rattle.anti_shim.proofs.DryRunLoop.{DryTurn, dry_looked, dry_untouched, dry_caller, dry_part, dry_finds, dry_gives, union_short, part_more}
+use Rattle.anti_shim.proofs.dry_run_call.dry_run.Given as given
+use Rattle.anti_shim.proofs.dry_run_call.dry_run.Goals as goal
+use Rattle.anti_shim.proofs.dry_run_call.dry_run.Goals.{After-see_dry}
+
+-- the turn, and what its look did
+turn : (g : given.Over) (c : After-see_dry g)
+    → DryTurn (between g.P.Port c.args.port.now c.loop-look.port c.args.who.now c.loop-look.who) c.args.region (plan c.args.here.now c.args.lineage.now) c.loop-look.look-index c.look-item.result
+turn g c =
+    let items : c.as_slice-look-items.result.now ≡ plan c.args.here.now c.args.lineage.now = c.as_slice-look-items.ensures ∙ ap (λ l. l.items) c.in_ok-looks.ensures in
+    record {
+      right = plan_right (g.P.Port.start c.args.port.now) c.args.region c.args.here.now c.args.lineage.now c.requires;
+      ascends = plan_ascends c.args.here.now c.args.lineage.now c.requires.ascending;
+      looked = c.loop-look.invariant.looked;
+      untouched = c.loop-look.invariant.untouched;
+      caller = c.loop-look.invariant.caller;
+      within = subst (λ (xs : List PlannedLook). c.loop-look.look-index < length xs) items c.loop-look-test.true;
+      is = c.look-item.is ∙ ap (λ (xs : List PlannedLook). get_or xs c.loop-look.look-index c.look-item.result) items;
+    }
+
+seen : (g : given.Over) (c : After-see_dry g) (result : Result (List WriteId) ShimFault) → c.see_dry.result ≡ result
+    → SeesDry (last (between g.P.Port c.args.port.now c.loop-look.port c.args.who.now c.loop-look.who) (g.P.Port.view c.see_dry.new.port) c.see_dry.new.who) c.look-item.result.store c.args.region c.look-item.result.ids result
+seen g c result gave =
+    let s = last (between g.P.Port c.args.port.now c.loop-look.port c.args.who.now c.loop-look.who) (g.P.Port.view c.see_dry.new.port) c.see_dry.new.who in
+    let look = c.look-item.result in
+    subst (λ (r : Result (List WriteId) ShimFault). SeesDry s look.store c.args.region look.ids r) gave
+    (subst (λ (ids : List WriteId). SeesDry s look.store c.args.region ids c.see_dry.result) c.in_ok-ids.ensures
+    (subst (λ starts. SeesDry (record s { starts = starts }) look.store c.args.region c.in_ok-ids.ids c.see_dry.result) (λ i o. c.loop-look.invariant.fixed o i) c.see_dry.ensures.answer))
+
+pub returns-in_err-missing-clause-answer : goal.returns-in_err-missing-clause-answer
+returns-in_err-missing-clause-answer g c =
+    let a = (goal.at.returns-in_err-missing-clause-answer g c).After-see_dry in
+    let planned = plan c.args.here.now c.args.lineage.now in
+    let fault = c.in_err-missing.field-0.0 in
+    let p = err_from_is_err_and c.from_residual-in_err-missing.result c.from_residual-in_err-missing.ensures.1 in
+    let is : c.from_residual-in_err-missing.result ≡ Err fault = p.1 ∙ ap Err p.2 in
+    let gives = dry_gives (turn g a) (seen g a (Err fault) c.in_err-missing.was) in
+    subst (λ (r : Result (List WriteId) ShimFault). DryRunGives (between g.P.Port c.args.port.now c.see_dry.new.port c.args.who.now c.see_dry.new.who) c.args.region planned r) (sym is) gives
+
+looked : (g : given.Over) (c : After-see_dry g) (o : ℕ)
+    → AtMostOneLook (between g.P.Port c.args.port.now c.see_dry.new.port c.args.who.now c.see_dry.new.who) c.args.region true (plan c.args.here.now c.args.lineage.now) o
+looked g c = dry_looked (turn g c) (seen g c c.see_dry.result refl).asked
+
+caller : (g : given.Over) (c : After-see_dry g) → CallerAfter (between g.P.Port c.args.port.now c.see_dry.new.port c.args.who.now c.see_dry.new.who)
+caller g c = dry_caller (turn g c) (seen g c c.see_dry.result refl).asked
+
+pub returns-in_err-missing-clause-looks : goal.returns-in_err-missing-clause-looks
+returns-in_err-missing-clause-looks g c = looked g (goal.at.returns-in_err-missing-clause-looks g c).After-see_dry
+
+pub returns-in_err-missing-clause-made : goal.returns-in_err-missing-clause-made
+returns-in_err-missing-clause-made g c o =
+    made_bound (between g.P.Port c.args.port.now c.see_dry.new.port c.args.who.now c.see_dry.new.who) c.args.region true (plan c.args.here.now c.args.lineage.now) o
+    (looked g (goal.at.returns-in_err-missing-clause-made g c).After-see_dry o)
+
+pub returns-in_err-missing-clause-caller : goal.returns-in_err-missing-clause-caller
+returns-in_err-missing-clause-caller g c = caller g (goal.at.returns-in_err-missing-clause-caller g c).After-see_dry
+
+-- What is named is a part of the lineage.
+
+part : (g : given.Over) (c : After-see_dry g) (missing : List WriteId) → c.see_dry.result ≡ Ok missing → (id : WriteId) → has_id id missing ≡ true → has_id id c.args.lineage.now ≡ true
+part g c missing gave = dry_part (turn g c) (seen g c (Ok missing) gave) c.args.lineage.now (plan_ids c.args.here.now c.args.lineage.now)
+
+short : (g : given.Over) (c : After-see_dry g) (missing : List WriteId) → c.see_dry.result ≡ Ok missing → length (with_ids missing c.loop-look.named.ids) ≤ length c.args.lineage.now
+short g c missing gave =
+    union_short missing c.loop-look.named.ids c.args.lineage.now c.loop-look.invariant.finds.0 c.loop-look.invariant.finds.2 (part g c missing gave) c.loop-look.invariant.part
+
+pub transfer-requires : goal.transfer-requires
+transfer-requires g c =
+    let few : length (with_ids c.in_ok-missing.missing c.loop-look.named.ids) ≤ length c.args.lineage.now = short g (goal.at.transfer-requires g c).After-see_dry c.in_ok-missing.missing c.in_ok-missing.was in
+    let room : length c.loop-look.named.ids + c.loop-look.named.spare ≡ length c.args.lineage.now = c.loop-look.invariant.room in
+    omega arith
+
+pub unreachable-requires : goal.unreachable-requires
+unreachable-requires g c =
+    let few : length (with_ids c.in_ok-missing.missing c.loop-look.named.ids) ≤ length c.args.lineage.now = short g (goal.at.unreachable-requires g c).After-see_dry c.in_ok-missing.missing c.in_ok-missing.was in
+    let most : length c.args.lineage.now ≤ MOST_IDS = c.len.ensures.short in
+    let past : MOST_IDS < length (with_ids c.in_ok-missing.missing c.loop-look.named.ids) = c.in-Err.ensures.full in
+    omega arith
+
+pub loop-look-preserved : goal.loop-look-preserved
+loop-look-preserved g c =
+    let a = (goal.at.loop-look-preserved g c).After-see_dry in
+    let missing = c.in_ok-missing.missing in
+    let l = seen g a (Ok missing) c.in_ok-missing.was in
+    let more : c.transfer.new.self.ids ≡ with_ids missing c.loop-look.named.ids = c.in-Ok-transfer.ensures.ok in
+    let finds = dry_finds (turn g a) l c.loop-look.named.ids c.loop-look.invariant.finds in
+    record {
+      looked = looked g a;
+      untouched = dry_untouched (turn g a) l.asked;
+      finds = (finds.0, finds.1, more ∙ finds.2);
+      part = λ id has. part_more missing c.loop-look.named.ids c.args.lineage.now (part g a missing c.in_ok-missing.was) c.loop-look.invariant.part id (subst (λ (xs : List WriteId). has_id id xs ≡ true) more has);
+      room = c.transfer.ensures.spare ∙ c.loop-look.invariant.room;
+      caller = caller g a;
+      fixed = λ o. c.see_dry.ensures.fixed o ∙ c.loop-look.invariant.fixed o;
+    }

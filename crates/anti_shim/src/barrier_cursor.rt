@@ -1,0 +1,78 @@
+ghost use Rattle.std.specs.Prelude.{◌≡◌, ℕ, []};
+ghost use Rattle.anti_shim.specs.Steps.{between};
+ghost use Rattle.anti_shim.specs.Sights.{has_sight};
+ghost use Rattle.anti_shim.specs.inner.Looks.{LooksOnce};
+
+use crate::caller::Caller;
+use crate::fault::ShimFault;
+use crate::looks::PlannedLook;
+use crate::sight::{Sights, see};
+use anti_ids::{Copies, List};
+use anti_kind::Port;
+use std::alloc::Global;
+use std::marker::Model;
+
+/// What the calls of a barrier have seen, so that a later call does not look once more where an
+/// earlier one found nothing missing.
+#[derive(Drop)]
+pub struct Barrier {
+    seen: Sights,
+}
+
+impl Model for Barrier {
+    ghost use Rattle.std.specs.Prelude.{List};
+    ghost use Rattle.anti_shim.specs.declared.sight.Sight.{Sight};
+
+    ghost Value = { List Sight };
+
+    ghost view = { λ b. b.seen.items };
+}
+
+impl Barrier {
+    /// A barrier that has seen nothing. It takes no memory.
+    pub fn begin(alloc: Global) -> Barrier
+        ensures { result ≡ [] }
+    {
+        Barrier {
+            seen: List::new(alloc),
+        }
+    }
+
+    // Whether there is a sight of a store.
+    pub(crate) fn has(&self, store: u32) -> bool
+        ensures { result ≡ has_sight self.now store }
+    {
+        self.seen
+            .as_slice()
+            .iter()
+            .any(|sight| sight.store == store)
+    }
+
+    // Gives up the sights.
+    pub(crate) fn take(&mut self, alloc: Global) -> Sights
+        ensures sights { result.items ≡ self.old }
+        ensures none { self.new ≡ [] }
+    {
+        std::mem::replace(&mut self.seen, List::new(alloc))
+    }
+
+    // Makes a planned look, and keeps its sight.
+    pub(crate) fn look<P: Port>(
+        &mut self,
+        alloc: Global,
+        port: &mut P,
+        who: &mut Caller,
+        region: u32,
+        look: &PlannedLook,
+    ) -> Result<(), ShimFault>
+        ensures answer { let step = between P.Port port.old port.new who.old who.new in
+            LooksOnce step region look.now self.old self.new result }
+        ensures fixed { (o : ℕ) → P.start port.new o ≡ P.start port.old o }
+    {
+        let ids = look.ids.copy(alloc)?;
+        self.seen.reserve(1)?;
+        let sight = see(port, who, look.store, region, ids)?;
+        self.seen.put(sight);
+        Ok(())
+    }
+}

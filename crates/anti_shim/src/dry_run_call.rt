@@ -1,0 +1,75 @@
+ghost use Rattle.std.specs.Prelude.{◌≡◌, ℕ, true};
+ghost use Rattle.anti_shim.specs.Plans.{plan};
+ghost use Rattle.anti_shim.specs.Steps.{between, CallerAfter};
+ghost use Rattle.anti_shim.specs.Sights.{IsHere};
+ghost use Rattle.anti_shim.specs.Looks.{AddsAtMost, AtMostOneLook, looks_at};
+ghost use Rattle.anti_shim.specs.DryRuns.{DryRunGives};
+ghost use Rattle.anti_shim.specs.inner.Looks.{SeesDry};
+
+use crate::caller::Caller;
+use crate::fault::ShimFault;
+use crate::looks::plan;
+use anti_ids::{Copies, Lineage};
+use anti_kind::{Call, Port, Reply};
+use std::alloc::Global;
+
+/// Makes a dry look at each store of `here` of which the lineage has ids, in ascending order, and
+/// names all ids that these looks named as missing, each at its own store's step. The stores `here`
+/// are those with a replica in the region, in ascending order. A refusal takes back none of the
+/// looks before it.
+pub fn dry_run<P: Port>(
+    alloc: Global,
+    port: &mut P,
+    who: &mut Caller,
+    region: u32,
+    here: &[u32],
+    lineage: &Lineage,
+) -> Result<Lineage, ShimFault>
+    requires { IsHere (P.start port.old) region here.now }
+    ensures answer { let step = between P.Port port.old port.new who.old who.new in
+        DryRunGives step region (plan here.now lineage.now) result }
+    ensures looks { let step = between P.Port port.old port.new who.old who.new in
+        (o : ℕ) → AtMostOneLook step region true (plan here.now lineage.now) o }
+    ensures made { let step = between P.Port port.old port.new who.old who.new in
+        (o : ℕ) → AddsAtMost step o (looks_at o (plan here.now lineage.now)) }
+    ensures caller { CallerAfter (between P.Port port.old port.new who.old who.new) }
+    ensures fixed { (o : ℕ) → P.start port.new o ≡ P.start port.old o }
+{
+    let looks = plan(alloc, here, lineage)?;
+    let Ok(mut named) = Lineage::root(alloc).reserve(lineage.len()) else {
+        return Err(ShimFault::NoMemory);
+    };
+    for look in looks.as_slice() {
+        let ids = look.ids.copy(alloc)?;
+        let missing = see_dry(port, who, look.store, region, ids)?;
+        match named.transfer(&missing) {
+            Ok(()) => {}
+            Err(_) => unreachable!(),
+        }
+    }
+    Ok(named.into_lineage())
+}
+
+// Makes one dry look, and gives what it named as missing.
+fn see_dry<P: Port>(
+    port: &mut P,
+    who: &mut Caller,
+    store: u32,
+    region: u32,
+    ids: Lineage,
+) -> Result<Lineage, ShimFault>
+    ensures answer { let step = between P.Port port.old port.new who.old who.new in
+        SeesDry step store region ids result }
+    ensures fixed { (o : ℕ) → P.start port.new o ≡ P.start port.old o }
+{
+    let look = Call::Look {
+        region,
+        ids,
+        dry: true,
+    };
+    let made = who.ask(port, store, look)?;
+    let Reply::Missing { missing, .. } = made.reply else {
+        unreachable!()
+    };
+    Ok(missing)
+}

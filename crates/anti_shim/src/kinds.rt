@@ -1,0 +1,31 @@
+use crate::store_shim::StoreShim;
+
+/// The kinds of store whose rows are read by their keys.
+pub trait ReadByKey {}
+
+/// The kind of key-value stores.
+#[derive(Clone, Copy)]
+pub struct KvStore;
+
+/// The kind of tables.
+#[derive(Clone, Copy)]
+pub struct TableStore;
+
+/// The kind of blobs.
+#[derive(Clone, Copy)]
+pub struct BlobStore;
+
+impl ReadByKey for KvStore {}
+
+impl ReadByKey for TableStore {}
+
+impl ReadByKey for BlobStore {}
+
+/// A key-value store, as a caller in a region uses it.
+pub type KvShim = StoreShim<KvStore>;
+
+/// A table, as a caller in a region uses it.
+pub type TableShim = StoreShim<TableStore>;
+
+/// A store of blobs, as a caller in a region uses it.
+pub type BlobShim = StoreShim<BlobStore>;

@@ -1,0 +1,183 @@
+ghost use Rattle.std.specs.Prelude.{◌≡◌, ◌≤◌, ℕ, is_some, true};
+ghost use Rattle.anti_ids.specs.Ids.{ids_of};
+ghost use Rattle.anti_shim.specs.Steps.{between};
+ghost use Rattle.anti_shim.specs.Shims.{Appends, Reads, Scans, Sees, Writes};
+ghost use Rattle.anti_shim.specs.inner.Writes.{Puts};
+
+use crate::caller::Caller;
+use crate::fault::ShimFault;
+use crate::kinds::{ReadByKey, TableStore};
+use crate::sight::{Sight, see};
+use anti_ids::{Copies, Lineage, Name, NoMemory, Roomy, RoomyFull, Value, WriteId};
+use anti_kind::{Call, Port, Reply, Row, Rows};
+use std::alloc::Global;
+use std::marker::PhantomData;
+
+/// A store of the kind `K`, as a caller in a region uses it: what all kinds have, and the reads of
+/// the kind.
+#[derive(Clone, Copy)]
+pub struct StoreShim<K> {
+    pub store: u32,
+    pub region: u32,
+    kind: PhantomData<K>,
+}
+
+impl<K> StoreShim<K> {
+    /// The store of this number, as callers in this region use it.
+    pub fn new(store: u32, region: u32) -> StoreShim<K>
+        ensures store { result.store ≡ store }
+        ensures region { result.region ≡ region }
+    {
+        StoreShim {
+            store,
+            region,
+            kind: PhantomData,
+        }
+    }
+
+    /// Makes one write, which stores the lineage as it is, and appends the id of what was written.
+    /// Where that would be one id more than a lineage can have the write is made, and the lineage
+    /// stays; with every other fault nothing was written and the lineage stays too.
+    pub fn write<P: Port>(
+        &self,
+        alloc: Global,
+        port: &mut P,
+        who: &mut Caller,
+        key: Name,
+        value: Value,
+        lineage: &mut Lineage,
+    ) -> Result<WriteId, ShimFault>
+        requires { is_some (P.start port.old self.now.store) ≡ true }
+        ensures answer { let step = between P.Port port.old port.new who.old who.new in
+            Writes step self.now.store key value lineage.old lineage.new result }
+        ensures fixed { (o : ℕ) → P.start port.new o ≡ P.start port.old o }
+    {
+        let stored = lineage.copy(alloc)?;
+        let taken = std::mem::replace(lineage, Lineage::root(alloc));
+        let roomy = match taken.reserve(1) {
+            Ok(roomy) => roomy,
+            Err((kept, NoMemory)) => {
+                *lineage = kept;
+                return Err(ShimFault::NoMemory);
+            }
+        };
+        match self.put(port, who, key, value, stored) {
+            Ok(id) => append_written(lineage, roomy, id),
+            Err(fault) => {
+                *lineage = roomy.into_lineage();
+                Err(fault)
+            }
+        }
+    }
+
+    // Makes the write, which stores these ids. It gives the id of what was written.
+    fn put<P: Port>(
+        &self,
+        port: &mut P,
+        who: &mut Caller,
+        key: Name,
+        value: Value,
+        stored: Lineage,
+    ) -> Result<WriteId, ShimFault>
+        ensures answer { let step = between P.Port port.old port.new who.old who.new in
+            Puts step self.now.store key value stored result }
+        ensures fixed { (o : ℕ) → P.start port.new o ≡ P.start port.old o }
+    {
+        let write = Call::Write {
+            key,
+            value,
+            lineage: stored,
+        };
+        let made = who.ask(port, self.store, write)?;
+        match &made.reply {
+            Reply::Written { key, version } => Ok(WriteId {
+                store: self.store,
+                key: *key,
+                version: *version,
+            }),
+            _ => unreachable!(),
+        }
+    }
+
+    /// Makes one look that is not dry, for the ids of the store. It gives a sight exactly where the
+    /// look was made and named nothing missing and nothing unwritten, and `Unwritten` exactly where
+    /// it was made and named some id as unwritten: the first.
+    pub fn wait<P: Port>(
+        &self,
+        alloc: Global,
+        port: &mut P,
+        who: &mut Caller,
+        ids: &Lineage,
+    ) -> Result<Sight, ShimFault>
+        requires { is_some (P.start port.old self.now.store) ≡ true }
+        ensures answer { let step = between P.Port port.old port.new who.old who.new in
+            Sees step self.now.store self.now.region (ids_of self.now.store ids.now) result }
+        ensures fixed { (o : ℕ) → P.start port.new o ≡ P.start port.old o }
+    {
+        let ids = ids.ids_of(alloc, self.store)?;
+        see(port, who, self.store, self.region, ids)
+    }
+}
+
+impl<K: ReadByKey> StoreShim<K> {
+    /// Makes one read. It gives the row that the region shows for the key.
+    pub fn read<P: Port>(&self, port: &mut P, who: &mut Caller, key: Name) -> Result<Row, ShimFault>
+        requires { is_some (P.start port.old self.now.store) ≡ true }
+        ensures answer { let step = between P.Port port.old port.new who.old who.new in
+            Reads step self.now.store self.now.region key result }
+        ensures fixed { (o : ℕ) → P.start port.new o ≡ P.start port.old o }
+    {
+        let region = self.region;
+        let made = who.ask(port, self.store, Call::Read { region, key })?;
+        let Reply::Shown(mut rows) = made.reply else {
+            unreachable!()
+        };
+        match rows.pop() {
+            Some(row) => Ok(row),
+            None => unreachable!(),
+        }
+    }
+}
+
+impl StoreShim<TableStore> {
+    /// Makes one scan. It gives the rows that the region shows for the keys that begin with the
+    /// prefix, as the port answered.
+    pub fn scan<P: Port>(
+        &self,
+        port: &mut P,
+        who: &mut Caller,
+        prefix: Name,
+    ) -> Result<Rows, ShimFault>
+        requires { is_some (P.start port.old self.now.store) ≡ true }
+        ensures answer { let step = between P.Port port.old port.new who.old who.new in
+            Scans step self.now.store self.now.region prefix result }
+        ensures fixed { (o : ℕ) → P.start port.new o ≡ P.start port.old o }
+    {
+        let region = self.region;
+        let made = who.ask(port, self.store, Call::Scan { region, prefix })?;
+        let Reply::Shown(rows) = made.reply else {
+            unreachable!()
+        };
+        Ok(rows)
+    }
+}
+
+// Appends the id of a write that was made to the lineage that was taken for it, and puts the
+// lineage back.
+fn append_written(
+    lineage: &mut Lineage,
+    mut taken: Roomy,
+    id: WriteId,
+) -> Result<WriteId, ShimFault>
+    requires room { 1 ≤ taken.spare }
+    requires written { 1 ≤ id.version }
+    ensures { Appends id taken.ids lineage.new result }
+{
+    let written = &id;
+    let added = taken.append(*written);
+    *lineage = taken.into_lineage();
+    match added {
+        Ok(_) => Ok(id),
+        Err(RoomyFull) => Err(ShimFault::LineageFull(id)),
+    }
+}

@@ -1,0 +1,2 @@
+pub mod TableStates
+pub mod TableLaws
