@@ -73,15 +73,15 @@ pub names_back : (a b : List ℕ) → is_plain a ≡ true → is_plain b ≡ tru
 names_back a b plain also same =
     ap (λ (x : List ℕ). bytes_eq x b) (sym (name_stays a plain)) ∙ (ap (λ (x : List ℕ). bytes_eq (name_or_a a) x) (sym (name_stays b also)) ∙ same)
 
-few_cond : (b : Bool) (n default : ℕ) → is_few n ≡ b → is_few default ≡ true → is_few (if b then n else default) ≡ true
-few_cond true n default few h = few
-few_cond false n default few h = h
+few_cond : (b : Bool) (most n default : ℕ) → is_few most n ≡ b → is_few most default ≡ true → is_few most (if b then n else default) ≡ true
+few_cond true most n default few h = few
+few_cond false most n default few h = h
 
--- a number from 1 to 8 is one
-pub few_is_few : (default : ℕ) (found : Option ℤ) → is_few default ≡ true → is_few (few_or default found) ≡ true
-few_is_few default (Some (pos n)) h = few_cond (is_few n) n default refl h
-few_is_few default (Some (negsuc n)) h = h
-few_is_few default None h = h
+-- a number from 1 to the most is one
+pub few_is_few : (most default : ℕ) (found : Option ℤ) → is_few most default ≡ true → is_few most (few_or most default found) ≡ true
+few_is_few most default (Some (pos n)) h = few_cond (is_few most n) most n default refl h
+few_is_few most default (Some (negsuc n)) h = h
+few_is_few most default None h = h
 
 -- what is wanted of something that is there
 pub some_passes : {T : Type 0} (p : T → Bool) (o : Option T) → option_map_or p o false ≡ true → (x : T) × (o ≡ Some x) × (p x ≡ true)

@@ -1,5 +1,6 @@
 mod Choosing
 mod Lookups
+mod Numbered
 mod Kept
 mod SoundRegions
 mod SoundStores
@@ -9,3 +10,5 @@ mod SoundServices
 mod SoundChoices
 mod Soundness
 pub mod SoundLemmas
+pub mod Blocks
+pub mod Runnable

@@ -4,8 +4,9 @@ use Rattle.std.specs.List.{list_all}
 use Rattle.std.specs.Option.{option_map_or}
 use Rattle.std.specs.Str.{bytes_eq}
 use Rattle.std.proofs.lemmas.Bool.{and_from, leb-true, le-leb}
+use Rattle.anti_ids.specs.declared.limits.TheConstants.{MOST_LINES}
 use Rattle.anti_ids.specs.List.{empty}
-use Rattle.anti_kind.specs.declared.call.StoreKind.{StoreKind}
+use Rattle.anti_kind.specs.declared.store_kind.StoreKind.{StoreKind}
 use Rattle.anti_lang.specs.Words.{words}
 use Rattle.anti_lang.specs.Program.{Block, Write, Read, Scan, Poll}
 use Rattle.anti_lang.specs.Bodies.{block_of}
@@ -17,6 +18,7 @@ use Rattle.anti_lang.specs.Parsing.{parsed, parsed_or, body_or, lines_from, read
 use Rattle.anti_lang.proofs.BodyLaws.{lines_stated as lines_read, few_spans}
 use Rattle.anti_lang.proofs.PlainLemmas.{block_again}
 use Rattle.toml.specs.Data.{Data, Members, get_member, as_table}
+use Rattle.anti_rules.specs.StoreWords.{kind_of}
 use Rattle.anti_rules.specs.Trees.{text_of, things_at, is_one_of}
 use Rattle.anti_rules.specs.Keys.{keys_of, all_fit, has_count}
 use Rattle.anti_rules.specs.Statements.{body_in as lines_stated, store_fits, handler_exists}
@@ -25,8 +27,9 @@ use Rattle.anti_rules.specs.Order.{first_breach}
 use Rattle.anti_rules.specs.declared.rule.Rule.TheVariants.{Typed, Counted, Statements, Blocks, Variables, StatementStores, StatementHandlers}
 use Rattle.anti_rules.specs.declared.place.Part.TheVariants.{Handler}
 use Rattle.anti_rules.proofs.Holds.{wanted, tabled, few_things, states_block, lines_pass}
-use Rattle.anti_app.specs.Parts.{number_or_0, regions_of, region_number, kind_of, stores_of, services_of, body_in, body_or_empty, lines_in}
-use Rattle.anti_app.specs.Sound.{is_read_by_key, is_scanned, is_polled, fits_stores, fits_services, is_sound_body}
+use Rattle.anti_app.specs.Parts.{number_or_0, regions_of, region_number, stores_of, services_of, body_in, body_or_empty, lines_in}
+use Rattle.anti_kind.specs.Store.{has_keys, is_table, is_topic}
+use Rattle.anti_app.specs.Sound.{fits_stores, fits_services, is_sound_body}
 use Rattle.anti_app.proofs.Lookups.{same_text}
 use Rattle.anti_app.proofs.Kept.{FailsNone, each_true, counts_at, table_kept, length_made, each_passes}
 use Rattle.anti_app.proofs.SoundStores.{stored_is, read_near}
@@ -46,16 +49,16 @@ word_or word text P others here more h = by_first (bytes_eq text word) refl h
 none_left : (b : Bool) → false ≡ true → b ≡ true
 none_left b h = cc
 
-read_kinds : (text : List ℕ) → is_one_of (codes "kv" ∷ codes "table" ∷ codes "blob" ∷ []) text ≡ true → is_read_by_key (kind_of text) ≡ true
+read_kinds : (text : List ℕ) → is_one_of (codes "kv" ∷ codes "table" ∷ codes "blob" ∷ []) text ≡ true → has_keys (kind_of text) ≡ true
 read_kinds text h =
-    word_or (codes "kv") text is_read_by_key _ refl
-    (word_or (codes "table") text is_read_by_key _ refl (word_or (codes "blob") text is_read_by_key _ refl (none_left _))) h
+    word_or (codes "kv") text has_keys _ refl
+    (word_or (codes "table") text has_keys _ refl (word_or (codes "blob") text has_keys _ refl (none_left _))) h
 
-scanned_kinds : (text : List ℕ) → is_one_of (codes "table" ∷ []) text ≡ true → is_scanned (kind_of text) ≡ true
-scanned_kinds text h = word_or (codes "table") text is_scanned _ refl (none_left _) h
+scanned_kinds : (text : List ℕ) → is_one_of (codes "table" ∷ []) text ≡ true → is_table (kind_of text) ≡ true
+scanned_kinds text h = word_or (codes "table") text is_table _ refl (none_left _) h
 
-polled_kinds : (text : List ℕ) → is_one_of (codes "topic" ∷ []) text ≡ true → is_polled (kind_of text) ≡ true
-polled_kinds text h = word_or (codes "topic") text is_polled _ refl (none_left _) h
+polled_kinds : (text : List ℕ) → is_one_of (codes "topic" ∷ []) text ≡ true → is_topic (kind_of text) ≡ true
+polled_kinds text h = word_or (codes "topic") text is_topic _ refl (none_left _) h
 
 -- ---- lines
 -- as many lines are read as there are texts
@@ -78,7 +81,7 @@ faults_none lines None (Some number) block h = cc
 faults_none lines None None block h = (refl, refl)
 
 -- the body that is read of lines that state one
-pub body_is : (texts : List (List ℕ)) (block : Block) → nat_le (length texts) 64 ≡ true → parsed texts ≡ Ok block → block_of (body_in texts) ≡ block
+pub body_is : (texts : List (List ℕ)) (block : Block) → nat_le (length texts) MOST_LINES ≡ true → parsed texts ≡ Ok block → block_of (body_in texts) ≡ block
 body_is texts block few stated =
     ap block_of (ap (λ (b : Bool). if b then body_or_empty (parsed texts) else empty) few ∙ ap body_or_empty stated) ∙ block_again block
 
@@ -90,18 +93,18 @@ module _ (doc : Members) (fine : first_breach doc ≡ None) (home : List ℕ) wh
   line_fits : (line : Line) → store_fits doc home line ≡ true → fits_stores (stores_of doc) region line ≡ true
   unfolding fits_stores
   line_fits (Does (Write store key value variable untracked)) fits = stored_is doc fine store ∙ fits
-  line_fits (Does (Read store key variable)) fits = read_near doc fine home store (codes "kv" ∷ codes "table" ∷ codes "blob" ∷ []) is_read_by_key read_kinds fits
-  line_fits (Does (Scan store prefix variable)) fits = read_near doc fine home store (codes "table" ∷ []) is_scanned scanned_kinds fits
-  line_fits (Does (Poll store key variable)) fits = read_near doc fine home store (codes "topic" ∷ []) is_polled polled_kinds fits
+  line_fits (Does (Read store key variable)) fits = read_near doc fine home store (codes "kv" ∷ codes "table" ∷ codes "blob" ∷ []) has_keys read_kinds fits
+  line_fits (Does (Scan store prefix variable)) fits = read_near doc fine home store (codes "table" ∷ []) is_table scanned_kinds fits
+  line_fits (Does (Poll store key variable)) fits = read_near doc fine home store (codes "topic" ∷ []) is_topic polled_kinds fits
   line_fits line fits = refl
 
-  few_lines : (earlier : List Data) (d : Data) → FailsNone doc home Handler earlier d → nat_le (length (lines_stated d)) 64 ≡ true
+  few_lines : (earlier : List Data) (d : Data) → FailsNone doc home Handler earlier d → nat_le (length (lines_stated d)) MOST_LINES ≡ true
   few_lines earlier d none =
       let table = tabled (table_line Typed Handler) (as_table d) (none Typed) in
       let ms : Members = table.0 in
       let counts = each_true (counts_at ms) (keys_of Handler) (wanted (all_fit has_count (keys_of Handler) ms) (table_kept (table_line Counted Handler) (as_table d) ms table.1 (none Counted))) in
-      ap (λ (o : Option Members). nat_le (length (option_map_or (λ found. things_at (codes "body") found) o [])) 64) table.1
-      ∙ few_things 0 64 (get_member (codes "body") ms) counts.1.0
+      ap (λ (o : Option Members). nat_le (length (option_map_or (λ found. things_at (codes "body") found) o [])) MOST_LINES) table.1
+      ∙ few_things 0 MOST_LINES (get_member (codes "body") ms) counts.1.0
 
   -- the body of a handler is sound
   pub body_sound : (earlier : List Data) (d : Data) → FailsNone doc home Handler earlier d → is_sound_body (stores_of doc) (services_of doc) region (block_of (body_in (lines_in d))) ≡ true
@@ -111,16 +114,16 @@ module _ (doc : Members) (fine : first_breach doc ≡ None) (home : List ℕ) wh
       let stated = states_block d few (none Statements) (none Blocks) (none Variables) in
       let block : Block = stated.0 in
       let texts : List (List ℕ) = lines_in d in
-      let short : nat_le (length texts) 64 ≡ true = length_made text_of (λ n. nat_le n 64) (lines_stated d) few in
-      let most : length texts ≤ 64 = leb-true _ _ short in
+      let short : nat_le (length texts) MOST_LINES ≡ true = length_made text_of (λ n. nat_le n MOST_LINES) (lines_stated d) few in
+      let most : length texts ≤ MOST_LINES = leb-true _ _ short in
       let read : lines_from 0 texts ≡ Ok (lines_of block) = lines_read texts block stated.1 in
       let count : length (lines_of block) ≡ length texts = lines_length 0 texts (lines_of block) read in
       let spans : spans_of block ≤ length texts = few_spans texts block stated.1 in
       let faults = faults_none (lines_of block) (block_fault (lines_of block)) (variable_fault (lines_of block)) block (ap parsed_or (sym read) ∙ stated.1) in
       let stores : list_all (store_fits doc home) (lines_of block) ≡ true = lines_pass (store_fits doc home) 0 0 (lines_stated d) (lines_of block) read (none StatementStores) in
       let handlers : list_all (handler_exists doc) (lines_of block) ≡ true = lines_pass (handler_exists doc) 0 0 (lines_stated d) (lines_of block) read (none StatementHandlers) in
-      let whole : length (lines_of block) ≤ 64 = omega arith in
-      let begun : spans_of block ≤ 64 = omega arith in
+      let whole : length (lines_of block) ≤ MOST_LINES = omega arith in
+      let begun : spans_of block ≤ MOST_LINES = omega arith in
       ap (λ (b : Block). is_sound_body (stores_of doc) (services_of doc) region b) (body_is texts block short stated.1)
       ∙ and_from _ _ (le-leb _ _ whole)
       (and_from _ _ (le-leb _ _ begun)

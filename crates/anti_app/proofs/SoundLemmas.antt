@@ -1,5 +1,5 @@
 -- What a sound application is known to keep.
-use Rattle.std.proofs.Common.{◌≡◌, ℕ, ◌+◌, IfSome, ◌<◌, ◌≤◌, List, [], ◌∷◌, Bool, true, false, not, nat_eq, nat_lt, nat_le, length, slice_get, Option, Some, None, is_none, IsTrue, refl, arith}
+use Rattle.std.proofs.Common.{◌≡◌, ℕ, ◌+◌, IfSome, ◌<◌, ◌≤◌, List, [], ◌∷◌, Bool, true, false, not, ◌&&◌, nat_eq, nat_lt, nat_le, length, slice_get, Option, Some, None, is_none, IsTrue, refl, arith}
 use Rattle.std.specs.List.{list_all, list_any, All, AllPairs}
 use Rattle.std.specs.Option.{option_map_or}
 use Rattle.std.proofs.lemmas.Bool.{and_parts, or_parts, not-true, leb-true, eq-eqb, eqb-true}
@@ -7,15 +7,14 @@ use Rattle.std.proofs.lemmas.List.Elements.{All-nil, All-cons}
 use Rattle.std.proofs.lemmas.List.Kept.{AllPairs-cons}
 use Rattle.std.specs.Str.{bytes_eq}
 use Rattle.anti_ids.specs.Names.{is_plain}
-use Rattle.anti_kind.specs.declared.call.StoreKind.{StoreKind}
-use Rattle.anti_kind.specs.declared.call.StoreKind.TheVariants.{Kv, Table, Blob, Queue, Topic}
 use Rattle.anti_lang.specs.Program.{Block}
 use Rattle.anti_lang.specs.Bodies.{block_of}
 use Rattle.anti_lang.specs.Blocks.{lines_of}
 use Rattle.anti_lang.specs.Faults.{block_fault, variable_fault}
 use Rattle.anti_lang.specs.Spans.{spans_of}
-use Rattle.anti_rules.specs.declared.limits.TheConstants.{MOST_CHOICES}
-use Rattle.anti_app.specs.Sound.{are_distinct, is_few, is_kv, is_sound_store, is_stored, fits_stores, fits_services, is_sound_body, is_sound_handler, is_sound_service, has_handler, is_sound_request, is_countable, is_part, is_shipment, is_sound_choice, are_sound_regions, are_sound_stores, are_sound_services, are_sound_requests, are_sound_choices, are_sound_numbers, is_sound}
+use Rattle.anti_ids.specs.declared.limits.TheConstants.{GREATEST_SEED, LONGEST_VALUE, MOST_CHOICES, MOST_COUNTED, MOST_HANDLERS, MOST_LINES, MOST_REGIONS, MOST_REPLICAS, MOST_REQUESTS, MOST_SERVICES, MOST_STORES, MOST_TRIES, MOST_WORKERS}
+use Rattle.anti_kind.specs.Store.{is_built}
+use Rattle.anti_app.specs.Sound.{are_distinct, is_few, is_sound_store, is_stored, fits_stores, fits_services, is_sound_body, is_sound_handler, is_sound_service, has_handler, is_sound_request, is_countable, is_part, is_shipment, is_sound_choice, are_sound_regions, are_sound_stores, are_sound_services, are_sound_requests, are_sound_choices, are_sound_numbers, is_sound}
 use Rattle.anti_app.specs.declared.app.App.{App}
 use Rattle.anti_app.specs.declared.app.StoreDef.{StoreDef}
 use Rattle.anti_app.specs.declared.app.HandlerDef.{HandlerDef}
@@ -48,8 +47,8 @@ pairs_known same (x ∷ xs) h =
 numbers_differ : (xs : List ℕ) → AllPairs (λ a b. nat_eq a b ≡ false) xs → AllPairs (λ a b. a ≡ b → ⊥) xs
 numbers_differ xs h = λ i j d less within e. let same = eq-eqb _ _ e in let other = h i j d less within in cc
 
-few_known : (n : ℕ) → is_few n ≡ true → (1 ≤ n) × (n ≤ 8)
-few_known n h = let parts = and_parts _ _ h in (leb-true _ _ parts.0, leb-true _ _ parts.1)
+few_known : (most n : ℕ) → is_few most n ≡ true → (1 ≤ n) × (n ≤ most)
+few_known most n h = let parts = and_parts _ _ h in (leb-true _ _ parts.0, leb-true _ _ parts.1)
 
 none_is : {T : Type 0} (o : Option T) → is_none o ≡ true → o ≡ None
 none_is None h = refl
@@ -62,30 +61,23 @@ no_items (x ∷ xs) h = absurd (omega (arith, eqb-true _ _ h))
 -- ---- parts
 pub record SoundStore (regions : ℕ) (store : StoreDef) : Type 0 where
   pub name : is_plain store.name ≡ true
-  pub kind : store.kind ≡ Kv
+  pub kind : is_built store.kind ≡ true
   pub some : 1 ≤ length store.replicas.items
-  pub few : length store.replicas.items ≤ 8
+  pub few : length store.replicas.items ≤ MOST_REPLICAS
   pub below : All (λ region. region < regions) store.replicas.items
   pub distinct : AllPairs (λ a b. a ≡ b → ⊥) store.replicas.items
   pub tried : 1 ≤ store.tries
-  pub few_tries : store.tries ≤ 8
-
-kv_known : (kind : StoreKind) → is_kv kind ≡ true → kind ≡ Kv
-kv_known Kv h = refl
-kv_known Table h = cc
-kv_known Blob h = cc
-kv_known Queue h = cc
-kv_known Topic h = cc
+  pub few_tries : store.tries ≤ MOST_TRIES
 
 pub store_known : (regions : ℕ) (store : StoreDef) → is_sound_store regions store ≡ true → SoundStore regions store
 unfolding is_sound_store
 store_known regions store h =
     let one = and_parts _ _ h in let two = and_parts _ _ one.1 in let three = and_parts _ _ two.1 in let four = and_parts _ _ three.1 in
     let five = and_parts _ _ four.1 in
-    let few = few_known _ three.0 in let tries = few_known _ five.1 in
+    let few = few_known _ _ three.0 in let tries = few_known _ _ five.1 in
     record {
       name = one.0;
-      kind = kv_known store.kind two.0;
+      kind = two.0;
       some = few.0;
       few = few.1;
       below = each_known (λ region. nat_lt region regions) (λ region. region < regions) (λ region less. leb-true _ _ less) store.replicas.items four.0;
@@ -95,8 +87,8 @@ store_known regions store h =
     }
 
 pub record SoundBody (stores : List StoreDef) (services : List ServiceDef) (region : ℕ) (body : Block) : Type 0 where
-  pub few : length (lines_of body) ≤ 64
-  pub spans : spans_of body ≤ 64
+  pub few : length (lines_of body) ≤ MOST_LINES
+  pub spans : spans_of body ≤ MOST_LINES
   pub blocks : block_fault (lines_of body) ≡ None
   pub variables : variable_fault (lines_of body) ≡ None
   pub fits : All (λ line. fits_stores stores region line ≡ true) (lines_of body)
@@ -120,7 +112,7 @@ body_known stores services region body h =
 pub record SoundHandler (stores : List StoreDef) (services : List ServiceDef) (region : ℕ) (handler : HandlerDef) : Type 0 where
   pub name : is_plain handler.name ≡ true
   pub body : SoundBody stores services region (block_of handler.body)
-  pub spans : spans_of (block_of handler.body) ≤ 64
+  pub spans : spans_of (block_of handler.body) ≤ MOST_LINES
 
 pub handler_known : (stores : List StoreDef) (services : List ServiceDef) (region : ℕ) (handler : HandlerDef) → is_sound_handler stores services region handler ≡ true
     → SoundHandler stores services region handler
@@ -133,7 +125,7 @@ pub record SoundService (regions : ℕ) (stores : List StoreDef) (services : Lis
   pub name : is_plain service.name ≡ true
   pub region : service.region < regions
   pub own_name : is_stored stores service.name ≡ false
-  pub few : length service.handlers.items ≤ 16
+  pub few : length service.handlers.items ≤ MOST_HANDLERS
   pub handlers : All (SoundHandler stores services service.region) service.handlers.items
   pub distinct : AllPairs (λ a b. bytes_eq a.name b.name ≡ false) service.handlers.items
 
@@ -157,39 +149,42 @@ pub record SoundRequest (services : List ServiceDef) (request : RequestDef) : Ty
   pub service : ServiceDef
   pub found : slice_get services request.service ≡ Some service
   pub handler : request.handler < length service.handlers.items
-  pub short : length request.value ≤ 256
+  pub short : length request.value ≤ LONGEST_VALUE
 
 named : (services : List ServiceDef) (request : RequestDef) (found : Option ServiceDef) → slice_get services request.service ≡ found
-    → option_map_or (λ service. nat_lt request.handler (length service.handlers.items)) found false ≡ true → length request.value ≤ 256 → SoundRequest services request
+    → option_map_or (λ service. nat_lt request.handler (length service.handlers.items)) found false ≡ true → length request.value ≤ LONGEST_VALUE → SoundRequest services request
 named services request None e h short = absurd (let wrong : false ≡ true = h in cc)
 named services request (Some service) e h short = record { service = service; found = e; handler = leb-true _ _ h; short = short }
 
 pub request_known : (services : List ServiceDef) (request : RequestDef) → is_sound_request services request ≡ true → SoundRequest services request
 unfolding is_sound_request
 request_known services request h =
-    let one = and_parts (has_handler services request.service request.handler) (nat_le (length request.value) 256) h in
+    let one = and_parts (has_handler services request.service request.handler) (nat_le (length request.value) LONGEST_VALUE) h in
     named services request (slice_get services request.service) refl one.0 (leb-true _ _ one.1)
 
 -- the store and the region of a shipment are there, and its numbers are from 1 to 4,096
 abbrev pub SoundShipment : ℕ → ℕ → ℕ → ℕ → ℕ → Option ℕ → Type 0
 SoundShipment regions stores store region version part =
-    (store < stores) × (region < regions) × (1 ≤ version) × (version ≤ 4096) × IfSome part (λ p. (1 ≤ p) × (p ≤ 4096))
+    (store < stores) × (region < regions) × (1 ≤ version) × (version ≤ MOST_COUNTED) × IfSome part (λ p. (1 ≤ p) × (p ≤ MOST_COUNTED))
 
 -- what a choice names is there, and its numbers are from 1 to 4,096
-abbrev pub SoundChoice : ℕ → ℕ → ℕ → Choice → Type 0
-SoundChoice regions stores services (Take service nth) = (service < services) × (1 ≤ nth) × (nth ≤ 4096)
-SoundChoice regions stores services (Repost service number) = (service < services) × (1 ≤ number) × (number ≤ 4096)
-SoundChoice regions stores services (Pull sub) = ⊥
-SoundChoice regions stores services (Repull sub version) = ⊥
-SoundChoice regions stores services (Ship store region version part) = SoundShipment regions stores store region version part
-SoundChoice regions stores services (Again store region version part) = SoundShipment regions stores store region version part
-SoundChoice regions stores services (Go object place) = (object < stores + services) × (1 ≤ place) × (place ≤ 4096)
-SoundChoice regions stores services Finish = Unit {0}
+abbrev pub SoundChoice : App → Choice → Type 0
+SoundChoice app (Take service nth) = (service < length app.services.items) × (1 ≤ nth) × (nth ≤ MOST_COUNTED)
+SoundChoice app (Repost service number) = (service < length app.services.items) × (1 ≤ number) × (number ≤ MOST_COUNTED)
+SoundChoice app (Pull sub) = sub < length app.subs.items
+SoundChoice app (Repull sub version) = (sub < length app.subs.items) × (1 ≤ version) × (version ≤ MOST_COUNTED)
+SoundChoice app (Ship store region version part) =
+    SoundShipment (length app.regions.items) (length app.stores.items) store region version part
+SoundChoice app (Again store region version part) =
+    SoundShipment (length app.regions.items) (length app.stores.items) store region version part
+SoundChoice app (Go object place) =
+    (object < length app.stores.items + length app.services.items) × (1 ≤ place) × (place ≤ MOST_COUNTED)
+SoundChoice app Finish = Unit {0}
 
-counted_known : (n : ℕ) → is_countable n ≡ true → (1 ≤ n) × (n ≤ 4096)
+counted_known : (n : ℕ) → is_countable n ≡ true → (1 ≤ n) × (n ≤ MOST_COUNTED)
 counted_known n h = let parts = and_parts _ _ h in (leb-true _ _ parts.0, leb-true _ _ parts.1)
 
-part_known : (part : Option ℕ) → is_part part ≡ true → IfSome part (λ p. (1 ≤ p) × (p ≤ 4096))
+part_known : (part : Option ℕ) → is_part part ≡ true → IfSome part (λ p. (1 ≤ p) × (p ≤ MOST_COUNTED))
 part_known None h = tt
 part_known (Some part) h = counted_known part h
 
@@ -200,39 +195,42 @@ shipment_known regions stores store region version part h =
     let number = counted_known version three.0 in
     (leb-true _ _ one.0, leb-true _ _ two.0, number.0, number.1, part_known part three.1)
 
-pub choice_known : (regions stores services : ℕ) (choice : Choice) → is_sound_choice regions stores services choice ≡ true → SoundChoice regions stores services choice
+-- a thing that is there, and a number
+numbered_known : (things thing number : ℕ) → (nat_lt thing things && is_countable number) ≡ true
+    → (thing < things) × (1 ≤ number) × (number ≤ MOST_COUNTED)
+numbered_known things thing number h =
+    let one = and_parts _ _ h in let counted = counted_known number one.1 in (leb-true _ _ one.0, counted.0, counted.1)
+
+pub choice_known : (app : App) (choice : Choice) → is_sound_choice app choice ≡ true → SoundChoice app choice
 unfolding is_sound_choice
-choice_known regions stores services (Take service nth) h =
-    let one = and_parts _ _ h in let number = counted_known nth one.1 in (leb-true _ _ one.0, number.0, number.1)
-choice_known regions stores services (Repost service number) h =
-    let one = and_parts _ _ h in let count = counted_known number one.1 in (leb-true _ _ one.0, count.0, count.1)
-choice_known regions stores services (Pull sub) h = cc
-choice_known regions stores services (Repull sub version) h = cc
-choice_known regions stores services (Ship store region version part) h = shipment_known regions stores store region version part h
-choice_known regions stores services (Again store region version part) h = shipment_known regions stores store region version part h
-choice_known regions stores services (Go object place) h =
-    let one = and_parts _ _ h in let number = counted_known place one.1 in (leb-true _ _ one.0, number.0, number.1)
-choice_known regions stores services Finish h = tt
+choice_known app (Take service nth) h = numbered_known _ service nth h
+choice_known app (Repost service number) h = numbered_known _ service number h
+choice_known app (Pull sub) h = leb-true _ _ h
+choice_known app (Repull sub version) h = numbered_known _ sub version h
+choice_known app (Ship store region version part) h = shipment_known _ _ store region version part h
+choice_known app (Again store region version part) h = shipment_known _ _ store region version part h
+choice_known app (Go object place) h = numbered_known _ object place h
+choice_known app Finish h = tt
 
 -- ---- the whole
 pub record SoundApp (app : App) : Type 0 where
   pub some_region : 1 ≤ length app.regions.items
-  pub few_regions : length app.regions.items ≤ 8
+  pub few_regions : length app.regions.items ≤ MOST_REGIONS
   pub plain_regions : All (λ region. is_plain region ≡ true) app.regions.items
   pub regions : AllPairs (λ a b. bytes_eq a b ≡ false) app.regions.items
-  pub few_stores : length app.stores.items ≤ 16
+  pub few_stores : length app.stores.items ≤ MOST_STORES
   pub stores : All (SoundStore (length app.regions.items)) app.stores.items
   pub store_names : AllPairs (λ a b. bytes_eq a.name b.name ≡ false) app.stores.items
-  pub few_services : length app.services.items ≤ 16
+  pub few_services : length app.services.items ≤ MOST_SERVICES
   pub services : All (SoundService (length app.regions.items) app.stores.items app.services.items) app.services.items
   pub names : AllPairs (λ a b. bytes_eq a.name b.name ≡ false) app.services.items
-  pub few_requests : length app.requests.items ≤ 400
+  pub few_requests : length app.requests.items ≤ MOST_REQUESTS
   pub requests : All (SoundRequest app.services.items) app.requests.items
   pub few_choices : length app.choices.items ≤ MOST_CHOICES
-  pub choices : All (SoundChoice (length app.regions.items) (length app.stores.items) (length app.services.items)) app.choices.items
-  pub seed : app.seed ≤ 9223372036854775807
+  pub choices : All (SoundChoice app) app.choices.items
+  pub seed : app.seed ≤ GREATEST_SEED
   pub some_worker : 1 ≤ app.workers
-  pub few_workers : app.workers ≤ 8
+  pub few_workers : app.workers ≤ MOST_WORKERS
   pub no_sub : app.subs.items ≡ []
 
 pub app_known : (app : App) → IsTrue (is_sound app) → SoundApp app
@@ -242,13 +240,13 @@ app_known app h =
     let two = and_parts (are_sound_stores regions app.stores.items) _ one.1 in
     let three = and_parts (are_sound_services regions app.stores.items app.services.items) _ two.1 in
     let four = and_parts (are_sound_requests app.services.items app.requests.items) _ three.1 in
-    let five = and_parts (are_sound_choices regions (length app.stores.items) (length app.services.items) app.choices.items) (are_sound_numbers app) four.1 in
-    let few = and_parts _ _ one.0 in let named = and_parts _ _ few.1 in let count = few_known _ few.0 in
+    let five = and_parts (are_sound_choices app app.choices.items) (are_sound_numbers app) four.1 in
+    let few = and_parts _ _ one.0 in let named = and_parts _ _ few.1 in let count = few_known _ _ few.0 in
     let stores = and_parts _ _ two.0 in let more_stores = and_parts _ _ stores.1 in
     let services = and_parts _ _ three.0 in let more_services = and_parts _ _ services.1 in
     let requests = and_parts _ _ four.0 in
     let choices = and_parts _ _ five.0 in
-    let numbers = and_parts _ _ five.1 in let more_numbers = and_parts _ _ numbers.1 in let workers = few_known _ more_numbers.0 in
+    let numbers = and_parts _ _ five.1 in let more_numbers = and_parts _ _ numbers.1 in let workers = few_known _ _ more_numbers.0 in
     record {
       some_region = count.0;
       few_regions = count.1;
@@ -264,9 +262,7 @@ app_known app h =
       few_requests = leb-true _ _ requests.0;
       requests = each_known (is_sound_request app.services.items) (SoundRequest app.services.items) (request_known app.services.items) app.requests.items requests.1;
       few_choices = leb-true _ _ choices.0;
-      choices = each_known (is_sound_choice regions (length app.stores.items) (length app.services.items))
-          (SoundChoice regions (length app.stores.items) (length app.services.items))
-          (choice_known regions (length app.stores.items) (length app.services.items)) app.choices.items choices.1;
+      choices = each_known (is_sound_choice app) (SoundChoice app) (choice_known app) app.choices.items choices.1;
       seed = leb-true _ _ numbers.0;
       some_worker = workers.0;
       few_workers = workers.1;

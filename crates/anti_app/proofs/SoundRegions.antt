@@ -4,6 +4,7 @@ use Rattle.std.specs.List.{list_all, list_any}
 use Rattle.std.specs.Str.{bytes_eq}
 use Rattle.std.proofs.lemmas.Bool.{and_from, not-true, leb-true, lt-ltb}
 use Rattle.std.proofs.lemmas.List.{length-map}
+use Rattle.anti_ids.specs.declared.limits.TheConstants.{MOST_REGIONS}
 use Rattle.anti_ids.specs.Names.{is_plain}
 use Rattle.toml.specs.Data.{Members, get_member}
 use Rattle.anti_rules.specs.Trees.{text_of, is_among, regions_in}
@@ -28,7 +29,7 @@ module _ (doc : Members) (fine : first_breach doc ≡ None) where
 
   -- ---- regions
   some_region : nat_le 1 (length (regions_in doc)) ≡ true
-  some_region = some_things 1 8 (get_member (codes "regions") doc) counted.0 there.0
+  some_region = some_things 1 MOST_REGIONS (get_member (codes "regions") doc) counted.0 there.0
 
   regions_plain : list_all (λ d. is_plain (text_of d)) (regions_in doc) ≡ true
   regions_plain =
@@ -43,15 +44,15 @@ module _ (doc : Members) (fine : first_breach doc ≡ None) where
 
   pub regions_sound : are_sound_regions (regions_of doc) ≡ true
   regions_sound =
-      and_from (is_few (length (regions_of doc))) _
-      (length_made region_of is_few (regions_in doc) (and_from (nat_le 1 (length (regions_in doc))) _ some_region (few_regions doc fine)))
+      and_from (is_few MOST_REGIONS (length (regions_of doc))) _
+      (length_made region_of (is_few MOST_REGIONS) (regions_in doc) (and_from (nat_le 1 (length (regions_in doc))) _ some_region (few_regions doc fine)))
       (and_from (list_all is_plain (regions_of doc)) (are_distinct bytes_eq (regions_of doc))
       (all_made (λ d. is_plain (text_of d)) region_of is_plain (λ d plain. ap is_plain (name_stays (text_of d) plain) ∙ plain) (regions_in doc) regions_plain)
       (distinct_made (λ d. is_plain (text_of d)) region_of (λ e d. bytes_eq (text_of e) (text_of d)) bytes_eq
       (λ a b plain also same. names_back (text_of a) (text_of b) plain also same) (regions_in doc) regions_plain regions_apart))
 
   few_names : length (regions_of doc) ≤ 2 ^ 32
-  few_names = let few : length (regions_in doc) ≤ 8 = leb-true _ _ (few_regions doc fine) in omega (arith, length-map (regions_in doc) region_of)
+  few_names = let few : length (regions_in doc) ≤ MOST_REGIONS = leb-true _ _ (few_regions doc fine) in omega (arith, length-map (regions_in doc) region_of)
 
   -- the number of a region that is there
   pub region_found : (text : List ℕ) → is_among text (regions_in doc) ≡ true

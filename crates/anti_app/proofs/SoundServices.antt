@@ -5,6 +5,7 @@ use Rattle.std.specs.Option.{option_and_then, option_map_or}
 use Rattle.std.specs.Str.{bytes_eq, is_utf8}
 use Rattle.std.proofs.lemmas.Bool.{and_parts, and_from, not-true, leb-true, lt-ltb}
 use Rattle.std.proofs.lemmas.List.{length-map}
+use Rattle.anti_ids.specs.declared.limits.TheConstants.{LONGEST_VALUE, MOST_HANDLERS, MOST_REQUESTS, MOST_SERVICES}
 use Rattle.anti_ids.specs.Names.{is_plain}
 use Rattle.anti_ids.specs.Values.{value_of}
 use Rattle.anti_ids.specs.declared.value.ValueFault.TheVariants.{TooLong, BadUtf8}
@@ -31,11 +32,11 @@ use Rattle.anti_app.proofs.Served.{are_plain, named_made, services_plain, handle
 use Rattle.anti_app.proofs.SoundBodies.{body_sound}
 
 -- values that are read are short
-value_short : (text : List ℕ) → nat_le (length (value_or_empty (value_of text))) 256 ≡ true
-value_short text = by_length (nat_le (length text) 256) (is_utf8 text) text refl
+value_short : (text : List ℕ) → nat_le (length (value_or_empty (value_of text))) LONGEST_VALUE ≡ true
+value_short text = by_length (nat_le (length text) LONGEST_VALUE) (is_utf8 text) text refl
   where
-    by_length : (short good : Bool) (text : List ℕ) → nat_le (length text) 256 ≡ short
-        → nat_le (length (value_or_empty (if short then (if good then Ok text else Err BadUtf8) else Err TooLong))) 256 ≡ true
+    by_length : (short good : Bool) (text : List ℕ) → nat_le (length text) LONGEST_VALUE ≡ short
+        → nat_le (length (value_or_empty (if short then (if good then Ok text else Err BadUtf8) else Err TooLong))) LONGEST_VALUE ≡ true
     by_length true true text h = h
     by_length true false text h = refl
     by_length false good text h = refl
@@ -62,13 +63,13 @@ module _ (doc : Members) (fine : first_breach doc ≡ None) where
       (λ earlier d kept. not-true (is_named (name_in d) earlier) (wanted (not (is_named (name_in d) earlier)) kept)) ds (none DistinctHandlers))
 
   -- ---- services
-  few_handlers : (earlier : List Data) (d : Data) → FailsNone doc [] Service earlier d → nat_le (length (things_in (codes "handler") d)) 16 ≡ true
+  few_handlers : (earlier : List Data) (d : Data) → FailsNone doc [] Service earlier d → nat_le (length (things_in (codes "handler") d)) MOST_HANDLERS ≡ true
   few_handlers earlier d none =
       let table = tabled (table_line Typed Service) (as_table d) (none Typed) in
       let ms : Members = table.0 in
       let counts = each_true (counts_at ms) (keys_of Service) (wanted (all_fit has_count (keys_of Service) ms) (table_kept (table_line Counted Service) (as_table d) ms table.1 (none Counted))) in
-      ap (λ (o : Option Members). nat_le (length (option_map_or (things_at (codes "handler")) o [])) 16) table.1
-      ∙ few_things 0 16 (get_member (codes "handler") ms) counts.1.1.0
+      ap (λ (o : Option Members). nat_le (length (option_map_or (things_at (codes "handler")) o [])) MOST_HANDLERS) table.1
+      ∙ few_things 0 MOST_HANDLERS (get_member (codes "handler") ms) counts.1.1.0
 
   service_sound : (earlier : List Data) (d : Data) → FailsNone doc [] Service earlier d
       → FailNone doc (text_at (codes "region") d) Handler [] (things_in (codes "handler") d)
@@ -84,7 +85,7 @@ module _ (doc : Members) (fine : first_breach doc ≡ None) where
       and_from _ _ (ap is_plain stays ∙ plain)
       (and_from _ _ (region_below doc fine home (wanted (is_among home (regions_in doc)) (none ServiceRegions)))
       (and_from _ _ (ap (λ (name : List ℕ). not (is_stored (stores_of doc) name)) stays ∙ (ap not (stored_is doc fine (name_in d)) ∙ apart.0))
-      (and_from _ _ (length_made handler_of (λ n. nat_le n 16) ds (few_handlers earlier d none))
+      (and_from _ _ (length_made handler_of (λ n. nat_le n MOST_HANDLERS) ds (few_handlers earlier d none))
       (and_from _ _ (each_sound doc home Handler handler_of (is_sound_handler (stores_of doc) (services_of doc) (number_or_0 (region_number (regions_of doc) home)))
       (handler_sound home) [] ds handlers)
       (handlers_differ home ds handlers)))))
@@ -104,8 +105,8 @@ module _ (doc : Members) (fine : first_breach doc ≡ None) where
       (wanted (not (is_named (name_in d) (stores_in doc)) && not (is_named (name_in d) earlier)) none)).1) (services_in doc)
       (each_kept DistinctObjects doc fine).services
 
-  few_services : nat_le (length (services_in doc)) 16 ≡ true
-  few_services = few_things 0 16 (get_member (codes "service") doc) (counted doc fine).1.1.1.1.1.0
+  few_services : nat_le (length (services_in doc)) MOST_SERVICES ≡ true
+  few_services = few_things 0 MOST_SERVICES (get_member (codes "service") doc) (counted doc fine).1.1.1.1.1.0
 
   services_differ : are_distinct (λ a b. bytes_eq a.name b.name) (services_of doc) ≡ true
   unfolding service_of
@@ -115,13 +116,13 @@ module _ (doc : Members) (fine : first_breach doc ≡ None) where
 
   pub services_sound : are_sound_services (length (regions_of doc)) (stores_of doc) (services_of doc) ≡ true
   services_sound =
-      and_from _ _ (length_made (service_of (regions_of doc)) (λ n. nat_le n 16) (services_in doc) few_services)
+      and_from _ _ (length_made (service_of (regions_of doc)) (λ n. nat_le n MOST_SERVICES) (services_in doc) few_services)
       (and_from _ _ (each_service [] (services_in doc) (λ rule. (each_kept rule doc fine).services) (λ rule. (each_kept rule doc fine).handlers))
       services_differ)
 
   -- ---- requests
   few_made : length (services_of doc) ≤ 2 ^ 32
-  few_made = let few : length (services_in doc) ≤ 16 = leb-true _ _ few_services in omega (arith, length-map (services_in doc) (service_of (regions_of doc)))
+  few_made = let few : length (services_in doc) ≤ MOST_SERVICES = leb-true _ _ few_services in omega (arith, length-map (services_in doc) (service_of (regions_of doc)))
 
   -- the number of a service that is there
   service_found : (name : List ℕ) (d : Data) → named name (services_in doc) ≡ Some d
@@ -137,7 +138,7 @@ module _ (doc : Members) (fine : first_breach doc ≡ None) where
 
   -- the number of a handler that is there
   number_found : (d : Data) (name : List ℕ) → are_plain (things_in (codes "handler") d) ≡ true
-      → length (service_of (regions_of doc) d).handlers.items ≤ 16 → is_named name (things_in (codes "handler") d) ≡ true
+      → length (service_of (regions_of doc) d).handlers.items ≤ MOST_HANDLERS → is_named name (things_in (codes "handler") d) ≡ true
       → (j : ℕ) × (handler_number (service_of (regions_of doc) d).handlers.items name ≡ Some j) × (j < length (service_of (regions_of doc) d).handlers.items)
   unfolding service_of handler_of
   number_found d name plain few there =
@@ -160,7 +161,7 @@ module _ (doc : Members) (fine : first_breach doc ≡ None) where
       let all : list_all (is_sound_service (length (regions_of doc)) (stores_of doc) (services_of doc)) (services_of doc) ≡ true =
       each_service [] (services_in doc) (λ rule. (each_kept rule doc fine).services) (λ rule. (each_kept rule doc fine).handlers) in
       let sound = first_good (is_sound_service (length (regions_of doc)) (stores_of doc) (services_of doc)) (λ s. bytes_eq s.name service) (services_of doc) made all at.3 in
-      let few : length made.handlers.items ≤ 16 = (service_known (length (regions_of doc)) (stores_of doc) (services_of doc) made sound).few in
+      let few : length made.handlers.items ≤ MOST_HANDLERS = (service_known (length (regions_of doc)) (stores_of doc) (services_of doc) made sound).few in
       let number = number_found d handler plain few found.2 in
       let here : number_or_0 (service_number (services_of doc) service) ≡ at.0 = ap number_or_0 at.1 in
       let there : handler_in (services_of doc) at.0 handler ≡ Some number.0 =
@@ -179,7 +180,7 @@ module _ (doc : Members) (fine : first_breach doc ≡ None) where
 
   pub requests_sound : are_sound_requests (services_of doc) (requests_of doc) ≡ true
   requests_sound =
-      and_from _ _ (length_made (request_of (services_of doc)) (λ n. nat_le n 400) (things_at (codes "request") doc)
-      (few_things 0 400 (get_member (codes "request") doc) (counted doc fine).1.1.1.1.1.1.1.0))
+      and_from _ _ (length_made (request_of (services_of doc)) (λ n. nat_le n MOST_REQUESTS) (things_at (codes "request") doc)
+      (few_things 0 MOST_REQUESTS (get_member (codes "request") doc) (counted doc fine).1.1.1.1.1.1.1.0))
       (each_sound doc [] Request (request_of (services_of doc)) (is_sound_request (services_of doc)) request_sound [] (things_at (codes "request") doc)
       (λ rule. (each_kept rule doc fine).requests))

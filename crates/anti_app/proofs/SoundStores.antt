@@ -3,9 +3,12 @@ use Rattle.std.proofs.Common.{◌≡◌, ℕ, codes, List, [], Bool, true, not, 
 use Rattle.std.specs.Option.{option_and_then, option_map_or}
 use Rattle.std.specs.Str.{bytes_eq}
 use Rattle.std.proofs.lemmas.Bool.{and_parts, and_from, not-true, eq-eqb, eqb-true}
+use Rattle.anti_ids.specs.declared.limits.TheConstants.{MOST_REPLICAS, MOST_STORES, MOST_TRIES}
 use Rattle.anti_ids.specs.Names.{is_plain}
-use Rattle.anti_kind.specs.declared.call.StoreKind.{StoreKind}
+use Rattle.anti_kind.specs.declared.store_kind.StoreKind.{StoreKind}
 use Rattle.toml.specs.Data.{Data, Members, get_member, as_table, as_integer}
+use Rattle.anti_kind.specs.Store.{is_built}
+use Rattle.anti_rules.specs.StoreWords.{kind_of}
 use Rattle.anti_rules.specs.Trees.{text_of, text_at, things_at, things_in, member_in, has_text, is_one_of, is_among, are_among, are_distinct as texts_differ, name_in, is_named, named, stores_in, regions_in}
 use Rattle.anti_rules.specs.Keys.{keys_of, all_fit, has_count, are_there}
 use Rattle.anti_rules.specs.Statements.{is_read_at, is_read}
@@ -14,8 +17,8 @@ use Rattle.anti_rules.specs.Order.{first_breach}
 use Rattle.anti_rules.specs.declared.rule.Rule.TheVariants.{There, Typed, Counted, PlainNames, DistinctObjects, Replicas, Built}
 use Rattle.anti_rules.specs.declared.place.Part.TheVariants.{Store}
 use Rattle.anti_rules.proofs.Holds.{each_kept, wanted, are_apart, each_apart, tabled, few_things, some_things, stores_plain}
-use Rattle.anti_app.specs.Parts.{number_or_0, regions_of, region_number, kind_of, replica_of, store_of, stores_of}
-use Rattle.anti_app.specs.Sound.{are_distinct, is_few, is_kv, is_sound_store, is_stored, serves, is_near, are_sound_stores}
+use Rattle.anti_app.specs.Parts.{number_or_0, regions_of, region_number, replica_of, store_of, stores_of}
+use Rattle.anti_app.specs.Sound.{are_distinct, is_few, is_sound_store, is_stored, serves, is_near, are_sound_stores}
 use Rattle.anti_app.proofs.Lookups.{same_text, text_same, name_stays, first_passes, first_good, any_made, all_made, some_made, any_found, distinct_made}
 use Rattle.anti_app.proofs.Kept.{FailsNone, each_sound, each_true, counts_at, is_there, table_kept, texts_apart, length_made, names_back, few_is_few, some_passes}
 use Rattle.anti_app.proofs.SoundRegions.{counted, region_same, region_below}
@@ -25,34 +28,34 @@ module _ (doc : Members) (fine : first_breach doc ≡ None) where
   store_table earlier d none = tabled (table_line Typed Store) (as_table d) (none Typed)
 
   -- the number of its replicas
-  replicas_few : (earlier : List Data) (d : Data) → FailsNone doc [] Store earlier d → is_few (length (things_in (codes "replicas") d)) ≡ true
+  replicas_few : (earlier : List Data) (d : Data) → FailsNone doc [] Store earlier d → is_few MOST_REPLICAS (length (things_in (codes "replicas") d)) ≡ true
   replicas_few earlier d none =
       let table = store_table earlier d none in
       let ms : Members = table.0 in
       let counts = each_true (counts_at ms) (keys_of Store) (wanted (all_fit has_count (keys_of Store) ms) (table_kept (table_line Counted Store) (as_table d) ms table.1 (none Counted))) in
       let needs = each_true (is_there ms) (keys_of Store) (wanted (are_there (keys_of Store) ms) (table_kept (table_line There Store) (as_table d) ms table.1 (none There))) in
-      ap (λ (o : Option Members). is_few (length (option_map_or (things_at (codes "replicas")) o []))) table.1
-      ∙ and_from (nat_le 1 (length (things_at (codes "replicas") ms))) (nat_le (length (things_at (codes "replicas") ms)) 8)
-      (some_things 1 8 (get_member (codes "replicas") ms) counts.1.1.0 needs.1.1.0)
-      (few_things 1 8 (get_member (codes "replicas") ms) counts.1.1.0)
+      ap (λ (o : Option Members). is_few MOST_REPLICAS (length (option_map_or (things_at (codes "replicas")) o []))) table.1
+      ∙ and_from (nat_le 1 (length (things_at (codes "replicas") ms))) (nat_le (length (things_at (codes "replicas") ms)) MOST_REPLICAS)
+      (some_things 1 MOST_REPLICAS (get_member (codes "replicas") ms) counts.1.1.0 needs.1.1.0)
+      (few_things 1 MOST_REPLICAS (get_member (codes "replicas") ms) counts.1.1.0)
 
   pub store_sound : (earlier : List Data) (d : Data) → FailsNone doc [] Store earlier d → is_sound_store (length (regions_of doc)) (store_of (regions_of doc) d) ≡ true
   unfolding is_sound_store store_of
   store_sound earlier d none =
       let plain : is_plain (name_in d) ≡ true = wanted (is_plain (name_in d)) (none PlainNames) in
-      let kv : text_at (codes "kind") d ≡ codes "kv" = same_text _ _ (wanted (has_text (codes "kind") (codes "kv") d) (none Built)) in
+      let built = wanted (is_built (kind_of (text_at (codes "kind") d))) (none Built) in
       let ds : List Data = things_in (codes "replicas") d in
       let both = and_parts (are_among (regions_in doc) ds) (texts_differ ds) (wanted (are_among (regions_in doc) ds && texts_differ ds) (none Replicas)) in
       let regions : ℕ = length (regions_of doc) in
       let numbers : List ℕ = map (replica_of (regions_of doc)) ds in
       and_from _ _ (ap is_plain (name_stays (name_in d) plain) ∙ plain)
-      (and_from _ _ (ap (λ (text : List ℕ). is_kv (kind_of text)) kv)
-      (and_from _ _ (length_made (replica_of (regions_of doc)) is_few ds (replicas_few earlier d none))
+      (and_from _ _ built
+      (and_from _ _ (length_made (replica_of (regions_of doc)) (is_few MOST_REPLICAS) ds (replicas_few earlier d none))
       (and_from _ _ (all_made (λ e. is_among (text_of e) (regions_in doc)) (replica_of (regions_of doc)) (λ region. nat_lt region regions)
       (λ e among. region_below doc fine (text_of e) among) ds both.0)
       (and_from _ _ (distinct_made (λ e. is_among (text_of e) (regions_in doc)) (replica_of (regions_of doc)) (λ e d. bytes_eq (text_of d) (text_of e)) nat_eq
       (λ a b one other same. text_same (text_of b) (text_of a) (sym (region_same doc fine (text_of a) (text_of b) one other (eqb-true _ _ same)))) ds both.0 (texts_apart ds both.1))
-      (few_is_few 3 (option_and_then as_integer (member_in (codes "tries") d)) refl)))))
+      (few_is_few MOST_TRIES 3 (option_and_then as_integer (member_in (codes "tries") d)) refl)))))
 
   -- the names of the stores, as they are made
   pub stored_is : (name : List ℕ) → is_stored (stores_of doc) name ≡ is_named name (stores_in doc)
@@ -75,7 +78,7 @@ module _ (doc : Members) (fine : first_breach doc ≡ None) where
 
   pub stores_sound : are_sound_stores (length (regions_of doc)) (stores_of doc) ≡ true
   stores_sound =
-      and_from _ _ (length_made (store_of (regions_of doc)) (λ n. nat_le n 16) (stores_in doc) (few_things 0 16 (get_member (codes "store") doc) (counted doc fine).1.1.1.1.0))
+      and_from _ _ (length_made (store_of (regions_of doc)) (λ n. nat_le n MOST_STORES) (stores_in doc) (few_things 0 MOST_STORES (get_member (codes "store") doc) (counted doc fine).1.1.1.1.0))
       (and_from _ _ (each_sound doc [] Store (store_of (regions_of doc)) (is_sound_store (length (regions_of doc))) store_sound [] (stores_in doc) (λ rule. (each_kept rule doc fine).stores))
       names_differ)
 

@@ -13,20 +13,23 @@ use Rattle.anti_rules.specs.declared.breach.Breach.{Breach}
 use Rattle.anti_rules.specs.declared.keys.Kind.TheVariants.{Number}
 use Rattle.anti_rules.specs.declared.rule.Rule.TheVariants.{Ranged, Built}
 use Rattle.anti_rules.specs.declared.place.Part.TheVariants.{Top, Sub}
-use Rattle.anti_rules.specs.declared.limits.TheConstants.{MOST_CHOICES}
+use Rattle.anti_ids.specs.Answers.{AnswersBut}
+use Rattle.anti_ids.specs.List.{plain}
+use Rattle.anti_ids.specs.declared.limits.TheConstants.{GREATEST_SEED, MOST_CHOICES, MOST_WORKERS}
 use Rattle.anti_rules.proofs.Holds.{NoneFails, each_kept, wanted, few_things}
 use Rattle.anti_app.specs.declared.app.App.{App}
 use Rattle.anti_app.specs.declared.app.AppFault.{AppFault}
+use Rattle.anti_app.specs.declared.app.AppFault.TheVariants.{NoMemory}
 use Rattle.anti_app.specs.declared.app.Choice.{Choice}
 use Rattle.anti_app.specs.Parts.{whole_or_0, seed_of, stores_of, services_of, subs_of, sub_of}
 use Rattle.anti_app.specs.Chosen.{app_with, choices_of}
-use Rattle.anti_app.specs.Stated.{app_or, app_unless, Reads}
+use Rattle.anti_app.specs.Stated.{app_or, app_unless}
 use Rattle.anti_app.specs.Sound.{are_sound_numbers, is_sound}
 use Rattle.anti_app.proofs.Kept.{each_true, ranges_at, few_is_few}
 use Rattle.anti_app.proofs.SoundRegions.{counted, regions_sound}
 use Rattle.anti_app.proofs.SoundStores.{stores_sound}
 use Rattle.anti_app.proofs.SoundServices.{services_sound, requests_sound}
-use Rattle.anti_app.proofs.SoundChoices.{choices_known}
+use Rattle.anti_app.proofs.SoundChoices.{choices_known, sound_listed}
 
 -- what never holds of a thing holds of none
 no_things : (line : List Data → Data → Option ℕ) (earlier ds : List Data) → ((before : List Data) (d : Data) → line before d ≡ None → ⊥) → NoneFails line earlier ds → ds ≡ []
@@ -44,9 +47,9 @@ whole_within most (Some d) h = in_range (as_integer d) h
     in_range (Some (negsuc n)) h = leb-zero most
 
 module _ (doc : Members) (fine : first_breach doc ≡ None) where
-  seed_within : nat_le (seed_of doc) 9223372036854775807 ≡ true
+  seed_within : nat_le (seed_of doc) GREATEST_SEED ≡ true
   seed_within =
-      whole_within 9223372036854775807 (get_member (codes "seed") doc)
+      whole_within GREATEST_SEED (get_member (codes "seed") doc)
       (each_true (ranges_at doc) (keys_of Top) (wanted (all_fit has_range (keys_of Top) doc) (each_kept Ranged doc fine).top)).1.0
 
   no_sub : things_at (codes "sub") doc ≡ []
@@ -58,18 +61,20 @@ module _ (doc : Members) (fine : first_breach doc ≡ None) where
   numbers_sound : (choices : List Choice) → are_sound_numbers (app_with doc choices) ≡ true
   numbers_sound choices =
       and_from _ _ seed_within
-      (and_from _ _ (few_is_few 2 (option_and_then as_integer (get_member (codes "workers") doc)) refl) (ap (λ subs. length subs == 0) no_subs))
+      (and_from _ _ (few_is_few MOST_WORKERS 2 (option_and_then as_integer (get_member (codes "workers") doc)) refl) (ap (λ subs. length subs == 0) no_subs))
 
   -- An application of a document that fails no rule, with the choices that it states, is sound.
   pub sound_of : (choices : List Choice) → choices_of doc ≡ Ok choices → is_sound (app_with doc choices) ≡ true
   sound_of choices stated =
-      let known = choices_known (app_with doc []) no_subs 0 (things_at (codes "choices") doc) choices stated in
+      let known = choices_known (app_with doc []) 0 (things_at (codes "choices") doc) choices stated in
       and_from _ _ (regions_sound doc fine)
       (and_from _ _ (stores_sound doc fine)
       (and_from _ _ (services_sound doc fine)
       (and_from _ _ (requests_sound doc fine)
       (and_from _ _
-      (and_from _ _ (ap (λ (n : ℕ). nat_le n MOST_CHOICES) known.1 ∙ few_things 0 4096 (get_member (codes "choices") doc) (counted doc fine).1.1.1.0) known.0)
+      (and_from _ _ (ap (λ (n : ℕ). nat_le n MOST_CHOICES) known.1
+      ∙ few_things 0 MOST_CHOICES (get_member (codes "choices") doc) (counted doc fine).1.1.1.0)
+      (sound_listed (app_with doc []) (plain choices) choices known.0))
       (numbers_sound choices)))))
 
 -- What is read of a document is sound.
@@ -82,6 +87,6 @@ unless_sound : (doc : Members) (breach : Option Breach) → first_breach doc ≡
 unless_sound doc (Some breach) stated app h = absurd (cc)
 unless_sound doc None fine app h = or_sound doc fine (choices_of doc) refl app h
 
-pub read_sound : (doc : Members) (result : Result App AppFault) → Reads result (app_unless doc (first_breach doc)) → IfOk result (λ app. IsTrue (is_sound app))
+pub read_sound : (doc : Members) (result : Result App AppFault) → AnswersBut NoMemory result (app_unless doc (first_breach doc)) → IfOk result (λ app. IsTrue (is_sound app))
 read_sound doc (Ok app) h = unless_sound doc (first_breach doc) refl app h
 read_sound doc (Err fault) h = tt

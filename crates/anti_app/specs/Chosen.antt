@@ -1,10 +1,10 @@
 -- The choices that a document lists.
-use Rattle.std.specs.Prelude.{ℕ, ◌+◌, ◌-◌, ◌*◌, codes, List, [], ◌∷◌, Bool, false, not, ◌&&◌, ◌==◌, nat_le, length, take, drop, Option, Some, None, Result, Ok, Err, if◌then◌else◌, option_map, position}
-use Rattle.std.specs.Char.{is_ascii_digit}
-use Rattle.std.specs.List.{list_all}
+use Rattle.std.specs.Prelude.{ℕ, ◌+◌, codes, List, [], ◌∷◌, ◌==◌, length, take, drop, Option, Some, None, Result, Ok, Err, option_map, position}
 use Rattle.std.specs.Option.{option_and_then, option_or}
-use Rattle.std.specs.Str.{bytes_eq}
+use Rattle.anti_ids.specs.Ascii.{dot}
+use Rattle.anti_ids.specs.Decimals.{decimal_in}
 use Rattle.anti_ids.specs.List.{plain}
+use Rattle.anti_ids.specs.declared.limits.TheConstants.{MOST_COUNTED}
 use Rattle.anti_lang.specs.Words.{words}
 use Rattle.toml.specs.Data.{Data, Members}
 use Rattle.anti_rules.specs.Trees.{things_at, text_of}
@@ -14,6 +14,9 @@ use Rattle.anti_app.specs.declared.app.App.{App}
 use Rattle.anti_app.specs.declared.app.Choice.{Choice}
 use Rattle.anti_app.specs.declared.app.Choice.TheVariants.{Take, Repost, Pull, Repull, Ship, Again, Go, Finish}
 use Rattle.anti_app.specs.declared.choice.Shipment.{Shipment}
+use Rattle.anti_app.specs.declared.form.ChoiceForm.{ChoiceForm}
+use Rattle.anti_app.specs.declared.form.ChoiceForm.TheVariants as forms
+use Rattle.anti_app.specs.Forms.{form_of}
 
 -- The application that the tables of a document state, with these choices.
 abbrev pub app_with : Members → List Choice → App
@@ -29,20 +32,9 @@ app_with doc choices = record {
 }
 
 -- ---- numbers
--- what some decimal digits say, behind digits that say so much
-abbrev pub value_from : ℕ → List ℕ → ℕ
-value_from before [] = before
-value_from before (digit ∷ digits) = value_from (10 * before + (digit - 48)) digits
-
--- digits only, at most four of them, the first not `0`, that say at most 4,096
-abbrev pub is_number : List ℕ → Bool
-is_number [] = false
-is_number (first ∷ rest) =
-    not (first == 48) && (nat_le (length (first ∷ rest)) 4 && (list_all is_ascii_digit (first ∷ rest) && nat_le (value_from 0 (first ∷ rest)) 4096))
-
--- A decimal number from 1 to 4,096: no sign, and no zero in front.
+-- the number that a word is, of those that count from 1
 unfoldable pub number_of : List ℕ → Option ℕ
-number_of word = if is_number word then Some (value_from 0 word) else None
+number_of word = decimal_in 1 MOST_COUNTED word
 
 -- ---- objects
 -- The number of the object of a name: first come the stores, then the inboxes of the services.
@@ -54,53 +46,34 @@ abbrev pub object_number : App → List ℕ → Option ℕ
 object_number app text = option_and_then small (object_place app text)
 
 -- ---- the words of a choice
--- a choice of two numbers, where both are there
-abbrev pub if_both : (ℕ → ℕ → Choice) → Option ℕ → Option ℕ → Option Choice
-if_both make first second = option_and_then (λ one. option_map (make one) second) first
+-- what is made of a value, where both what makes it and the value are there
+abbrev pub applied : {A B : Type 0} → Option (A → B) → Option A → Option B
+applied make value = option_and_then (λ f. option_map f value) make
 
--- a service and a number, of a free delivery or of a message
-unfoldable pub taking : App → List ℕ → List ℕ → Option Choice
-taking app s n = if_both Take (service_number app.services.items s) (number_of n)
+-- what is made of two numbers, where both are there
+abbrev pub if_both : {T : Type 0} → (ℕ → ℕ → T) → Option ℕ → Option ℕ → Option T
+if_both make first second = applied (option_map make first) second
 
-unfoldable pub reposting : App → List ℕ → List ℕ → Option Choice
-reposting app s n = if_both Repost (service_number app.services.items s) (number_of n)
+-- the number of the service that a word names, and of the subscription
+unfoldable pub service_named : App → List ℕ → Option ℕ
+service_named app word = service_number app.services.items word
 
--- a subscription, and a version where a message is pulled once more
-unfoldable pub pulling : App → List ℕ → Option Choice
-pulling app s = option_map Pull (sub_number app.subs.items s)
+unfoldable pub sub_named : App → List ℕ → Option ℕ
+sub_named app word = sub_number app.subs.items word
 
-unfoldable pub repulling : App → List ℕ → List ℕ → Option Choice
-repulling app s v = if_both Repull (sub_number app.subs.items s) (number_of v)
+-- the part of a shipment that the words behind its version state: none, or a number
+abbrev pub part_of : List (List ℕ) → Option (Option ℕ)
+part_of [] = Some None
+part_of (p ∷ []) = option_map Some (number_of p)
+part_of _ = None
 
--- the words behind `take`, `repost`, `pull` and `repull`
-abbrev pub take_of : App → List (List ℕ) → Option Choice
-take_of app (s ∷ n ∷ []) = taking app s n
-take_of app _ = None
-
-abbrev pub repost_of : App → List (List ℕ) → Option Choice
-repost_of app (s ∷ n ∷ []) = reposting app s n
-repost_of app _ = None
-
-abbrev pub pull_of : App → List (List ℕ) → Option Choice
-pull_of app (s ∷ []) = pulling app s
-pull_of app _ = None
-
-abbrev pub repull_of : App → List (List ℕ) → Option Choice
-repull_of app (s ∷ v ∷ []) = repulling app s v
-repull_of app _ = None
+abbrev pub shipment : ℕ → ℕ → ℕ → Option ℕ → Shipment
+shipment store region version part = record { store = store; region = region; version = version; part = part }
 
 -- a store, a region and a version, and a part where one is given
-unfoldable pub bringing : App → List ℕ → List ℕ → List ℕ → Option ℕ → Option Shipment
+unfoldable pub bringing : App → List ℕ → List ℕ → List ℕ → List (List ℕ) → Option Shipment
 bringing app s r v part =
-    option_and_then (λ store. option_and_then (λ region. option_map (λ version.
-    record { store = store; region = region; version = version; part = part })
-    (number_of v)) (region_number app.regions.items r)) (store_number app.stores.items s)
-
--- behind `ship` and behind `again`: a store, a region, a version, and maybe a part
-abbrev pub shipment_of : App → List (List ℕ) → Option Shipment
-shipment_of app (s ∷ r ∷ v ∷ []) = bringing app s r v None
-shipment_of app (s ∷ r ∷ v ∷ p ∷ []) = option_and_then (λ part. bringing app s r v (Some part)) (number_of p)
-shipment_of app _ = None
+    applied (applied (if_both shipment (store_number app.stores.items s) (region_number app.regions.items r)) (number_of v)) (part_of part)
 
 -- the choice that brings a shipment, and the one that brings it once more
 abbrev pub ship : Shipment → Choice
@@ -109,33 +82,28 @@ ship shipment = Ship shipment.store shipment.region shipment.version shipment.pa
 abbrev pub again : Shipment → Choice
 again shipment = Again shipment.store shipment.region shipment.version shipment.part
 
--- an object, a dot at this place and the place of a birth
-abbrev pub mark_at : App → List ℕ → Option ℕ → Option Choice
-mark_at app word (Some dot) = if_both Go (object_number app (take dot word)) (number_of (drop (dot + 1) word))
-mark_at app word None = None
-
 -- behind `go`: the name of an object, a dot and the place of a birth; no name and no number has a dot
-abbrev pub go_of : App → List (List ℕ) → Option Choice
-go_of app (word ∷ []) = mark_at app word (position (λ b. b == 46) word)
-go_of app _ = None
+abbrev pub go_to : App → List ℕ → Option Choice
+go_to app mark =
+    option_and_then (λ at. if_both Go (object_number app (take at mark)) (number_of (drop (at + 1) mark)))
+    (position (λ b. b == dot) mark)
 
--- behind `finish`: nothing
-abbrev pub finish_of : List (List ℕ) → Option Choice
-finish_of [] = Some Finish
-finish_of _ = None
+-- The choice of a form that the words behind its first word state.
+abbrev pub choice_by : App → ChoiceForm → List (List ℕ) → Option Choice
+choice_by app forms.Take (s ∷ n ∷ []) = if_both Take (service_named app s) (number_of n)
+choice_by app forms.Repost (s ∷ n ∷ []) = if_both Repost (service_named app s) (number_of n)
+choice_by app forms.Pull (s ∷ []) = option_map Pull (sub_named app s)
+choice_by app forms.Repull (s ∷ v ∷ []) = if_both Repull (sub_named app s) (number_of v)
+choice_by app forms.Ship (s ∷ r ∷ v ∷ part) = option_map ship (bringing app s r v part)
+choice_by app forms.Again (s ∷ r ∷ v ∷ part) = option_map again (bringing app s r v part)
+choice_by app forms.Go (mark ∷ []) = go_to app mark
+choice_by app forms.Finish [] = Some Finish
+choice_by app _ _ = None
 
 -- The choice that words state: its form goes by the first of them.
 unfoldable pub choice_in : App → List (List ℕ) → Option Choice
 choice_in app [] = None
-choice_in app (what ∷ rest) =
-    if bytes_eq what (codes "take") then take_of app rest else
-    (if bytes_eq what (codes "repost") then repost_of app rest else
-    (if bytes_eq what (codes "pull") then pull_of app rest else
-    (if bytes_eq what (codes "repull") then repull_of app rest else
-    (if bytes_eq what (codes "ship") then option_map ship (shipment_of app rest) else
-    (if bytes_eq what (codes "again") then option_map again (shipment_of app rest) else
-    (if bytes_eq what (codes "go") then go_of app rest else
-    (if bytes_eq what (codes "finish") then finish_of rest else None)))))))
+choice_in app (what ∷ rest) = option_and_then (λ form. choice_by app form rest) (form_of what)
 
 -- A choice: it has one of the forms, and names what is there.
 unfoldable pub choice_of : App → Data → Option Choice

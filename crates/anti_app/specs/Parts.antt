@@ -5,9 +5,8 @@ use Rattle.std.specs.Option.{option_and_then}
 use Rattle.std.specs.Str.{bytes_eq}
 use Rattle.anti_ids.specs.List.{Listed, plain, empty}
 use Rattle.anti_ids.specs.Values.{value_of}
+use Rattle.anti_ids.specs.declared.limits.TheConstants.{MOST_LINES, MOST_TRIES, MOST_WORKERS}
 use Rattle.anti_ids.specs.declared.value.ValueFault.{ValueFault}
-use Rattle.anti_kind.specs.declared.call.StoreKind.{StoreKind}
-use Rattle.anti_kind.specs.declared.call.StoreKind.TheVariants.{Kv, Table, Blob, Queue, Topic}
 use Rattle.anti_lang.specs.Texts.{plain_name}
 use Rattle.anti_lang.specs.Program.{Block}
 use Rattle.anti_lang.specs.Bodies.{body_of}
@@ -15,6 +14,7 @@ use Rattle.anti_lang.specs.Parsing.{parsed}
 use Rattle.anti_lang.specs.declared.statement.Statement.{Statement}
 use Rattle.anti_lang.specs.declared.fault.LangFault.{LangFault}
 use Rattle.toml.specs.Data.{Data, Members, get_member, as_integer}
+use Rattle.anti_rules.specs.StoreWords.{kind_of}
 use Rattle.anti_rules.specs.Trees.{things_at, things_in, text_of, member_in, text_at}
 use Rattle.anti_app.specs.declared.app.StoreDef.{StoreDef}
 use Rattle.anti_app.specs.declared.app.HandlerDef.{HandlerDef}
@@ -39,11 +39,11 @@ small n = if nat_lt n (2 ^ 32) then Some n else None
 abbrev pub number_or_0 : Option ℕ → ℕ
 number_or_0 found = unwrap_or found 0
 
--- The integer from 1 to 8 at a key; the default where the key is left out, and for any other value (rules 3 and 5).
-abbrev pub few_or : ℕ → Option ℤ → ℕ
-few_or default (Some (pos n)) = if nat_le 1 n && nat_le n 8 then n else default
-few_or default (Some (negsuc n)) = default
-few_or default None = default
+-- The integer from 1 to the most at a key; the default where the key is left out, and for any other value (rules 3 and 5).
+abbrev pub few_or : ℕ → ℕ → Option ℤ → ℕ
+few_or most default (Some (pos n)) = if nat_le 1 n && nat_le n most then n else default
+few_or most default (Some (negsuc n)) = default
+few_or most default None = default
 
 -- The integer from 0 at a key; 0 where the key is left out, and for any other value (rules 3 and 5).
 abbrev pub whole_or_0 : Option ℤ → ℕ
@@ -57,7 +57,7 @@ abbrev pub seed_of : Members → ℕ
 seed_of doc = whole_or_0 (option_and_then as_integer (get_member (codes "seed") doc))
 
 abbrev pub workers_of : Members → ℕ
-workers_of doc = few_or 2 (option_and_then as_integer (get_member (codes "workers") doc))
+workers_of doc = few_or MOST_WORKERS 2 (option_and_then as_integer (get_member (codes "workers") doc))
 
 -- ---- regions
 -- A region's name.
@@ -73,14 +73,6 @@ abbrev pub region_number : List (List ℕ) → List ℕ → Option ℕ
 region_number regions text = option_and_then small (position (λ name. bytes_eq name text) regions)
 
 -- ---- stores
--- The kind that a word names; `kv` where it names none (rule 11).
-abbrev pub kind_of : List ℕ → StoreKind
-kind_of text =
-    if bytes_eq text (codes "table") then Table else
-    (if bytes_eq text (codes "blob") then Blob else
-    (if bytes_eq text (codes "queue") then Queue else
-    (if bytes_eq text (codes "topic") then Topic else Kv)))
-
 -- the region of a replica (rule 12)
 abbrev pub replica_of : List (List ℕ) → Data → ℕ
 replica_of regions d = number_or_0 (region_number regions (text_of d))
@@ -91,7 +83,7 @@ store_of regions d = record {
   name = name_at (codes "name") d;
   kind = kind_of (text_at (codes "kind") d);
   replicas = plain (map (replica_of regions) (things_in (codes "replicas") d));
-  tries = few_or 3 (option_and_then as_integer (member_in (codes "tries") d));
+  tries = few_or MOST_TRIES 3 (option_and_then as_integer (member_in (codes "tries") d));
 }
 
 -- The stores.
@@ -111,9 +103,9 @@ abbrev pub body_or_empty : Result Block LangFault → Listed Statement
 body_or_empty (Ok block) = body_of block
 body_or_empty (Err fault) = empty
 
--- The body that lines state; the empty one where there are more than 64 (rule 4).
+-- The body that lines state; the empty one where there are more than `MOST_LINES` (rule 4).
 abbrev pub body_in : List (List ℕ) → Listed Statement
-body_in lines = if nat_le (length lines) 64 then body_or_empty (parsed lines) else empty
+body_in lines = if nat_le (length lines) MOST_LINES then body_or_empty (parsed lines) else empty
 
 -- the lines of a handler's body
 abbrev pub lines_in : Data → List (List ℕ)

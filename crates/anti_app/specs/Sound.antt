@@ -4,15 +4,15 @@ use Rattle.std.specs.List.{list_all, list_any}
 use Rattle.std.specs.Option.{option_map_or}
 use Rattle.std.specs.Str.{bytes_eq}
 use Rattle.anti_ids.specs.Names.{is_plain}
-use Rattle.anti_kind.specs.declared.call.StoreKind.{StoreKind}
-use Rattle.anti_kind.specs.declared.call.StoreKind.TheVariants.{Kv, Table, Blob, Queue, Topic}
+use Rattle.anti_kind.specs.declared.store_kind.StoreKind.{StoreKind}
+use Rattle.anti_kind.specs.Store.{is_built, has_keys, is_table, is_topic}
 use Rattle.anti_lang.specs.Program.{Block, Write, Read, Scan, Poll, Call, Send}
 use Rattle.anti_lang.specs.Bodies.{block_of}
 use Rattle.anti_lang.specs.Lines.{Line, Does}
 use Rattle.anti_lang.specs.Blocks.{lines_of}
 use Rattle.anti_lang.specs.Faults.{block_fault, variable_fault}
 use Rattle.anti_lang.specs.Spans.{spans_of}
-use Rattle.anti_rules.specs.declared.limits.TheConstants.{MOST_CHOICES}
+use Rattle.anti_ids.specs.declared.limits.TheConstants.{GREATEST_SEED, LONGEST_VALUE, MOST_CHOICES, MOST_COUNTED, MOST_HANDLERS, MOST_LINES, MOST_REGIONS, MOST_REPLICAS, MOST_REQUESTS, MOST_SERVICES, MOST_STORES, MOST_TRIES, MOST_WORKERS}
 use Rattle.anti_app.specs.declared.app.App.{App}
 use Rattle.anti_app.specs.declared.app.StoreDef.{StoreDef}
 use Rattle.anti_app.specs.declared.app.HandlerDef.{HandlerDef}
@@ -26,47 +26,16 @@ abbrev pub are_distinct : {T : Type 0} → (T → T → Bool) → List T → Boo
 are_distinct same [] = true
 are_distinct same (x ∷ xs) = not (list_any (same x) xs) && are_distinct same xs
 
--- a number from 1 to 8
-abbrev pub is_few : ℕ → Bool
-is_few n = nat_le 1 n && nat_le n 8
+-- a number from 1 to this
+abbrev pub is_few : ℕ → ℕ → Bool
+is_few most n = nat_le 1 n && nat_le n most
 
 -- ---- stores
-abbrev pub is_kv : StoreKind → Bool
-is_kv Kv = true
-is_kv Table = false
-is_kv Blob = false
-is_kv Queue = false
-is_kv Topic = false
-
--- Whether keys of a store of this kind can be read.
-abbrev pub is_read_by_key : StoreKind → Bool
-is_read_by_key Kv = true
-is_read_by_key Table = true
-is_read_by_key Blob = true
-is_read_by_key Queue = false
-is_read_by_key Topic = false
-
--- Whether rows of a store of this kind can be read by a prefix of their keys.
-abbrev pub is_scanned : StoreKind → Bool
-is_scanned Table = true
-is_scanned Kv = false
-is_scanned Blob = false
-is_scanned Queue = false
-is_scanned Topic = false
-
--- Whether cells of a store of this kind can be read.
-abbrev pub is_polled : StoreKind → Bool
-is_polled Topic = true
-is_polled Kv = false
-is_polled Table = false
-is_polled Blob = false
-is_polled Queue = false
-
--- a plain name, 1 to 8 replicas, each a region, and distinct, and 1 to 8 tries; only the kind `kv` is built yet
+-- a plain name, replicas, each a region, and distinct, and tries, of a kind that is built
 unfoldable pub is_sound_store : ℕ → StoreDef → Bool
 is_sound_store regions store =
-    is_plain store.name && (is_kv store.kind && (is_few (length store.replicas.items)
-    && (list_all (λ region. nat_lt region regions) store.replicas.items && (are_distinct nat_eq store.replicas.items && is_few store.tries))))
+    is_plain store.name && (is_built store.kind && (is_few MOST_REPLICAS (length store.replicas.items)
+    && (list_all (λ region. nat_lt region regions) store.replicas.items && (are_distinct nat_eq store.replicas.items && is_few MOST_TRIES store.tries))))
 
 -- Whether a store has this name.
 abbrev pub is_stored : List StoreDef → List ℕ → Bool
@@ -85,9 +54,9 @@ is_near test stores name region = list_any (serves test name region) stores
 -- Whether the store of a line, where it names one, is there and fits the line in the region where the handler runs.
 unfoldable pub fits_stores : List StoreDef → ℕ → Line → Bool
 fits_stores stores region (Does (Write store key value variable untracked)) = is_stored stores store
-fits_stores stores region (Does (Read store key variable)) = is_near is_read_by_key stores store region
-fits_stores stores region (Does (Scan store prefix variable)) = is_near is_scanned stores store region
-fits_stores stores region (Does (Poll store key variable)) = is_near is_polled stores store region
+fits_stores stores region (Does (Read store key variable)) = is_near has_keys stores store region
+fits_stores stores region (Does (Scan store prefix variable)) = is_near is_table stores store region
+fits_stores stores region (Does (Poll store key variable)) = is_near is_topic stores store region
 fits_stores stores region line = true
 
 -- Whether a service of this name has a handler of that name.
@@ -103,20 +72,20 @@ fits_services services (Does (Call service handler value variable)) = is_served 
 fits_services services (Does (Send service handler value)) = is_served services service handler
 fits_services services line = true
 
--- at most 64 lines, that begin at most 64 spans, with no fault of blocks or variables, each of which has its store and its handler
+-- at most `MOST_LINES` lines, that begin as many spans at most, with no fault of blocks or variables, each of which has its store and its handler
 unfoldable pub is_sound_body : List StoreDef → List ServiceDef → ℕ → Block → Bool
 is_sound_body stores services region body =
-    nat_le (length (lines_of body)) 64 && (nat_le (spans_of body) 64 && (is_none (block_fault (lines_of body))
+    nat_le (length (lines_of body)) MOST_LINES && (nat_le (spans_of body) MOST_LINES && (is_none (block_fault (lines_of body))
     && (is_none (variable_fault (lines_of body)) && (list_all (fits_stores stores region) (lines_of body) && list_all (fits_services services) (lines_of body)))))
 
 -- a plain name and a sound body
 unfoldable pub is_sound_handler : List StoreDef → List ServiceDef → ℕ → HandlerDef → Bool
 is_sound_handler stores services region handler = is_plain handler.name && is_sound_body stores services region (block_of handler.body)
 
--- a plain name that no store has, a region that is there, and at most 16 handlers, of distinct names
+-- a plain name that no store has, a region that is there, and at most `MOST_HANDLERS` handlers, of distinct names
 unfoldable pub is_sound_service : ℕ → List StoreDef → List ServiceDef → ServiceDef → Bool
 is_sound_service regions stores services service =
-    is_plain service.name && (nat_lt service.region regions && (not (is_stored stores service.name) && (nat_le (length service.handlers.items) 16
+    is_plain service.name && (nat_lt service.region regions && (not (is_stored stores service.name) && (nat_le (length service.handlers.items) MOST_HANDLERS
     && (list_all (is_sound_handler stores services service.region) service.handlers.items
     && are_distinct (λ a b. bytes_eq a.name b.name) service.handlers.items))))
 
@@ -125,13 +94,13 @@ is_sound_service regions stores services service =
 abbrev pub has_handler : List ServiceDef → ℕ → ℕ → Bool
 has_handler services service handler = option_map_or (λ found. nat_lt handler (length found.handlers.items)) (slice_get services service) false
 
--- the handler is there, and the value has at most 256 bytes
+-- the handler is there, and the value has at most `LONGEST_VALUE` bytes
 unfoldable pub is_sound_request : List ServiceDef → RequestDef → Bool
-is_sound_request services request = has_handler services request.service request.handler && nat_le (length request.value) 256
+is_sound_request services request = has_handler services request.service request.handler && nat_le (length request.value) LONGEST_VALUE
 
--- a number from 1 to 4,096
+-- a number of a choice
 abbrev pub is_countable : ℕ → Bool
-is_countable n = nat_le 1 n && nat_le n 4096
+is_countable n = nat_le 1 n && nat_le n MOST_COUNTED
 
 abbrev pub is_part : Option ℕ → Bool
 is_part None = true
@@ -142,44 +111,45 @@ abbrev pub is_shipment : ℕ → ℕ → ℕ → ℕ → ℕ → Option ℕ → 
 is_shipment regions stores store region version part =
     nat_lt store stores && (nat_lt region regions && (is_countable version && is_part part))
 
--- Each number of a choice is in its range, and what it names is there. Subscriptions are not built yet.
-unfoldable pub is_sound_choice : ℕ → ℕ → ℕ → Choice → Bool
-is_sound_choice regions stores services (Take service nth) = nat_lt service services && is_countable nth
-is_sound_choice regions stores services (Repost service number) = nat_lt service services && is_countable number
-is_sound_choice regions stores services (Pull sub) = false
-is_sound_choice regions stores services (Repull sub version) = false
-is_sound_choice regions stores services (Ship store region version part) = is_shipment regions stores store region version part
-is_sound_choice regions stores services (Again store region version part) = is_shipment regions stores store region version part
-is_sound_choice regions stores services (Go object place) = nat_lt object (stores + services) && is_countable place
-is_sound_choice regions stores services Finish = true
+-- Each number of a choice is in its range, and what it names is there.
+unfoldable pub is_sound_choice : App → Choice → Bool
+is_sound_choice app (Take service nth) = nat_lt service (length app.services.items) && is_countable nth
+is_sound_choice app (Repost service number) = nat_lt service (length app.services.items) && is_countable number
+is_sound_choice app (Pull sub) = nat_lt sub (length app.subs.items)
+is_sound_choice app (Repull sub version) = nat_lt sub (length app.subs.items) && is_countable version
+is_sound_choice app (Ship store region version part) =
+    is_shipment (length app.regions.items) (length app.stores.items) store region version part
+is_sound_choice app (Again store region version part) =
+    is_shipment (length app.regions.items) (length app.stores.items) store region version part
+is_sound_choice app (Go object place) = nat_lt object (length app.stores.items + length app.services.items) && is_countable place
+is_sound_choice app Finish = true
 
 -- ---- the whole
--- 1 to 8 plain names that differ
+-- at most `MOST_REGIONS` plain names that differ, and at least one
 abbrev pub are_sound_regions : List (List ℕ) → Bool
-are_sound_regions regions = is_few (length regions) && (list_all is_plain regions && are_distinct bytes_eq regions)
+are_sound_regions regions = is_few MOST_REGIONS (length regions) && (list_all is_plain regions && are_distinct bytes_eq regions)
 
--- at most 16 sound stores of distinct names
+-- at most `MOST_STORES` sound stores of distinct names
 abbrev pub are_sound_stores : ℕ → List StoreDef → Bool
 are_sound_stores regions stores =
-    nat_le (length stores) 16 && (list_all (is_sound_store regions) stores && are_distinct (λ a b. bytes_eq a.name b.name) stores)
+    nat_le (length stores) MOST_STORES && (list_all (is_sound_store regions) stores && are_distinct (λ a b. bytes_eq a.name b.name) stores)
 
--- at most 16 sound services of distinct names
+-- at most `MOST_SERVICES` sound services of distinct names
 abbrev pub are_sound_services : ℕ → List StoreDef → List ServiceDef → Bool
 are_sound_services regions stores services =
-    nat_le (length services) 16 && (list_all (is_sound_service regions stores services) services && are_distinct (λ a b. bytes_eq a.name b.name) services)
+    nat_le (length services) MOST_SERVICES && (list_all (is_sound_service regions stores services) services && are_distinct (λ a b. bytes_eq a.name b.name) services)
 
--- at most 400 sound requests
+-- at most `MOST_REQUESTS` sound requests
 abbrev pub are_sound_requests : List ServiceDef → List RequestDef → Bool
-are_sound_requests services requests = nat_le (length requests) 400 && list_all (is_sound_request services) requests
+are_sound_requests services requests = nat_le (length requests) MOST_REQUESTS && list_all (is_sound_request services) requests
 
--- at most 4,096 sound choices
-abbrev pub are_sound_choices : ℕ → ℕ → ℕ → List Choice → Bool
-are_sound_choices regions stores services choices =
-    nat_le (length choices) MOST_CHOICES && list_all (is_sound_choice regions stores services) choices
+-- at most `MOST_CHOICES` sound choices
+abbrev pub are_sound_choices : App → List Choice → Bool
+are_sound_choices app choices = nat_le (length choices) MOST_CHOICES && list_all (is_sound_choice app) choices
 
 -- the numbers of a run with workers, and no subscription, since none is built yet
 abbrev pub are_sound_numbers : App → Bool
-are_sound_numbers app = nat_le app.seed 9223372036854775807 && (is_few app.workers && length app.subs.items == 0)
+are_sound_numbers app = nat_le app.seed GREATEST_SEED && (is_few MOST_WORKERS app.workers && length app.subs.items == 0)
 
 -- What an application keeps.
 abbrev pub is_sound : App → Bool
@@ -187,5 +157,4 @@ is_sound app =
     are_sound_regions app.regions.items && (are_sound_stores (length app.regions.items) app.stores.items
     && (are_sound_services (length app.regions.items) app.stores.items app.services.items
     && (are_sound_requests app.services.items app.requests.items
-    && (are_sound_choices (length app.regions.items) (length app.stores.items) (length app.services.items) app.choices.items
-    && are_sound_numbers app))))
+    && (are_sound_choices app app.choices.items && are_sound_numbers app))))

@@ -1,5 +1,5 @@
 -- The application that bytes state.
-use Rattle.std.specs.Prelude.{◌≡◌, ℕ, List, Option, Some, None, Result, Ok, Err, if◌then◌else◌}
+use Rattle.std.specs.Prelude.{ℕ, List, Option, Some, None, Result, Ok, Err, if◌then◌else◌}
 use Rattle.std.specs.Str.{is_utf8}
 use Rattle.toml.specs.Data.{Members}
 use Rattle.toml.specs.Parse.{parse_document}
@@ -9,7 +9,7 @@ use Rattle.anti_app.specs.Chosen.{app_with, choices_of}
 use Rattle.anti_app.specs.declared.app.Choice.{Choice}
 use Rattle.anti_app.specs.declared.app.App.{App}
 use Rattle.anti_app.specs.declared.app.AppFault.{AppFault}
-use Rattle.anti_app.specs.declared.app.AppFault.TheVariants.{NotToml, Bad, BadChoice, NoMemory}
+use Rattle.anti_app.specs.declared.app.AppFault.TheVariants.{NotToml, Bad, BadChoice}
 
 -- the application of a document with these choices
 abbrev pub app_or : Members → Result (List Choice) ℕ → Result App AppFault
@@ -29,11 +29,3 @@ app_in None = Err NotToml
 -- The application that bytes state, or why they state none. A document is UTF-8.
 abbrev pub app_of : List ℕ → Result App AppFault
 app_of bytes = if is_utf8 bytes then app_in (parse_document bytes) else Err NotToml
-
--- What a reader answers, seen against what is stated; want of memory is free.
-abbrev pub Reads : Result App AppFault → Result App AppFault → Type 0
-Reads (Ok app) stated = stated ≡ Ok app
-Reads (Err NoMemory) stated = Unit {0}
-Reads (Err NotToml) stated = stated ≡ Err NotToml
-Reads (Err (Bad rule place)) stated = stated ≡ Err (Bad rule place)
-Reads (Err (BadChoice number)) stated = stated ≡ Err (BadChoice number)

@@ -1,4 +1,6 @@
-use anti_ids::{List, Name, Value};
+ghost use Rattle.std.specs.Prelude.{◌≡◌};
+
+use anti_ids::{List, Name, NoMemory, Value};
 use anti_kind::StoreKind;
 use anti_lang::Body;
 use anti_rules::Place;
@@ -16,9 +18,9 @@ pub struct StoreDef {
     pub name: Name,
     /// What the store keeps.
     pub kind: StoreKind,
-    /// The regions that have a replica: 1 to 8 distinct numbers of regions, in the order of the document.
+    /// The regions that have a replica: distinct numbers of regions, at least one and at most `MOST_REPLICAS`, in the order of the document.
     pub replicas: Numbers,
-    /// How often a message is given out at most, 1 to 8. It counts at a queue only.
+    /// How often a message is given out at most, 1 to `MOST_TRIES`. It counts at a queue only.
     pub tries: u32,
 }
 
@@ -153,7 +155,7 @@ pub struct App {
     pub choices: Choices,
     /// What a run with workers draws from.
     pub seed: u64,
-    /// How many workers a run has, 1 to 8.
+    /// How many workers a run has, 1 to `MOST_WORKERS`.
     pub workers: u32,
 }
 
@@ -169,4 +171,14 @@ pub enum AppFault {
     BadChoice { number: u32 },
     /// There was no memory. It says nothing of the bytes.
     NoMemory,
+}
+
+impl From<NoMemory> for AppFault {
+    ghost use Rattle.anti_app.specs.declared.app.AppFault.TheVariants as faults;
+
+    ghost from_gives = { λ _ fault. fault ≡ faults.NoMemory };
+
+    fn from(_: NoMemory) -> AppFault {
+        AppFault::NoMemory
+    }
 }

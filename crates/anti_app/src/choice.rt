@@ -1,16 +1,18 @@
-ghost use Rattle.std.specs.Prelude.{◌≡◌, [], ◌∷◌, ◌==◌, map, IfOk, IfSome, ◌<◌, length, position};
+ghost use Rattle.std.specs.Prelude.{◌≡◌, ◌==◌, map, option_map, IfOk, IfSome, ◌<◌, length, position};
+ghost use Rattle.anti_ids.specs.Ascii.{dot};
 ghost use Rattle.anti_ids.specs.List.{plain};
 ghost use Rattle.toml.specs.View.{view};
-ghost use Rattle.anti_app.specs.Chosen.{object_place, object_number, taking, reposting, pulling, repulling, take_of, repost_of, pull_of, repull_of, bringing, shipment_of, ship, again, mark_at, go_of, finish_of, choice_in, choice_of, choices_from, if_chosen};
+ghost use Rattle.anti_app.specs.Chosen.{number_of, object_place, object_number, if_both, service_named, sub_named, part_of, bringing, ship, again, go_to, choice_by, choice_in, choice_of, choices_from, if_chosen};
 
 use crate::app::{App, Choice, Choices};
+use crate::form::{ChoiceForm, form_of};
 use crate::number::number_of;
 use crate::reading::small;
 use crate::region::region_number;
 use crate::service::{service_number, service_place};
 use crate::store::{store_number, store_place};
 use crate::sub::sub_number;
-use anti_ids::{List, NoMemory, add};
+use anti_ids::{List, NoMemory};
 use anti_lang::words;
 use anti_rules::text_of;
 use std::alloc::Global;
@@ -34,16 +36,14 @@ fn object_place(app: &App, text: &[u8]) -> Option<usize>
 fn object_number(app: &App, text: &[u8]) -> Option<u32>
     ensures { result ≡ object_number app.now text.now }
 {
-    match object_place(app, text) {
-        Some(place) => small(place),
-        None => None,
-    }
+    small(object_place(app, text)?)
 }
 
 // The choice `take SERVICE N`.
-#[tactic(auto, unfolding(crate::specs::Chosen::taking))]
+#[tactic(auto, unfolding(crate::specs::Chosen::service_named))]
 fn taking(app: &App, service: &[u8], nth: &[u8]) -> Option<Choice>
-    ensures { result ≡ taking app.now service.now nth.now }
+    ensures { result ≡
+        if_both Choice.Take (service_named app.now service.now) (number_of nth.now) }
 {
     Some(Choice::Take {
         service: service_number(app.services.as_slice(), service)?,
@@ -51,20 +51,11 @@ fn taking(app: &App, service: &[u8], nth: &[u8]) -> Option<Choice>
     })
 }
 
-// The choice of the words behind `take`.
-fn take_of(app: &App, words: &[&[u8]]) -> Option<Choice>
-    ensures { result ≡ take_of app.now (map (λ word. word.now) words.now) }
-{
-    match words {
-        [service, nth] => taking(app, service, nth),
-        _ => None,
-    }
-}
-
 // The choice `repost SERVICE N`.
-#[tactic(auto, unfolding(crate::specs::Chosen::reposting))]
+#[tactic(auto, unfolding(crate::specs::Chosen::service_named))]
 fn reposting(app: &App, service: &[u8], number: &[u8]) -> Option<Choice>
-    ensures { result ≡ reposting app.now service.now number.now }
+    ensures { result ≡
+        if_both Choice.Repost (service_named app.now service.now) (number_of number.now) }
 {
     Some(Choice::Repost {
         service: service_number(app.services.as_slice(), service)?,
@@ -72,55 +63,25 @@ fn reposting(app: &App, service: &[u8], number: &[u8]) -> Option<Choice>
     })
 }
 
-// The choice of the words behind `repost`.
-fn repost_of(app: &App, words: &[&[u8]]) -> Option<Choice>
-    ensures { result ≡ repost_of app.now (map (λ word. word.now) words.now) }
-{
-    match words {
-        [service, number] => reposting(app, service, number),
-        _ => None,
-    }
-}
-
 // The choice `pull SUB`.
-#[tactic(auto, unfolding(crate::specs::Chosen::pulling))]
+#[tactic(auto, unfolding(crate::specs::Chosen::sub_named))]
 fn pulling(app: &App, sub: &[u8]) -> Option<Choice>
-    ensures { result ≡ pulling app.now sub.now }
+    ensures { result ≡ option_map Choice.Pull (sub_named app.now sub.now) }
 {
     Some(Choice::Pull {
         sub: sub_number(app.subs.as_slice(), sub)?,
     })
 }
 
-// The choice of the words behind `pull`.
-fn pull_of(app: &App, words: &[&[u8]]) -> Option<Choice>
-    ensures { result ≡ pull_of app.now (map (λ word. word.now) words.now) }
-{
-    match words {
-        [sub] => pulling(app, sub),
-        _ => None,
-    }
-}
-
 // The choice `repull SUB VERSION`.
-#[tactic(auto, unfolding(crate::specs::Chosen::repulling))]
+#[tactic(auto, unfolding(crate::specs::Chosen::sub_named))]
 fn repulling(app: &App, sub: &[u8], version: &[u8]) -> Option<Choice>
-    ensures { result ≡ repulling app.now sub.now version.now }
+    ensures { result ≡ if_both Choice.Repull (sub_named app.now sub.now) (number_of version.now) }
 {
     Some(Choice::Repull {
         sub: sub_number(app.subs.as_slice(), sub)?,
         version: number_of(version)? as u64,
     })
-}
-
-// The choice of the words behind `repull`.
-fn repull_of(app: &App, words: &[&[u8]]) -> Option<Choice>
-    ensures { result ≡ repull_of app.now (map (λ word. word.now) words.now) }
-{
-    match words {
-        [sub, version] => repulling(app, sub, version),
-        _ => None,
-    }
 }
 
 // What a carrier brings to a region: a part of a version, or the first part where none is given.
@@ -158,53 +119,40 @@ impl Shipment {
     }
 }
 
-// The shipment `STORE REGION VERSION` with a part, where one is given.
+// The part that the words behind a version state, where they state one.
+fn part_of(words: &[&[u8]]) -> Option<Option<u32>>
+    ensures { result ≡ part_of (map (λ word. word.now) words.now) }
+{
+    match words {
+        [] => Some(None),
+        [part] => Some(Some(number_of(part)?)),
+        _ => None,
+    }
+}
+
+// The shipment `STORE REGION VERSION`, maybe with a part.
 #[tactic(auto, unfolding(crate::specs::Chosen::bringing))]
 fn bringing(
     app: &App,
     store: &[u8],
     region: &[u8],
     version: &[u8],
-    part: Option<u32>,
+    part: &[&[u8]],
 ) -> Option<Shipment>
-    ensures { result ≡ bringing app.now store.now region.now version.now part }
+    ensures { result ≡
+        bringing app.now store.now region.now version.now (map (λ word. word.now) part.now) }
 {
     Some(Shipment {
         store: store_number(app.stores.as_slice(), store)?,
         region: region_number(app.regions.as_slice(), region)?,
         version: number_of(version)? as u64,
-        part,
+        part: part_of(part)?,
     })
-}
-
-// The shipment of the words behind `ship` and `again`.
-fn shipment_of(app: &App, words: &[&[u8]]) -> Option<Shipment>
-    ensures { result ≡ shipment_of app.now (map (λ word. word.now) words.now) }
-{
-    match words {
-        [store, region, version] => bringing(app, store, region, version, None),
-        [store, region, version, part] => bringing_part(app, store, region, version, part),
-        _ => None,
-    }
-}
-
-// The shipment `STORE REGION VERSION PART`.
-fn bringing_part(
-    app: &App,
-    store: &[u8],
-    region: &[u8],
-    version: &[u8],
-    part: &[u8],
-) -> Option<Shipment>
-    ensures { result ≡ shipment_of app.now (store.now ∷ region.now ∷ version.now ∷ part.now ∷ []) }
-{
-    let part = number_of(part)?;
-    bringing(app, store, region, version, Some(part))
 }
 
 // Where the first dot stands.
 fn first_dot(word: &[u8]) -> Option<usize>
-    ensures place { result ≡ position (λ b. b == 46) word.now }
+    ensures place { result ≡ position (λ b. b == dot) word.now }
     ensures within { IfSome result (λ dot. dot < length word.now) }
 {
     word.iter().position(|b| *b == b'.')
@@ -212,7 +160,7 @@ fn first_dot(word: &[u8]) -> Option<usize>
 
 // The choice `go OBJECT.PLACE`.
 fn go_to(app: &App, mark: &[u8]) -> Option<Choice>
-    ensures { result ≡ go_of app.now (mark.now ∷ []) }
+    ensures { result ≡ go_to app.now mark.now }
 {
     let dot = first_dot(mark)?;
     let object = object_number(app, mark.split_at(dot).0)?;
@@ -220,22 +168,23 @@ fn go_to(app: &App, mark: &[u8]) -> Option<Choice>
     Some(Choice::Go { object, place })
 }
 
-// The choice of the words behind `go`.
-fn go_of(app: &App, words: &[&[u8]]) -> Option<Choice>
-    ensures { result ≡ go_of app.now (map (λ word. word.now) words.now) }
+// The choice of a form that the words behind its first word state.
+fn choice_by(app: &App, form: ChoiceForm, words: &[&[u8]]) -> Option<Choice>
+    ensures { result ≡ choice_by app.now form (map (λ word. word.now) words.now) }
 {
-    match words {
-        [mark] => go_to(app, mark),
-        _ => None,
-    }
-}
-
-// The choice of the words behind `finish`.
-fn finish_of(words: &[&[u8]]) -> Option<Choice>
-    ensures { result ≡ finish_of (map (λ word. word.now) words.now) }
-{
-    match words {
-        [] => Some(Choice::Finish),
+    match (form, words) {
+        (ChoiceForm::Take, [service, nth]) => taking(app, service, nth),
+        (ChoiceForm::Repost, [service, number]) => reposting(app, service, number),
+        (ChoiceForm::Pull, [sub]) => pulling(app, sub),
+        (ChoiceForm::Repull, [sub, version]) => repulling(app, sub, version),
+        (ChoiceForm::Ship, [store, region, version, part @ ..]) => {
+            Some(bringing(app, store, region, version, part)?.ship())
+        }
+        (ChoiceForm::Again, [store, region, version, part @ ..]) => {
+            Some(bringing(app, store, region, version, part)?.again())
+        }
+        (ChoiceForm::Go, [mark]) => go_to(app, mark),
+        (ChoiceForm::Finish, []) => Some(Choice::Finish),
         _ => None,
     }
 }
@@ -246,28 +195,8 @@ fn choice_in(app: &App, words: &[&[u8]]) -> Option<Choice>
     ensures { result ≡ choice_in app.now (map (λ word. word.now) words.now) }
 {
     match words {
+        [what, rest @ ..] => choice_by(app, form_of(what)?, rest),
         [] => None,
-        [what, rest @ ..] => {
-            if *what == b"take".as_slice() {
-                take_of(app, rest)
-            } else if *what == b"repost".as_slice() {
-                repost_of(app, rest)
-            } else if *what == b"pull".as_slice() {
-                pull_of(app, rest)
-            } else if *what == b"repull".as_slice() {
-                repull_of(app, rest)
-            } else if *what == b"ship".as_slice() {
-                Some(shipment_of(app, rest)?.ship())
-            } else if *what == b"again".as_slice() {
-                Some(shipment_of(app, rest)?.again())
-            } else if *what == b"go".as_slice() {
-                go_of(app, rest)
-            } else if *what == b"finish".as_slice() {
-                finish_of(rest)
-            } else {
-                None
-            }
-        }
     }
 }
 
@@ -295,7 +224,7 @@ pub fn choices_of(
         let Some(choice) = choice_of(alloc, app, value)? else {
             return Ok(Err(number));
         };
-        add(&mut choices, choice)?;
+        choices.add(choice)?;
     }
     Ok(Ok(choices))
 }

@@ -2,11 +2,13 @@ ghost use Rattle.std.specs.Prelude.{◌≡◌, [], map, IfOk, IsTrue, true, fals
 ghost use Rattle.std.specs.Str.{is_utf8};
 ghost use Rattle.toml.specs.Parse.{parse_document};
 ghost use Rattle.toml.specs.View.{table_view};
+ghost use Rattle.anti_ids.specs.Answers.{AnswersBut};
 ghost use Rattle.anti_rules.specs.Order.{first_breach};
 ghost use Rattle.anti_app.specs.Sound.{is_sound};
 ghost use Rattle.anti_app.specs.Parts.{seed_of, workers_of};
 ghost use Rattle.anti_app.specs.Chosen.{app_with, choices_of, if_chosen};
-ghost use Rattle.anti_app.specs.Stated.{app_of, app_or, app_unless, Reads};
+ghost use Rattle.anti_app.specs.Stated.{app_of, app_or, app_unless};
+ghost use Rattle.anti_app.specs.declared.app.AppFault.TheVariants as faults;
 
 use crate::app::{App, AppFault};
 use crate::choice::choices_of;
@@ -16,7 +18,7 @@ use crate::request::requests_of;
 use crate::service::services_of;
 use crate::store::stores_of;
 use crate::sub::subs_of;
-use anti_ids::{List, NoMemory};
+use anti_ids::{List, MOST_WORKERS, NoMemory};
 use anti_rules::{first_breach, things_at};
 use std::alloc::Global;
 use toml::Table;
@@ -46,7 +48,7 @@ fn parts_of(alloc: Global, doc: &Table) -> Result<App, NoMemory>
         requests,
         choices: List::new(alloc),
         seed: whole_or_0(integer_in(doc, "seed")),
-        workers: few_or(WORKERS, integer_in(doc, "workers")),
+        workers: few_or(MOST_WORKERS, WORKERS, integer_in(doc, "workers")),
     })
 }
 
@@ -87,37 +89,34 @@ fn chosen(alloc: Global, doc: &Table) -> Result<Result<App, u32>, NoMemory>
 
 // The application of a document.
 fn app_in(alloc: Global, doc: &Table) -> Result<App, AppFault>
-    ensures { Reads result (app_unless (table_view doc.now) (first_breach (table_view doc.now))) }
+    ensures { AnswersBut faults.NoMemory result (app_unless (table_view doc.now) (first_breach (table_view doc.now))) }
 {
-    match first_breach(alloc, doc) {
-        Ok(None) => {}
-        Ok(Some(breach)) => {
+    match first_breach(alloc, doc)? {
+        Some(breach) => {
             return Err(AppFault::Bad {
                 rule: breach.rule,
                 place: breach.place,
             });
         }
-        Err(NoMemory) => return Err(AppFault::NoMemory),
+        None => {}
     }
-    match chosen(alloc, doc) {
-        Ok(Ok(app)) => Ok(app),
-        Ok(Err(number)) => Err(AppFault::BadChoice { number }),
-        Err(NoMemory) => Err(AppFault::NoMemory),
+    match chosen(alloc, doc)? {
+        Ok(app) => Ok(app),
+        Err(number) => Err(AppFault::BadChoice { number }),
     }
 }
 
 /// The application that bytes state. They state none where they are no TOML document in UTF-8 (`NotToml`), where the document fails
 /// a rule of the format (`Bad`), and else where one of its choices has no form of the format or names what is not there (`BadChoice`).
 pub fn read_app(alloc: Global, bytes: &[u8]) -> Result<App, AppFault>
-    ensures reads { Reads result (app_of bytes.now) }
+    ensures reads { AnswersBut faults.NoMemory result (app_of bytes.now) }
     ensures sound { IfOk result (λ app. IsTrue (is_sound app)) }
 {
     let Some(text) = text_of(bytes) else {
         return Err(AppFault::NotToml);
     };
-    match table_in(alloc, text) {
-        Ok(Some(table)) => app_in(alloc, &table),
-        Ok(None) => Err(AppFault::NotToml),
-        Err(NoMemory) => Err(AppFault::NoMemory),
+    match table_in(alloc, text)? {
+        Some(table) => app_in(alloc, &table),
+        None => Err(AppFault::NotToml),
     }
 }

@@ -4,8 +4,10 @@
 mod app;
 mod choice;
 mod document;
-mod limits;
+mod form;
 mod number;
+mod objects;
+mod positions;
 mod reading;
 mod region;
 mod request;
@@ -13,13 +15,14 @@ mod service;
 mod store;
 mod sub;
 
-pub use anti_rules::{MOST_CHOICES, Part, Place};
+pub use anti_rules::{Part, Place};
 pub use app::{
     App, AppFault, Choice, Choices, HandlerDef, Handlers, Names, Numbers, RequestDef, Requests,
     ServiceDef, Services, StoreDef, Stores, SubDef, SubDefs, Waits,
 };
 pub use document::read_app;
-pub use limits::MOST_COUNTED;
-
-#[cfg(test)]
-mod tests;
+pub use objects::{
+    ObjectAt, body_of, handler_number, has_handler, inbox_number, inbox_of, object_at,
+    object_count, region_of, service_at, store_names, store_number, stores_here,
+};
+pub use positions::number_on;

@@ -49,12 +49,12 @@ pub fn small(place: usize) -> Option<u32>
     }
 }
 
-/// The integer from 1 to 8 that was found, or a default.
-pub fn few_or(default: u32, found: Option<i64>) -> u32
-    ensures { result ≡ few_or default found }
+/// The integer from 1 to the most that was found, or a default.
+pub fn few_or(most: u32, default: u32, found: Option<i64>) -> u32
+    ensures { result ≡ few_or most default found }
 {
     match found {
-        Some(number) if 1 <= number && number <= 8 => number as u32,
+        Some(number) if 1 <= number && number <= most as i64 => number as u32,
         _ => default,
     }
 }

@@ -6,7 +6,7 @@ ghost use Rattle.anti_app.specs.Parts.{region_of, region_number};
 
 use crate::app::Names;
 use crate::reading::{name_or_a, small};
-use anti_ids::{List, Name, NoMemory, add};
+use anti_ids::{List, Name, NoMemory};
 use anti_rules::text_of;
 use std::alloc::Global;
 use toml::Value;
@@ -17,7 +17,7 @@ pub fn regions_of(alloc: Global, values: &[Value]) -> Result<Names, NoMemory>
 {
     let mut regions = List::new(alloc);
     for value in values {
-        add(&mut regions, name_or_a(text_of(value)))?;
+        regions.add(name_or_a(text_of(value)))?;
     }
     Ok(regions)
 }

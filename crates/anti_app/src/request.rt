@@ -6,7 +6,7 @@ ghost use Rattle.anti_app.specs.Parts.{value_or_empty, request_of};
 
 use crate::app::{RequestDef, Requests, ServiceDef};
 use crate::service::{handler_at, service_at};
-use anti_ids::{List, NoMemory, Value as Payload, ValueFault, add};
+use anti_ids::{List, NoMemory, Value as Payload, ValueFault};
 use anti_rules::text_at;
 use std::alloc::Global;
 use toml::Value;
@@ -47,7 +47,7 @@ pub fn requests_of(
     let mut requests = List::new(alloc);
     for value in values {
         let request = request_of(alloc, services, value)?;
-        add(&mut requests, request)?;
+        requests.add(request)?;
     }
     Ok(requests)
 }

@@ -8,15 +8,15 @@ ghost use Rattle.anti_app.specs.Parts.{body_or_empty, body_in, lines_in, handler
 use crate::app::{HandlerDef, Handlers, ServiceDef, Services};
 use crate::reading::{name_at, small};
 use crate::region::region_number;
-use anti_ids::{List, Name, NoMemory, add};
+use anti_ids::{List, MOST_LINES, Name, NoMemory};
 use anti_lang::{Body, LangFault, Lines, parse};
-use anti_rules::{MOST_LINES, text_at, texts_in, things_in};
+use anti_rules::{text_at, texts_in, things_in};
 use std::alloc::Global;
 use toml::Value;
 
-// The body that at most 64 lines state, or the empty one where they state none.
+// The body that at most `MOST_LINES` lines state, or the empty one where they state none.
 fn parsed_body(alloc: Global, lines: &Lines) -> Result<Body, NoMemory>
-    requires { length lines.now.items ≤ 64 }
+    requires { length lines.now.items ≤ MOST_LINES }
     ensures { IfOk result (λ body. body ≡ body_or_empty (parsed (texts_of lines.now))) }
 {
     match parse(alloc, lines) {
@@ -26,7 +26,7 @@ fn parsed_body(alloc: Global, lines: &Lines) -> Result<Body, NoMemory>
     }
 }
 
-// The body that lines state, or the empty one where they are more than 64 or state none.
+// The body that lines state, or the empty one where they are more than `MOST_LINES` or state none.
 fn body_in(alloc: Global, lines: &Lines) -> Result<Body, NoMemory>
     ensures { IfOk result (λ body. body ≡ body_in (texts_of lines.now)) }
 {
@@ -57,7 +57,7 @@ fn handlers_of(alloc: Global, values: &[Value]) -> Result<Handlers, NoMemory>
     let mut handlers = List::new(alloc);
     for value in values {
         let handler = handler_of(alloc, value)?;
-        add(&mut handlers, handler)?;
+        handlers.add(handler)?;
     }
     Ok(handlers)
 }
@@ -82,7 +82,7 @@ pub fn services_of(alloc: Global, regions: &[Name], values: &[Value]) -> Result<
     let mut services = List::new(alloc);
     for value in values {
         let service = service_of(alloc, regions, value)?;
-        add(&mut services, service)?;
+        services.add(service)?;
     }
     Ok(services)
 }

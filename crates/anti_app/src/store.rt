@@ -2,36 +2,18 @@ ghost use Rattle.std.specs.Prelude.{◌≡◌, map, IfOk, position};
 ghost use Rattle.std.specs.Str.{bytes_eq};
 ghost use Rattle.anti_ids.specs.List.{plain};
 ghost use Rattle.toml.specs.View.{view};
-ghost use Rattle.anti_app.specs.Parts.{kind_of, replica_of, store_of, store_place, store_number};
+ghost use Rattle.anti_app.specs.Parts.{replica_of, store_of, store_place, store_number};
 
 use crate::app::{Numbers, StoreDef, Stores};
 use crate::reading::{few_or, integer_at, name_at, small};
 use crate::region::region_number;
-use anti_ids::{List, Name, NoMemory, add};
-use anti_kind::StoreKind;
-use anti_rules::{text_at, text_of, things_in};
+use anti_ids::{List, MOST_TRIES, Name, NoMemory};
+use anti_rules::{kind_of, text_at, text_of, things_in};
 use std::alloc::Global;
 use toml::Value;
 
 // How often a queue gives a message out where the document says nothing.
 const TRIES: u32 = 3;
-
-// The kind that a word names, or `kv` where it names none.
-fn kind_of(text: &str) -> StoreKind
-    ensures { result ≡ kind_of text.now }
-{
-    if text == "table" {
-        StoreKind::Table
-    } else if text == "blob" {
-        StoreKind::Blob
-    } else if text == "queue" {
-        StoreKind::Queue
-    } else if text == "topic" {
-        StoreKind::Topic
-    } else {
-        StoreKind::Kv
-    }
-}
 
 // The number of the region of a replica, or 0 where there is none.
 fn replica_of(regions: &[Name], value: &Value) -> u32
@@ -46,7 +28,7 @@ fn replicas_of(alloc: Global, regions: &[Name], values: &[Value]) -> Result<Numb
 {
     let mut replicas = List::new(alloc);
     for value in values {
-        add(&mut replicas, replica_of(regions, value))?;
+        replicas.add(replica_of(regions, value))?;
     }
     Ok(replicas)
 }
@@ -61,7 +43,7 @@ fn store_of(alloc: Global, regions: &[Name], value: &Value) -> Result<StoreDef, 
         name: name_at(value, "name"),
         kind: kind_of(text_at(value, "kind")),
         replicas,
-        tries: few_or(TRIES, integer_at(value, "tries")),
+        tries: few_or(MOST_TRIES, TRIES, integer_at(value, "tries")),
     })
 }
 
@@ -72,7 +54,7 @@ pub fn stores_of(alloc: Global, regions: &[Name], values: &[Value]) -> Result<St
     let mut stores = List::new(alloc);
     for value in values {
         let store = store_of(alloc, regions, value)?;
-        add(&mut stores, store)?;
+        stores.add(store)?;
     }
     Ok(stores)
 }

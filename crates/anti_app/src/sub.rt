@@ -8,7 +8,7 @@ use crate::app::{ServiceDef, StoreDef, SubDef, SubDefs};
 use crate::reading::{name_at, small};
 use crate::service::{handler_at, service_at};
 use crate::store::store_number;
-use anti_ids::{List, NoMemory, add};
+use anti_ids::{List, NoMemory};
 use anti_rules::text_at;
 use std::alloc::Global;
 use toml::Value;
@@ -38,7 +38,7 @@ pub fn subs_of(
 {
     let mut subs = List::new(alloc);
     for value in values {
-        add(&mut subs, sub_of(stores, services, value))?;
+        subs.add(sub_of(stores, services, value))?;
     }
     Ok(subs)
 }

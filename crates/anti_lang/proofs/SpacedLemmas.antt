@@ -1,14 +1,17 @@
 -- The words of a line are found again where they stand with one space between.
-use Rattle.std.proofs.Common.{◌≡◌, ℕ, ◌+◌, ◌-◌, ◌<◌, ◌≤◌, List, [], ◌∷◌, Bool, true, false, not, ◌&&◌, Option, Some, None, nat_eq, nat_lt, nat_le, length, refl, sym, ap, subst, ◌∙◌, arith}
+use Rattle.std.proofs.Common.{◌≡◌, ℕ, ◌≤◌, List, [], ◌∷◌, Bool, true, false, not, ◌&&◌, Option, Some, None, nat_eq, nat_lt, nat_le, length, refl, ap, subst, arith}
 use Rattle.std.specs.Prelude.{decimal}
+use Rattle.std.specs.Char.{is_ascii_digit}
 use Rattle.std.specs.List.{list_all, All}
 use Rattle.std.specs.Str.{is_utf8, bytes_eq}
 use Rattle.std.specs.Prelude.{codes}
 use Rattle.std.proofs.lemmas.Bool.Decides.{nat_tests}
-use Rattle.std.proofs.lemmas.Fmt.{decimal_digit}
+use Rattle.std.proofs.lemmas.Bool.{lt-ltb}
 use Rattle.std.proofs.lemmas.List.Elements.{All-nil, All-cons}
 use Rattle.std.proofs.lemmas.List.Splits.{slice_split_none, slice_split_at}
 use Rattle.anti_ids.specs.Names.{is_name_byte, is_plain_byte, is_name, is_plain}
+use Rattle.anti_ids.specs.declared.limits.TheConstants.{LONGEST_VALUE, MOST_TURNS}
+use Rattle.anti_ids.proofs.Decimals.{digits_of_decimal}
 use Rattle.anti_lang.specs.Texts.{is_variable, is_literal, is_literal_byte, has_dollar}
 use Rattle.anti_lang.specs.Vocabulary.{key_text, value_text, key_fits, value_fits}
 use Rattle.anti_lang.specs.Program.{Write, Append, Remove, Transfer, Barrier, DryRun, Read, Scan, Poll, Call, Send, Reply, Nack, Root, Stop, Repeat, IfAbsent}
@@ -19,7 +22,7 @@ use Rattle.anti_lang.specs.declared.statement.KeyWord.{KeyWord}
 use Rattle.anti_lang.specs.declared.statement.KeyWord.TheVariants as keys
 use Rattle.anti_lang.specs.declared.statement.ValueWord.{ValueWord}
 use Rattle.anti_lang.specs.declared.statement.ValueWord.TheVariants as values
-use Rattle.anti_lang.proofs.WordLemmas.{both, not_true, at_most, ten_more}
+use Rattle.anti_lang.proofs.WordLemmas.{both, not_true, at_most}
 
 -- a text with a byte and without a space
 abbrev is_word : List ℕ → Bool
@@ -88,8 +91,8 @@ name_word text h =
 
 literal_word : (text : List ℕ) → is_literal text ≡ true → is_word text ≡ true
 literal_word text h =
-    let some = both (nat_lt 0 (length text)) (nat_le (length text) 256 && (not (has_dollar text) && (list_all is_literal_byte text && is_utf8 text))) h in
-    let short = both (nat_le (length text) 256) (not (has_dollar text) && (list_all is_literal_byte text && is_utf8 text)) some.1 in
+    let some = both (nat_lt 0 (length text)) (nat_le (length text) LONGEST_VALUE && (not (has_dollar text) && (list_all is_literal_byte text && is_utf8 text))) h in
+    let short = both (nat_le (length text) LONGEST_VALUE) (not (has_dollar text) && (list_all is_literal_byte text && is_utf8 text)) some.1 in
     let itself = both (not (has_dollar text)) (list_all is_literal_byte text && is_utf8 text) short.1 in
     word_by is_literal_byte refl text some.0 (both (list_all is_literal_byte text) (is_utf8 text) itself.1).0
 
@@ -111,26 +114,11 @@ value_word values.Input h = refl
 value_word (values.Of variable) h = behind_dollar variable h
 value_word (values.Literal value) h = literal_word value h
 
-digit_word : (d : ℕ) → 48 ≤ d → is_word (d ∷ []) ≡ true
-digit_word d h = let e : nat_eq d 32 ≡ false = grind (arith, nat_tests) in rw e refl
-
-ten_word : (d : ℕ) → 48 ≤ d → is_word (49 ∷ d ∷ []) ≡ true
-ten_word d h = let e : nat_eq d 32 ≡ false = grind (arith, nat_tests) in rw e refl
-
-count_case : (small : Bool) (n : ℕ) → n ≤ 16 → small ≡ nat_lt n 10 → is_word (decimal n) ≡ true
-count_case true n most e =
-    let below : n < 10 = grind (arith, nat_tests) in
-    let g = decimal_digit n below in
-    rw g (digit_word (48 + n) (omega arith))
-count_case false n most e =
-    let above : 10 ≤ n = grind (arith, nat_tests) in
-    let f : 10 + (n - 10) ≡ n = omega arith in
-    let below : n - 10 < 7 = omega arith in
-    let g : decimal n ≡ 49 ∷ (48 + (n - 10)) ∷ [] = ap decimal (sym f) ∙ ten_more (n - 10) below in
-    rw g (ten_word (48 + (n - 10)) (omega arith))
-
-count_word : (n : ℕ) → (nat_le 1 n && nat_le n 16) ≡ true → is_word (decimal n) ≡ true
-count_word n h = let range = both (nat_le 1 n) (nat_le n 16) h in count_case (nat_lt n 10) n (at_most _ _ range.1) refl
+count_word : (n : ℕ) → (nat_le 1 n && nat_le n MOST_TURNS) ≡ true → is_word (decimal n) ≡ true
+count_word n h =
+    let most : n ≤ MOST_TURNS = at_most _ _ (both (nat_le 1 n) (nat_le n MOST_TURNS) h).1 in
+    let digits = digits_of_decimal n (omega arith) in
+    word_by is_ascii_digit refl (decimal n) (lt-ltb 0 (length (decimal n)) digits.0) digits.1
 
 held_are_words : (variable : Option (List ℕ)) (untracked : Bool) → held_fits variable untracked ≡ true → list_all is_word (held_words variable untracked) ≡ true
 held_are_words None untracked h = refl

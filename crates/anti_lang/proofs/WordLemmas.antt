@@ -1,15 +1,15 @@
 -- What stands for a variable, a key, a value and a count is spelled so that it is found again.
-use Rattle.std.proofs.Common.{◌≡◌, ℕ, zero, suc, ◌+◌, ◌-◌, ◌<◌, ◌≤◌, List, [], ◌∷◌, Bool, true, false, not, cond, ◌&&◌, Some, None, nat_eq, nat_lt, nat_le, length, refl, sym, ap, subst, ◌∙◌, arith}
+use Rattle.std.proofs.Common.{◌≡◌, ℕ, ◌≤◌, List, [], ◌∷◌, Bool, true, false, not, cond, ◌&&◌, Some, None, nat_eq, nat_lt, nat_le, length, refl, sym, subst, arith}
 use Rattle.std.specs.Prelude.{codes, decimal}
-use Rattle.std.specs.Fmt.{digits}
 use Rattle.std.specs.Bool.{then_some}
 use Rattle.std.specs.List.{list_all}
 use Rattle.std.specs.Str.{bytes_eq, is_utf8}
 use Rattle.std.specs.Cmp.Lexicographic.{same_text}
 use Rattle.std.proofs.lemmas.Bool.Decides.{nat_tests}
-use Rattle.std.proofs.lemmas.Fmt.{decimal_digit}
 use Rattle.anti_ids.specs.Names.{is_name_byte, is_plain_byte, is_name, is_plain}
 use Rattle.anti_lang.specs.Texts.{is_variable, is_literal, is_literal_byte, has_dollar}
+use Rattle.anti_ids.specs.declared.limits.TheConstants.{LONGEST_VALUE, MOST_TURNS}
+use Rattle.anti_ids.proofs.Decimals.{decimal_back, decimal_again}
 use Rattle.anti_lang.specs.Vocabulary.{key_text, value_text, key_fits, value_fits, key_behind, value_behind, key_of, value_of, count_of}
 use Rattle.anti_lang.specs.declared.statement.KeyWord.{KeyWord}
 use Rattle.anti_lang.specs.declared.statement.KeyWord.TheVariants as keys
@@ -108,8 +108,8 @@ key_again good none (keys.Plain (first ∷ rest)) h = let e : nat_eq first 36 �
 
 pub literal_no_dollar : (text : List ℕ) → is_literal text ≡ true → has_dollar text ≡ false
 literal_no_dollar text h =
-    let some = both (nat_lt 0 (length text)) (nat_le (length text) 256 && (not (has_dollar text) && (list_all is_literal_byte text && is_utf8 text))) h in
-    let short = both (nat_le (length text) 256) (not (has_dollar text) && (list_all is_literal_byte text && is_utf8 text)) some.1 in
+    let some = both (nat_lt 0 (length text)) (nat_le (length text) LONGEST_VALUE && (not (has_dollar text) && (list_all is_literal_byte text && is_utf8 text))) h in
+    let short = both (nat_le (length text) LONGEST_VALUE) (not (has_dollar text) && (list_all is_literal_byte text && is_utf8 text)) some.1 in
     not_true _ (both (not (has_dollar text)) (list_all is_literal_byte text && is_utf8 text) short.1).0
 
 -- a value is found again by its text
@@ -119,75 +119,16 @@ value_again (values.Of variable) h = rw (not_in variable h) refl
 value_again (values.Literal []) h = refl
 value_again (values.Literal (first ∷ rest)) h = let e : nat_eq first 36 ≡ false = literal_no_dollar (first ∷ rest) h in rw e refl
 
--- the numbers from 10 to 16 in decimal
-pub ten_more : (digit : ℕ) → digit < 7 → decimal (10 + digit) ≡ 49 ∷ (48 + digit) ∷ []
-unfolding digits
-ten_more zero h = refl
-ten_more (suc zero) h = refl
-ten_more (suc (suc zero)) h = refl
-ten_more (suc (suc (suc zero))) h = refl
-ten_more (suc (suc (suc (suc zero)))) h = refl
-ten_more (suc (suc (suc (suc (suc zero))))) h = refl
-ten_more (suc (suc (suc (suc (suc (suc zero)))))) h = refl
-ten_more (suc (suc (suc (suc (suc (suc (suc digit))))))) h = absurd (omega arith)
-
-one_digit : (digit n : ℕ) → 49 ≤ digit → digit ≤ 57 → digit - 48 ≡ n → decimal n ≡ digit ∷ []
-one_digit digit n least most e =
-    let f : 48 + n ≡ digit = omega arith in
-    let small : n < 10 = omega arith in
-    decimal_digit n small ∙ ap (λ d. d ∷ []) f
-
-two_digits : (ten digit n : ℕ) → ten ≡ 49 → 48 ≤ digit → digit ≤ 54 → 10 + (digit - 48) ≡ n → decimal n ≡ ten ∷ digit ∷ []
-two_digits ten digit n one least most e =
-    let g : 48 + (digit - 48) ≡ digit = omega arith in
-    let small : digit - 48 < 7 = omega arith in
-    rw (← e, one) (ten_more (digit - 48) small ∙ ap (λ d. 49 ∷ d ∷ []) g)
-
 pub at_most : (a b : ℕ) → nat_le a b ≡ true → a ≤ b
 at_most a b h = grind (arith, nat_tests)
 
-equal : (a b : ℕ) → nat_eq a b ≡ true → a ≡ b
-equal a b h = grind (arith, nat_tests)
-
 -- a count is spelled as it is found
 pub count_found : (word : List ℕ) (n : ℕ) → count_of word ≡ Some n → decimal n ≡ word
-count_found [] n h = absurd (cc)
-count_found (digit ∷ []) n h =
-    let here = found_if (nat_le 49 digit && nat_le digit 57) (digit - 48) n h in
-    let range = both (nat_le 49 digit) (nat_le digit 57) here.0 in
-    one_digit digit n (at_most _ _ range.0) (at_most _ _ range.1) here.1
-count_found (ten ∷ digit ∷ []) n h =
-    let here = found_if (nat_eq ten 49 && (nat_le 48 digit && nat_le digit 54)) (10 + (digit - 48)) n h in
-    let one = both (nat_eq ten 49) (nat_le 48 digit && nat_le digit 54) here.0 in
-    let range = both (nat_le 48 digit) (nat_le digit 54) one.1 in
-    two_digits ten digit n (equal _ _ one.0) (at_most _ _ range.0) (at_most _ _ range.1) here.1
-count_found (ten ∷ digit ∷ more ∷ rest) n h = absurd (cc)
-
-small_again : (n : ℕ) → 1 ≤ n → n < 10 → count_of ((48 + n) ∷ []) ≡ Some n
-small_again n least most =
-    let p : nat_le 49 (48 + n) ≡ true = grind (arith, nat_tests) in
-    let q : nat_le (48 + n) 57 ≡ true = grind (arith, nat_tests) in
-    let e : (48 + n) - 48 ≡ n = omega arith in
-    rw (p, q) (ap Some e)
-
-large_again : (k : ℕ) → k < 7 → count_of (49 ∷ (48 + k) ∷ []) ≡ Some (10 + k)
-large_again k most =
-    let p : nat_le 48 (48 + k) ≡ true = grind (arith, nat_tests) in
-    let q : nat_le (48 + k) 54 ≡ true = grind (arith, nat_tests) in
-    let e : 10 + ((48 + k) - 48) ≡ 10 + k = omega arith in
-    rw (p, q) (ap Some e)
-
-count_case : (small : Bool) (n : ℕ) → 1 ≤ n → n ≤ 16 → small ≡ nat_lt n 10 → count_of (decimal n) ≡ Some n
-count_case true n least most e =
-    let below : n < 10 = grind (arith, nat_tests) in
-    rw (decimal_digit n below) (small_again n least below)
-count_case false n least most e =
-    let above : 10 ≤ n = grind (arith, nat_tests) in
-    let f : 10 + (n - 10) ≡ n = omega arith in
-    let below : n - 10 < 7 = omega arith in
-    let g : decimal n ≡ 49 ∷ (48 + (n - 10)) ∷ [] = ap decimal (sym f) ∙ ten_more (n - 10) below in
-    rw g (large_again (n - 10) below ∙ ap Some f)
+count_found word n h = sym (decimal_back 1 MOST_TURNS word n h).2
 
 -- a count is found again by its text
-pub count_again : (n : ℕ) → (nat_le 1 n && nat_le n 16) ≡ true → count_of (decimal n) ≡ Some n
-count_again n h = let range = both (nat_le 1 n) (nat_le n 16) h in count_case (nat_lt n 10) n (at_most _ _ range.0) (at_most _ _ range.1) refl
+pub count_again : (n : ℕ) → (nat_le 1 n && nat_le n MOST_TURNS) ≡ true → count_of (decimal n) ≡ Some n
+count_again n h =
+    let range = both (nat_le 1 n) (nat_le n MOST_TURNS) h in
+    let most : n ≤ MOST_TURNS = at_most _ _ range.1 in
+    decimal_again 1 MOST_TURNS n (at_most _ _ range.0) most (omega arith)

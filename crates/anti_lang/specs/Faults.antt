@@ -1,6 +1,7 @@
 -- What may be wrong with the blocks and the variables of lines.
 use Rattle.std.specs.Prelude.{ℕ, zero, suc, ◌+◌, ◌*◌, List, [], ◌∷◌, Bool, true, false, not, ◌&&◌, ◌||◌, nat_lt, nat_le, length, filter, find, Option, Some, None, option_map, is_some, if◌then◌else◌}
 use Rattle.std.specs.Str.{bytes_eq}
+use Rattle.anti_ids.specs.declared.limits.TheConstants.{MOST_NESTED, MOST_RUNS}
 use Rattle.anti_lang.specs.declared.statement.KeyWord.{KeyWord}
 use Rattle.anti_lang.specs.declared.statement.KeyWord.TheVariants as key_words
 use Rattle.anti_lang.specs.declared.statement.ValueWord.{ValueWord}
@@ -74,7 +75,7 @@ has_end inner (OpenIf variable ∷ lines) = has_end (suc inner) lines
 
 -- whether a block may not be opened in the blocks of these lines, above the lines behind
 abbrev pub cannot_open : List Line → List Line → Bool
-cannot_open round behind = not (has_end 0 behind) || nat_le 4 (depth round)
+cannot_open round behind = not (has_end 0 behind) || nat_le MOST_NESTED (depth round)
 
 -- nothing, or `root` first
 abbrev pub begins_with_root : List Line → Bool
@@ -84,7 +85,7 @@ begins_with_root lines = false
 
 -- whether a line is wrong in the blocks of the lines round it, above the lines behind
 abbrev pub is_wrong_in : List Line → Line → List Line → Bool
-is_wrong_in round (OpenRepeat count) behind = cannot_open round behind || nat_lt 256 (count * runs round)
+is_wrong_in round (OpenRepeat count) behind = cannot_open round behind || nat_lt MOST_RUNS (count * runs round)
 is_wrong_in round (OpenIf variable) behind = cannot_open round behind
 is_wrong_in round Close behind = not (in_block round)
 is_wrong_in round (Does Root) behind = in_block round
@@ -95,7 +96,7 @@ abbrev pub has_wrong_block : Spot → Bool
 has_wrong_block spot = is_wrong_in (around spot.above) spot.line spot.behind
 
 -- The first line, counted from 1, at which a block is wrong: it opens a block that has no `end`, or a fifth round another four, or
--- is a `repeat` whose lines would run more than 256 times; it is an `end` without a block; it is `root` or `stop` in a block; or it
+-- is a `repeat` whose lines would run more than `MOST_RUNS` times; it is an `end` without a block; it is `root` or `stop` in a block; or it
 -- is `stop` with something other than `root` behind it.
 unfoldable pub block_fault : List Line → Option ℕ
 block_fault = first_wrong has_wrong_block

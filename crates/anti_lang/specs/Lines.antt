@@ -4,6 +4,7 @@ use Rattle.std.specs.Bool.{then_some}
 use Rattle.std.specs.Option.{option_and_then}
 use Rattle.std.specs.Str.{bytes_eq}
 use Rattle.anti_ids.specs.Names.{is_name, is_plain}
+use Rattle.anti_ids.specs.declared.limits.TheConstants.{MOST_TURNS}
 use Rattle.anti_lang.specs.Texts.{is_variable}
 use Rattle.anti_lang.specs.Keywords.{keyword_of}
 use Rattle.anti_lang.specs.Vocabulary.{key_text, value_text, key_fits, value_fits, key_of, value_of, count_of}
@@ -93,7 +94,7 @@ statement_fits statement = true
 -- Whether a line keeps to the forms of the language.
 abbrev pub fits : Line → Bool
 fits (Does statement) = opens_none statement && statement_fits statement
-fits (OpenRepeat count) = nat_le 1 count && nat_le count 16
+fits (OpenRepeat count) = nat_le 1 count && nat_le count MOST_TURNS
 fits (OpenIf variable) = is_variable variable
 fits Close = true
 

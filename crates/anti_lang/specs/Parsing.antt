@@ -1,5 +1,6 @@
 -- The body that lines of bytes state, and the lines of bytes of a body.
-use Rattle.std.specs.Prelude.{◌≡◌, ℕ, List, [], ◌∷◌, ◌++◌, Option, Some, None, Result, Ok, Err, map, ◌+◌}
+use Rattle.std.specs.Prelude.{ℕ, List, [], ◌∷◌, ◌++◌, Option, Some, None, Result, Ok, Err, map, ◌+◌}
+use Rattle.anti_ids.specs.Ascii.{space}
 use Rattle.anti_ids.specs.List.{Listed, plain}
 use Rattle.anti_lang.specs.Words.{words}
 use Rattle.anti_lang.specs.Program.{Block, End}
@@ -34,15 +35,13 @@ abbrev pub lines_from : ℕ → List (List ℕ) → Result (List Line) ℕ
 lines_from before [] = Ok []
 lines_from before (text ∷ texts) = read_or (before + 1) (read_line (words text)) (lines_from (before + 1) texts)
 
--- What reading the lines answers, seen against what they state; want of memory is free.
-abbrev pub Reads : Result (Listed code.Line) LangFault → Result (List Line) ℕ → Type 0
-Reads (Ok found) (Ok lines) = found ≡ plain (map line_of lines)
-Reads (Err (faults.Line number codes.Unknown)) (Err first) = first ≡ number
-Reads (Err faults.NoMemory) stated = Unit {0}
-Reads _ _ = ⊥
-
 abbrev pub fault_at : LangCode → ℕ → LangFault
 fault_at code number = faults.Line number code
+
+-- lines as the code has them, or the fault of the first that states nothing
+abbrev pub lines_read : Result (List Line) ℕ → Result (Listed code.Line) LangFault
+lines_read (Ok lines) = Ok (plain (map line_of lines))
+lines_read (Err number) = Err (fault_at codes.Unknown number)
 
 -- the block, where the lines are those of one body
 abbrev pub one_block : List Block → Block
@@ -62,18 +61,16 @@ parsed_or (Ok lines) = body_or lines (block_fault lines) (variable_fault lines)
 abbrev pub parsed : List (List ℕ) → Result Block LangFault
 parsed texts = parsed_or (lines_from 0 texts)
 
--- What `parse` answers, seen against what is stated; want of memory is free.
-abbrev pub Parses : Result (Listed Statement) LangFault → Result Block LangFault → Type 0
-Parses (Ok body) (Ok block) = body ≡ body_of block
-Parses (Err (faults.Line number code)) (Err fault) = fault ≡ faults.Line number code
-Parses (Err faults.NoMemory) stated = Unit {0}
-Parses _ _ = ⊥
+-- a body as the code has it, or why there is none
+abbrev pub body_parsed : Result Block LangFault → Result (Listed Statement) LangFault
+body_parsed (Ok block) = Ok (body_of block)
+body_parsed (Err fault) = Err fault
 
 -- words with one space between
 abbrev pub spaced : List (List ℕ) → List ℕ
 spaced [] = []
 spaced (word ∷ []) = word
-spaced (word ∷ next ∷ rest) = word ++ 32 ∷ spaced (next ∷ rest)
+spaced (word ∷ next ∷ rest) = word ++ space ∷ spaced (next ∷ rest)
 
 -- the texts of lines, each with one space between its words
 abbrev pub all_spelled : List Line → List (List ℕ)

@@ -1,6 +1,9 @@
--- The words behind a keyword: how a key and a value are spelled, and what a word is as a key, a value or a count. The byte 36 is `$`.
-use Rattle.std.specs.Prelude.{ℕ, codes, ◌+◌, ◌-◌, List, [], ◌∷◌, Bool, true, ◌&&◌, ◌==◌, nat_le, Option, Some, None, if◌then◌else◌}
+-- The words behind a keyword: how a key and a value are spelled, and what a word is as a key, a value or a count.
+use Rattle.std.specs.Prelude.{ℕ, codes, List, [], ◌∷◌, Bool, true, ◌==◌, Option, if◌then◌else◌}
 use Rattle.std.specs.Str.{bytes_eq}
+use Rattle.anti_ids.specs.Ascii.{dollar}
+use Rattle.anti_ids.specs.Decimals.{decimal_in}
+use Rattle.anti_ids.specs.declared.limits.TheConstants.{MOST_TURNS}
 use Rattle.anti_lang.specs.Texts.{is_variable, is_literal}
 use Rattle.anti_lang.specs.declared.statement.KeyWord.{KeyWord}
 use Rattle.anti_lang.specs.declared.statement.KeyWord.TheVariants as keys
@@ -9,12 +12,12 @@ use Rattle.anti_lang.specs.declared.statement.ValueWord.TheVariants as values
 
 abbrev pub key_text : KeyWord → List ℕ
 key_text keys.Input = codes "$in"
-key_text (keys.Of variable) = 36 ∷ variable
+key_text (keys.Of variable) = dollar ∷ variable
 key_text (keys.Plain name) = name
 
 abbrev pub value_text : ValueWord → List ℕ
 value_text values.Input = codes "$in"
-value_text (values.Of variable) = 36 ∷ variable
+value_text (values.Of variable) = dollar ∷ variable
 value_text (values.Literal value) = value
 
 -- whether a key may stand in a line; which names may stand there themselves, the first argument says
@@ -38,14 +41,12 @@ value_behind name = if bytes_eq name (codes "in") then values.Input else values.
 -- what a word is as a key, and as a value
 abbrev pub key_of : List ℕ → KeyWord
 key_of [] = keys.Plain []
-key_of (first ∷ rest) = if first == 36 then key_behind rest else keys.Plain (first ∷ rest)
+key_of (first ∷ rest) = if first == dollar then key_behind rest else keys.Plain (first ∷ rest)
 
 abbrev pub value_of : List ℕ → ValueWord
 value_of [] = values.Literal []
-value_of (first ∷ rest) = if first == 36 then value_behind rest else values.Literal (first ∷ rest)
+value_of (first ∷ rest) = if first == dollar then value_behind rest else values.Literal (first ∷ rest)
 
--- a number from 1 to 16 in decimal without a leading zero
+-- the number of turns that a word is
 abbrev pub count_of : List ℕ → Option ℕ
-count_of (digit ∷ []) = if nat_le 49 digit && nat_le digit 57 then Some (digit - 48) else None
-count_of (ten ∷ digit ∷ []) = if ten == 49 && (nat_le 48 digit && nat_le digit 54) then Some (10 + (digit - 48)) else None
-count_of _ = None
+count_of word = decimal_in 1 MOST_TURNS word

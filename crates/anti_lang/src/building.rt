@@ -10,7 +10,7 @@ ghost use Rattle.anti_lang.specs.Parsing.{one_block};
 
 use crate::line::Line;
 use crate::statement::{Body, Statement};
-use anti_ids::{List, Name, NoMemory, add};
+use anti_ids::{List, Name, NoMemory};
 use std::alloc::Global;
 
 // The bodies of open blocks, the innermost last. The statements of each stand back to front.
@@ -22,7 +22,7 @@ fn turned(alloc: Global, mut body: Body) -> Result<Body, NoMemory>
 {
     let mut again = List::new(alloc);
     while let Some(statement) = body.pop() {
-        add(&mut again, statement)?;
+        again.add(statement)?;
     }
     Ok(again)
 }
@@ -34,8 +34,8 @@ fn put(bodies: &mut Bodies, statement: Statement) -> Result<(), NoMemory>
 {
     match bodies.pop() {
         Some(mut body) => {
-            add(&mut body, statement)?;
-            add(bodies, body)
+            body.add(statement)?;
+            bodies.add(body)
         }
         None => Ok(()),
     }
@@ -79,7 +79,7 @@ fn end(alloc: Global, bodies: &mut Bodies) -> Result<(), NoMemory>
     if bodies.is_empty() {
         return Ok(());
     }
-    add(bodies, List::new(alloc))
+    bodies.add(List::new(alloc))
 }
 
 // The blocks with a line in front of their lines.
@@ -101,7 +101,7 @@ pub(crate) fn build(alloc: Global, mut lines: List<Line>) -> Result<Body, NoMemo
     ensures { IfOk result (λ body. body ≡ body_of (one_block (up (all_stated lines.items)))) }
 {
     let mut bodies = List::new(alloc);
-    add(&mut bodies, List::new(alloc))?;
+    bodies.add(List::new(alloc))?;
     while let Some(line) = lines.pop() {
         with_line(alloc, &mut bodies, line)?;
     }

@@ -8,7 +8,7 @@ use anti_ids::NoMemory;
 pub enum LangCode {
     /// The line is no statement.
     Unknown,
-    /// A block is not right: it has no `end`, its `end` has no block, it is the fifth nested one, its lines run more than 256 times,
+    /// A block is not right: it has no `end`, its `end` has no block, it is the fifth nested one, its lines run more than `MOST_RUNS` times,
     /// `root` or `stop` stands in it; or something other than `root` stands behind `stop`.
     Block,
     /// A variable is not right: it is set twice, or used where it is not set, or used for another kind of thing than it holds.

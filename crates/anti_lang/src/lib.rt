@@ -28,8 +28,3 @@ pub use parsing::{Lines, parse};
 pub use printing::print;
 pub use split::words;
 pub use statement::{Body, KeyWord, Statement, ValueWord};
-
-#[cfg(test)]
-mod tests;
-#[cfg(test)]
-mod tests_of_bodies;

@@ -5,14 +5,8 @@ ghost use Rattle.anti_lang.specs.Turns.{turns};
 
 use crate::line::Line;
 use crate::statement::Statement;
-use anti_ids::{List, NoMemory, add};
+use anti_ids::{List, MOST_LINES, MOST_NESTED, MOST_RUNS, NoMemory};
 use std::alloc::Global;
-
-/// The most blocks that stand in one another.
-const DEEPEST: usize = 4;
-
-/// The most times that a line runs.
-const MOST_RUNS: u32 = 256;
 
 // How often the lines of each open block run, the outermost block first.
 type Turns = List<u32>;
@@ -70,7 +64,7 @@ fn in_block(blocks: &Turns) -> bool
 fn cannot_open(blocks: &Turns, behind: &[Line]) -> bool
     ensures { (round : StatedLines) → blocks.now.items ≡ turns round → result ≡ cannot_open round (all_stated behind.now) }
 {
-    !has_end(behind) || blocks.len() >= DEEPEST
+    !has_end(behind) || blocks.len() >= MOST_NESTED
 }
 
 // Whether a line is wrong in the open blocks, above the lines behind it.
@@ -97,11 +91,11 @@ fn pass(blocks: &mut Turns, line: &Line) -> Result<(), NoMemory>
     match line {
         Line::Repeat(count) => {
             let more = runs(blocks).saturating_mul(*count);
-            add(blocks, more)
+            blocks.add(more)
         }
         Line::IfAbsent(_) => {
             let same = runs(blocks);
-            add(blocks, same)
+            blocks.add(same)
         }
         Line::End => {
             let _closed = blocks.pop();
@@ -114,7 +108,7 @@ fn pass(blocks: &mut Turns, line: &Line) -> Result<(), NoMemory>
 /// The first line, counted from 1, at which a block is wrong.
 #[tactic(auto, unfolding(crate::specs::Faults::block_fault))]
 pub(crate) fn block_fault(alloc: Global, lines: &[Line]) -> Result<Option<u32>, NoMemory>
-    requires { length lines.now ≤ 64 }
+    requires { length lines.now ≤ MOST_LINES }
     ensures { IfOk result (λ number. number ≡ block_fault (all_stated lines.now)) }
 {
     let mut blocks = List::new(alloc);

@@ -1,4 +1,5 @@
 ghost use Rattle.std.specs.Prelude.{◌≡◌, [], ◌++◌, ◌∷◌, map, IfOk, OnOk, codes, decimal};
+ghost use Rattle.anti_ids.specs.Ascii.{dollar};
 ghost use Rattle.anti_lang.specs.Program.{Block, Write, Scan, Call, Send};
 ghost use Rattle.anti_lang.specs.Bodies.{block_from, block_of, body_of, step_of};
 ghost use Rattle.anti_lang.specs.Vocabulary.{key_text, value_text};
@@ -7,19 +8,19 @@ ghost use Rattle.anti_lang.specs.Parsing.{LineTexts, parsed, printed, spaced, te
 
 use crate::parsing::Lines;
 use crate::statement::{Body, KeyWord, Statement, ValueWord};
-use anti_ids::{Bytes, List, Name, NoMemory, add};
+use anti_ids::{Bytes, List, Name, NoMemory};
 use std::alloc::Global;
 
 // The words with one space between.
 fn spaced(alloc: Global, words: &[&[u8]]) -> Result<Bytes, NoMemory>
     ensures { IfOk result (λ text. text.items ≡ spaced (map (λ word. word.now) words.now)) }
 {
-    let mut text = List::new(alloc);
+    let mut text = Bytes::new(alloc);
     let mut rest = words;
     while let [word, later @ ..] = rest {
         text.append(word)?;
         if !later.is_empty() {
-            add(&mut text, b' ')?;
+            text.append(b" ")?;
         }
         rest = later;
     }
@@ -28,9 +29,9 @@ fn spaced(alloc: Global, words: &[&[u8]]) -> Result<Bytes, NoMemory>
 
 // `$` and a name.
 fn variable_text(alloc: Global, name: &[u8]) -> Result<Bytes, NoMemory>
-    ensures { IfOk result (λ text. text.items ≡ 36 ∷ name.now) }
+    ensures { IfOk result (λ text. text.items ≡ dollar ∷ name.now) }
 {
-    let mut text = List::new(alloc);
+    let mut text = Bytes::new(alloc);
     text.append(b"$")?;
     text.append(name)?;
     Ok(text)
@@ -40,7 +41,7 @@ fn variable_text(alloc: Global, name: &[u8]) -> Result<Bytes, NoMemory>
 fn plain_text(alloc: Global, bytes: &[u8]) -> Result<Bytes, NoMemory>
     ensures { IfOk result (λ text. text.items ≡ bytes.now) }
 {
-    let mut text = List::new(alloc);
+    let mut text = Bytes::new(alloc);
     text.append(bytes)?;
     Ok(text)
 }
@@ -71,10 +72,8 @@ fn value_text(alloc: Global, value: &ValueWord) -> Result<Bytes, NoMemory>
 fn count_text(alloc: Global, count: u32) -> Result<Bytes, NoMemory>
     ensures { IfOk result (λ text. text.items ≡ decimal count) }
 {
-    match format!(in alloc; "{count}") {
-        Ok(text) => plain_text(alloc, text.as_bytes()),
-        Err(_) => Err(NoMemory),
-    }
+    let text = format!(in alloc; "{count}")?;
+    plain_text(alloc, text.as_bytes())
 }
 
 // The words of a `write`.
@@ -238,7 +237,7 @@ fn statement_text(alloc: Global, statement: &Statement) -> Result<Bytes, NoMemor
 fn add_line(lines: &mut Lines, text: Bytes) -> Result<(), NoMemory>
     ensures { OnOk result (texts_of lines.new ≡ texts_of lines.old ++ text.items ∷ []) }
 {
-    add(lines, text)
+    lines.add(text)
 }
 
 // Adds the lines of statements, with their blocks.

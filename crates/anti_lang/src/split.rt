@@ -12,9 +12,6 @@ pub fn words(alloc: Global, text: &[u8]) -> Result<Vec<&[u8]>, NoMemory>
     let found = text
         .split(|b| *b == b' ')
         .filter(|word| !word.is_empty())
-        .collect(alloc);
-    match found {
-        Ok(found) => Ok(found),
-        Err(_) => Err(NoMemory),
-    }
+        .collect(alloc)?;
+    Ok(found)
 }

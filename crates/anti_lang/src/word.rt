@@ -8,7 +8,7 @@ ghost use Rattle.anti_lang.specs.Vocabulary.{key_of, key_behind, key_fits, value
 
 use crate::name::{any_name, plain_name};
 use crate::statement::{KeyWord, ValueWord};
-use anti_ids::{Name, NoMemory, Value, ValueFault};
+use anti_ids::{MOST_TURNS, Name, NoMemory, Value, ValueFault, read_decimal};
 use std::alloc::Global;
 
 /// The variable that a word is: a plain name other than `in`.
@@ -96,36 +96,10 @@ pub fn value_of(alloc: Global, word: &[u8]) -> Result<Option<ValueWord>, NoMemor
     }
 }
 
-/// The number from 1 to 16 that a word is in decimal without a leading zero.
+/// The number of turns that a word is.
 pub fn count_of(word: &[u8]) -> Option<u32>
     ensures { result ≡ count_of word.now }
 {
-    match word {
-        [digit] => one_digit(*digit),
-        [ten, digit] => two_digits(*ten, *digit),
-        _ => None,
-    }
-}
-
-// The number of one digit other than 0.
-fn one_digit(digit: u8) -> Option<u32>
-    ensures { result ≡ count_of (digit ∷ []) }
-{
-    match digit {
-        b'1'..=b'9' => Some((digit - b'0') as u32),
-        _ => None,
-    }
-}
-
-// The number from 10 to 16 of two digits.
-fn two_digits(ten: u8, digit: u8) -> Option<u32>
-    ensures { result ≡ count_of (ten ∷ digit ∷ []) }
-{
-    if ten != b'1' {
-        return None;
-    }
-    match digit {
-        b'0'..=b'6' => Some(10 + (digit - b'0') as u32),
-        _ => None,
-    }
+    let count = read_decimal(word, 1, MOST_TURNS as u64)?;
+    Some(count as u32)
 }

@@ -1,3 +1,4 @@
 pub mod TreeLemmas
 pub mod Holds
 pub mod StatedLines
+pub mod ParsedBodies

@@ -4,6 +4,7 @@ use Rattle.std.specs.Option.{option_map_or}
 use Rattle.std.specs.List.{list_all, list_any}
 use Rattle.std.specs.Str.{bytes_eq}
 use Rattle.toml.specs.Data.{Data, Members, get_member, as_str, as_integer, as_array}
+use Rattle.anti_ids.specs.declared.limits.TheConstants.{GREATEST_SEED, MOST_CHOICES, MOST_HANDLERS, MOST_LINES, MOST_REGIONS, MOST_REPLICAS, MOST_REQUESTS, MOST_SERVICES, MOST_STORES, MOST_SUBS, MOST_TRIES, MOST_WORKERS}
 use Rattle.anti_rules.specs.Trees.{names, elements}
 use Rattle.anti_rules.specs.declared.keys.Kind.{Kind}
 use Rattle.anti_rules.specs.declared.keys.Kind.TheVariants.{Text, Number, Texts, Things}
@@ -32,30 +33,30 @@ optional name kind = record { name = name; kind = kind; is_needed = false }
 -- The keys of the tables of each part. The lists whose elements have places of their own are `Things`: so are a body and its lines.
 abbrev pub keys_of : Part → List Key
 keys_of Top =
-    needed (codes "regions") (Things 1 8)
-    ∷ optional (codes "seed") (Number (pos 0) (pos 9223372036854775807))
-    ∷ optional (codes "workers") (Number (pos 1) (pos 8))
-    ∷ optional (codes "choices") (Things 0 4096)
-    ∷ optional (codes "store") (Things 0 16)
-    ∷ optional (codes "service") (Things 0 16)
-    ∷ optional (codes "sub") (Things 0 32)
-    ∷ optional (codes "request") (Things 0 400)
+    needed (codes "regions") (Things 1 MOST_REGIONS)
+    ∷ optional (codes "seed") (Number (pos 0) (pos GREATEST_SEED))
+    ∷ optional (codes "workers") (Number (pos 1) (pos MOST_WORKERS))
+    ∷ optional (codes "choices") (Things 0 MOST_CHOICES)
+    ∷ optional (codes "store") (Things 0 MOST_STORES)
+    ∷ optional (codes "service") (Things 0 MOST_SERVICES)
+    ∷ optional (codes "sub") (Things 0 MOST_SUBS)
+    ∷ optional (codes "request") (Things 0 MOST_REQUESTS)
     ∷ []
 keys_of Region = []
 keys_of Store =
     needed (codes "name") Text
     ∷ needed (codes "kind") Text
-    ∷ needed (codes "replicas") (Texts 1 8)
-    ∷ optional (codes "tries") (Number (pos 1) (pos 8))
+    ∷ needed (codes "replicas") (Texts 1 MOST_REPLICAS)
+    ∷ optional (codes "tries") (Number (pos 1) (pos MOST_TRIES))
     ∷ []
 keys_of Service =
     needed (codes "name") Text
     ∷ needed (codes "region") Text
-    ∷ optional (codes "handler") (Things 0 16)
+    ∷ optional (codes "handler") (Things 0 MOST_HANDLERS)
     ∷ []
 keys_of Handler =
     needed (codes "name") Text
-    ∷ needed (codes "body") (Things 0 64)
+    ∷ needed (codes "body") (Things 0 MOST_LINES)
     ∷ []
 keys_of Sub =
     needed (codes "name") Text

@@ -3,8 +3,11 @@
 use Rattle.std.specs.Prelude.{ℕ, codes, List, [], ◌∷◌, length, Bool, true, false, not, ◌&&◌, ◌||◌, nat_le, Option, Some, None, is_some, if◌then◌else◌}
 use Rattle.std.specs.Option.{option_map_or}
 use Rattle.toml.specs.Data.{Data, Members, as_table}
+use Rattle.anti_ids.specs.declared.limits.TheConstants.{LONGEST_VALUE}
 use Rattle.anti_ids.specs.Names.{is_plain}
 use Rattle.anti_lang.specs.declared.fault.LangCode.TheVariants.{Unknown, Block, Variable}
+use Rattle.anti_kind.specs.Store.{is_built}
+use Rattle.anti_rules.specs.StoreWords.{kind_of}
 use Rattle.anti_rules.specs.Trees.{text_of, text_at, has_text, member_in, things_at, things_in, is_one_of, is_among, are_among, are_distinct, name_in, is_named, named, stores_in, services_in, regions_in}
 use Rattle.anti_rules.specs.Keys.{keys_of, are_listed, are_there, all_fit, has_type, has_count, has_range, is_text}
 use Rattle.anti_rules.specs.Statements.{next, body_fault, line_with, bad_line, store_fits, has_handler, handler_exists}
@@ -130,9 +133,9 @@ abbrev pub rule_18 : Members → Part → Data → Option ℕ
 rule_18 doc Request d = wants (has_handler doc (text_at (codes "service") d) (text_at (codes "handler") d))
 rule_18 doc _ d = None
 
--- 19. No request has a value of more than 256 bytes.
+-- 19. No request has a value of more than `LONGEST_VALUE` bytes.
 abbrev pub rule_19 : Part → Data → Option ℕ
-rule_19 Request d = wants (nat_le (length (text_at (codes "value") d)) 256)
+rule_19 Request d = wants (nat_le (length (text_at (codes "value") d)) LONGEST_VALUE)
 rule_19 _ d = None
 
 -- 20. Every line of a body is one that the language has.
@@ -161,9 +164,9 @@ abbrev pub rule_24 : Members → Part → Data → Option ℕ
 rule_24 doc Handler d = bad_line (handler_exists doc) d
 rule_24 doc _ d = None
 
--- 25. Nothing that is not built yet is needed: all stores are kv, and there is no sub.
+-- 25. Nothing that is not built yet is needed: the kinds of all stores are built, and there is no sub.
 abbrev pub rule_25 : Part → Data → Option ℕ
-rule_25 Store d = wants (has_text (codes "kind") (codes "kv") d)
+rule_25 Store d = wants (is_built (kind_of (text_at (codes "kind") d)))
 rule_25 Sub d = wants false
 rule_25 _ d = None
 

@@ -1,7 +1,8 @@
 -- What the rules ask of the statements of a body.
-use Rattle.std.specs.Prelude.{ℕ, codes, List, [], ◌∷◌, map, length, Bool, true, false, ◌&&◌, nat_le, min, ◌+◌, Option, Some, None, Result, Ok, Err, if◌then◌else◌}
+use Rattle.std.specs.Prelude.{ℕ, codes, List, [], ◌∷◌, map, length, Bool, true, false, ◌&&◌, nat_le, min, ◌+◌, ◌-◌, ◌^◌, Option, Some, None, Result, Ok, Err, if◌then◌else◌}
 use Rattle.std.specs.Option.{option_map_or}
 use Rattle.toml.specs.Data.{Data, Members}
+use Rattle.anti_ids.specs.declared.limits.TheConstants.{MOST_LINES}
 use Rattle.anti_lang.specs.Words.{words}
 use Rattle.anti_lang.specs.Program.{Block, Write, Read, Scan, Poll, Call, Send}
 use Rattle.anti_lang.specs.Lines.{Line, Does, read_line}
@@ -16,7 +17,7 @@ use Rattle.anti_rules.specs.Trees.{text_of, text_at, things_in, is_one_of, is_am
 
 -- The number of the item or line after this one. Numbers end at the greatest `u32`, which no document reaches.
 abbrev pub next : ℕ → ℕ
-next number = min (number + 1) 4294967295
+next number = min (number + 1) (2 ^ 32 - 1)
 
 -- The lines of a handler's body.
 abbrev pub body_in : Data → List Data
@@ -26,9 +27,9 @@ abbrev pub fault_of : Result Block LangFault → Option LangFault
 fault_of (Ok block) = None
 fault_of (Err fault) = Some fault
 
--- The first fault of a handler's body. A body of more than 64 lines fails an earlier rule.
+-- The first fault of a handler's body. A body of more than `MOST_LINES` lines fails an earlier rule.
 abbrev pub body_fault : Data → Option LangFault
-body_fault d = if nat_le (length (body_in d)) 64 then fault_of (parsed (map text_of (body_in d))) else None
+body_fault d = if nat_le (length (body_in d)) MOST_LINES then fault_of (parsed (map text_of (body_in d))) else None
 
 -- the line of a fault with this code
 abbrev pub line_with : LangCode → Option LangFault → Option ℕ

@@ -1,5 +1,5 @@
 -- The first place of a document that fails a rule. The part comes first, the item next, and the line last.
-use Rattle.std.specs.Prelude.{ℕ, codes, List, [], ◌∷◌, ◌++◌, length, min, ◌+◌, Option, None, option_map}
+use Rattle.std.specs.Prelude.{ℕ, codes, List, [], ◌∷◌, ◌++◌, length, min, ◌+◌, ◌-◌, ◌^◌, Option, None, option_map}
 use Rattle.std.specs.Option.{option_or}
 use Rattle.toml.specs.Data.{Data, Members}
 use Rattle.anti_rules.specs.Trees.{text_at, things_at, things_in}
@@ -20,7 +20,7 @@ placed part item line = option_map (place_at part item) line
 
 -- the number of items after so many more
 abbrev pub passed : ℕ → ℕ → ℕ
-passed before count = min (before + count) 4294967295
+passed before count = min (before + count) (2 ^ 32 - 1)
 
 -- The first of some things of a part that fails, behind earlier ones and so many items.
 abbrev pub first_from : (List Data → Data → Option ℕ) → Part → ℕ → List Data → List Data → Option Place

@@ -8,12 +8,12 @@ ghost use Rattle.anti_lang.specs.Stated.{stated};
 ghost use Rattle.anti_lang.specs.Parsing.{parsed, texts_of};
 ghost use Rattle.anti_rules.specs.Trees.{text_of};
 ghost use Rattle.anti_rules.specs.Statements.{next, body_in, fault_of, body_fault, first_line, bad_line, line_fits};
+ghost use Rattle.anti_rules.specs.inner.Parses.{bodies_parse, services_parse, all_parse};
 
-use crate::limits::MOST_LINES;
 use crate::rule::Rule;
 use crate::statement::line_fits;
-use crate::tree::{text_of, things_in};
-use anti_ids::{Bytes, List, NoMemory, add};
+use crate::tree::{services_in, text_of, things_in};
+use anti_ids::{Bytes, List, MOST_LINES, NoMemory};
 use anti_lang::{LangFault, Lines, parse, read_line};
 use std::alloc::Global;
 use toml::{Table, Value};
@@ -36,7 +36,7 @@ fn body_in(value: &Value) -> &[Value]
 fn bytes_of(alloc: Global, text: &str) -> Result<Bytes, NoMemory>
     ensures { IfOk result (λ bytes. bytes.items ≡ text.now) }
 {
-    let mut bytes = List::new(alloc);
+    let mut bytes = Bytes::new(alloc);
     bytes.append(text.as_bytes())?;
     Ok(bytes)
 }
@@ -48,14 +48,14 @@ pub fn texts_in(alloc: Global, values: &[Value]) -> Result<Lines, NoMemory>
     let mut lines = List::new(alloc);
     for value in values {
         let bytes = bytes_of(alloc, text_of(value))?;
-        add(&mut lines, bytes)?;
+        lines.add(bytes)?;
     }
     Ok(lines)
 }
 
 // The first fault of some lines.
 fn fault_in(alloc: Global, lines: &Lines) -> Result<Option<LangFault>, NoMemory>
-    requires { length lines.now.items ≤ 64 }
+    requires { length lines.now.items ≤ MOST_LINES }
     ensures { IfOk result (λ fault. fault ≡ fault_of (parsed (texts_of lines.now))) }
 {
     match parse(alloc, lines) {
@@ -65,7 +65,7 @@ fn fault_in(alloc: Global, lines: &Lines) -> Result<Option<LangFault>, NoMemory>
     }
 }
 
-/// The first fault of a handler's body. A body of more than 64 lines fails an earlier rule.
+/// The first fault of a handler's body. A body of more than `MOST_LINES` lines fails an earlier rule.
 pub fn body_fault(alloc: Global, value: &Value) -> Result<Option<LangFault>, NoMemory>
     ensures { IfOk result (λ fault. fault ≡ body_fault (view value.now)) }
 {
@@ -76,6 +76,30 @@ pub fn body_fault(alloc: Global, value: &Value) -> Result<Option<LangFault>, NoM
     } else {
         Ok(None)
     }
+}
+
+// Whether the body of each of some handlers has no fault.
+fn bodies_parse(alloc: Global, handlers: &[Value]) -> Result<bool, NoMemory>
+    ensures { IfOk result (λ parse. parse ≡ bodies_parse (map view handlers.now)) }
+{
+    for handler in handlers {
+        if body_fault(alloc, handler)?.is_some() {
+            return Ok(false);
+        }
+    }
+    Ok(true)
+}
+
+/// Whether no body of a document has a fault.
+pub fn all_parse(alloc: Global, doc: &Table) -> Result<bool, NoMemory>
+    ensures { IfOk result (λ parse. parse ≡ all_parse (table_view doc.now)) }
+{
+    for service in services_in(doc) {
+        if !bodies_parse(alloc, things_in(service, "handler"))? {
+            return Ok(false);
+        }
+    }
+    Ok(true)
 }
 
 // Whether a line passes a rule's test; one that states nothing does.

@@ -1,7 +1,9 @@
 ghost use Rattle.std.specs.Prelude.{◌≡◌, ◌≤◌, length, IfOk};
 ghost use Rattle.toml.specs.View.{table_view};
 ghost use Rattle.anti_rules.specs.Order.{rules, told, first_told, breach_from, first_breach};
+ghost use Rattle.anti_rules.specs.inner.Parses.{all_parse};
 
+use crate::body::all_parse;
 use crate::place::{Part, Place};
 use crate::rule::Rule;
 use crate::walk::first_place;
@@ -69,23 +71,33 @@ fn told(rule: Rule, place: Place) -> Place
     }
 }
 
-// The first place that is told of a rule.
-fn first_told(alloc: Global, rule: Rule, doc: &Table) -> Result<Option<Place>, NoMemory>
+// The first place that is told of a rule. Where all bodies parse, the rules on parsing hold, and no body is parsed again for them.
+fn first_told(
+    alloc: Global,
+    rule: Rule,
+    doc: &Table,
+    parse: bool,
+) -> Result<Option<Place>, NoMemory>
+    requires { parse ≡ all_parse (table_view doc.now) }
     ensures { IfOk result (λ place. place ≡ first_told rule (table_view doc.now)) }
 {
+    if parse && rule.is_of_parsing() {
+        return Ok(None);
+    }
     match first_place(alloc, rule, doc)? {
         Some(place) => Ok(Some(told(rule, place))),
         None => Ok(None),
     }
 }
 
-// The first of some rules that a document fails. There are few rules.
+// The first of some rules that a document fails. There are few rules. Whether all bodies parse is found once, as three rules rest on it.
 fn breach_from(alloc: Global, doc: &Table, tried: &[Rule]) -> Result<Option<Breach>, NoMemory>
     requires { length tried.now ≤ 25 }
     ensures { IfOk result (λ breach. breach ≡ breach_from (table_view doc.now) 0 tried.now) }
 {
+    let parse = all_parse(alloc, doc)?;
     for (index, rule) in tried.iter().enumerate() {
-        if let Some(place) = first_told(alloc, *rule, doc)? {
+        if let Some(place) = first_told(alloc, *rule, doc, parse)? {
             return Ok(Some(Breach {
                 rule: index as u32 + 1,
                 place,

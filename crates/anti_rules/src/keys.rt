@@ -1,11 +1,11 @@
 ghost use Rattle.std.specs.Prelude.{◌≡◌, map};
 ghost use Rattle.anti_rules.specs.Keys.{key_view, keys_of};
 
-use crate::limits::{
+use crate::place::Part;
+use anti_ids::{
     GREATEST_SEED, MOST_CHOICES, MOST_HANDLERS, MOST_LINES, MOST_REGIONS, MOST_REPLICAS,
     MOST_REQUESTS, MOST_SERVICES, MOST_STORES, MOST_SUBS, MOST_TRIES, MOST_WORKERS,
 };
-use crate::place::Part;
 
 /// What stands at a key of a table.
 #[derive(Clone, Copy)]
@@ -64,7 +64,7 @@ macro_rules! number {
     ($least:literal to $most:expr) => {
         Kind::Number {
             least: $least,
-            most: $most,
+            most: $most as i64,
         }
     };
 }

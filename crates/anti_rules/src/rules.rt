@@ -10,16 +10,16 @@ ghost use Rattle.anti_rules.specs.Rules.{wants, first_other, other_line, is_pull
 
 use crate::body::{bad_line, body_fault, next};
 use crate::keys::keys_of;
-use crate::limits::MOST_VALUE_BYTES;
 use crate::place::Part;
 use crate::rule::Rule;
 use crate::statement::has_handler;
+use crate::store_word::kind_of;
 use crate::table::{all_fit, are_listed, are_there, is_text};
 use crate::tree::{
     are_among, are_distinct, has_text, is_among, is_named, is_one_of, member_in, name_in, named,
     regions_in, services_in, stores_in, text_at, text_of, things_at, things_in,
 };
-use anti_ids::NoMemory;
+use anti_ids::{LONGEST_VALUE, NoMemory};
 use anti_lang::{LangCode, LangFault, plain_name};
 use std::alloc::Global;
 use toml::{Table, Value};
@@ -283,12 +283,12 @@ fn rule_18(doc: &Table, part: Part, value: &Value) -> Option<u32>
     }
 }
 
-// 19. No request has a value of more than 256 bytes.
+// 19. No request has a value of more than `LONGEST_VALUE` bytes.
 fn rule_19(part: Part, value: &Value) -> Option<u32>
     ensures { result ≡ rule_19 part (view value.now) }
 {
     match part {
-        Part::Request => wants(text_at(value, "value").len() <= MOST_VALUE_BYTES),
+        Part::Request => wants(text_at(value, "value").len() <= LONGEST_VALUE),
         _ => None,
     }
 }
@@ -385,7 +385,7 @@ fn rule_25(part: Part, value: &Value) -> Option<u32>
     ensures { result ≡ rule_25 part (view value.now) }
 {
     match part {
-        Part::Store => wants(has_text(value, "kind", "kv")),
+        Part::Store => wants(kind_of(text_at(value, "kind")).is_built()),
         Part::Sub => wants(false),
         _ => None,
     }

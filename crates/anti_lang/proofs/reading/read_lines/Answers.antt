@@ -14,6 +14,6 @@ loop-i-preserved c =
     ap (λ text. option_map line_of (read_line (words text))) (sym c.bytes.ensures) ∙ sym c.in_ok-line.ensures ∙ c.in-Some.is in
     record {
       read =
-          read_to_next c.loop-i.found c.add.new.list _ c.index-lines-i.result.items _ c.loop-i.i c.in-Some.line before states c.in_ok-add-in-Some.ensures;
+          read_to_next c.loop-i.found c.add.new.self _ c.index-lines-i.result.items _ c.loop-i.i c.in-Some.line before states c.in_ok-add-in-Some.ensures.ok;
       count = grind (arith, common_steps);
     }

@@ -1,0 +1,30 @@
+ghost use Rattle.std.specs.Prelude.{◌≡◌};
+ghost use Rattle.anti_app.specs.Subs.{is_number_on, number_on};
+
+use crate::app::App;
+
+// Whether the subscription with a number in the document is on a store.
+fn is_number_on(app: &App, store: u32, number: usize) -> bool
+    ensures { result ≡ is_number_on app.now store number }
+{
+    match app.subs.as_slice().get(number) {
+        Some(sub) => sub.store == store,
+        None => false,
+    }
+}
+
+/// The number in the document of the subscription at a position among those of a store.
+pub fn number_on(app: &App, store: u32, position: usize) -> Option<usize>
+    ensures { result ≡ number_on app.now store position }
+{
+    let mut left = position;
+    for number in 0..app.subs.len() {
+        if is_number_on(app, store, number) {
+            if left == 0 {
+                return Some(number);
+            }
+            left -= 1;
+        }
+    }
+    None
+}

@@ -1,7 +1,0 @@
-use Rattle.std.proofs.Common.{◌≡◌, ◌++◌, drop}
-use Rattle.anti_body.specs.Numbers.{here_from}
-use Rattle.anti_body.proofs.find.stores_here.Given as goal
-
--- the stores from this one on are behind those that were found
-abbrev pub invariant-loop-number : goal.invariant-loop-number
-invariant-loop-number l = l.here.items ++ here_from l.region l.number (drop l.number l.app.stores.items) ≡ here_from l.region 0 l.app.stores.items
