@@ -1,6 +1,6 @@
 -- What an object stands for after a call, and after one for which there was no memory.
 use Rattle.std.proofs.Common.{◌≡◌, List, [], ◌∷◌, ◌++◌, sym, subst}
-use Rattle.anti_kind.specs.declared.call.Entry.{Entry}
+use Rattle.anti_kind.specs.declared.entry.Entry.{Entry}
 use Rattle.anti_kind.specs.Objects.{Start, IsStart, IsLegal, Follows}
 use Rattle.anti_kind.proofs.Histories.{legal_more}
 use Rattle.anti_object.specs.declared.object.Object.{Object}

@@ -3,24 +3,25 @@ use Rattle.std.proofs.Common.{◌≡◌, ℕ, ◌-◌, ◌<◌, ◌≤◌, max, 
 use Rattle.std.specs.Prelude.{IsTrue, Option, None, Some, option_map, slice_get}
 use Rattle.std.proofs.lemmas.Bool.{eq-eqb, cond-true}
 use Rattle.std.proofs.lemmas.Option.{slice_get-get_or, slice_get_past}
+use Rattle.std.specs.Option.{option_and_then}
 use Rattle.anti_ids.specs.List.{Listed, plain, pushed, reserved}
-use Rattle.anti_kind.specs.declared.call.Message.{Message}
+use Rattle.anti_kind.specs.declared.message.Message.{Message}
 use Rattle.anti_kind.specs.Objects.{Start}
-use Rattle.anti_kv.specs.declared.state.Kv.{Kv}
-use Rattle.anti_kv.specs.KvStates.{KvStands, its_start}
 use Rattle.anti_inbox.specs.declared.inbox.Inbox.{Inbox}
-use Rattle.anti_inbox.specs.Inboxes as inboxes
+use Rattle.anti_inbox.specs.inner.Inboxes as inboxes
 use Rattle.anti_app.specs.declared.app.App.{App}
 use Rattle.anti_app.specs.declared.app.StoreDef.{StoreDef}
 use Rattle.anti_app.specs.declared.app.ServiceDef.{ServiceDef}
 use Rattle.anti_app.specs.declared.app.HandlerDef.{HandlerDef}
 use Rattle.anti_app.specs.declared.app.RequestDef.{RequestDef}
+use Rattle.anti_app.specs.declared.objects.ObjectAt.TheVariants.{Store, Inbox as InboxAt}
+use Rattle.anti_app.specs.Objects.{object_at}
 use Rattle.anti_app.specs.Sound.{is_sound}
 use Rattle.anti_object.specs.declared.object.Object.{Object}
-use Rattle.anti_object.specs.declared.object.Object.TheVariants.{Kv as KvObject, Inbox as InboxObject}
-use Rattle.anti_object.specs.Starts.{start_of, store_start, inbox_start, message_of, message_to}
-use Rattle.anti_object.specs.Standing.{object_start, ObjectStands, IsNew}
-use Rattle.anti_object.proofs.Starts.{start_of-store, start_of-inbox, start_sound}
+use Rattle.anti_object.specs.declared.object.Object.TheVariants.{Inbox as InboxObject}
+use Rattle.anti_object.specs.Starts.{start_at, start_of, store_start, inbox_start, message_of, message_to}
+use Rattle.anti_object.specs.Standing.{object_start, ObjectStands, IsNew, IsNewStore}
+use Rattle.anti_object.proofs.Starts.{start_sound, plain_is}
 
 -- ---- lists
 
@@ -66,25 +67,15 @@ module _ (app : App) (sound : IsTrue (is_sound app)) (number : ℕ) where
       let at : start_of app number ≡ Some (object_start o) = there ∙ ap Some (sym same) in
       record { start = at; stands = record { sane = start_sound app number (object_start o) sound at; legal = tt; state = stands } }
 
-  pub new_store : (s : StoreDef) (m : Kv) → number < length app.stores.items → slice_get app.stores.items number ≡ Some s
-      → its_start m ≡ store_start number s → KvStands m [] → IsNew app number (KvObject m)
-  new_store s m lt there start stands =
-      is_new (KvObject m) (store_start number s) (start_of-store app number lt ∙ ap (option_map (store_start number)) there) start stands
+  pub new_store : (n : ℕ) (s : StoreDef) (o : Object) → object_at app number ≡ Some (Store n) → slice_get app.stores.items n ≡ Some s → IsNewStore n s o → IsNew app number o
+  new_store n s o at there new =
+      is_new o (store_start app n s) (ap (option_and_then (start_at app)) at ∙ ap (option_map (store_start app n)) there)
+      (new.start ∙ sym (plain_is app n s sound there)) new.stands
 
-  module _ (stores : List StoreDef) (same : stores ≡ app.stores.items) (past : length stores ≤ number) where
-    abbrev service : ℕ
-    service = number - length stores
+  pub new_inbox : (service : ℕ) (s : ServiceDef) (m : Inbox) → object_at app number ≡ Some (InboxAt service) → slice_get app.services.items service ≡ Some s
+      → inboxes.start_of m ≡ inbox_start app service s → inboxes.InboxStands m [] → IsNew app number (InboxObject m)
+  new_inbox service s m at there start stands =
+      is_new (InboxObject m) (inbox_start app service s) (ap (option_and_then (start_at app)) at ∙ ap (option_map (inbox_start app service)) there) start stands
 
-    behind : start_of app number ≡ option_map (inbox_start app service) (slice_get app.services.items service)
-    behind =
-        let count : length stores ≡ length app.stores.items = ap length same in
-        start_of-inbox app number (omega arith)
-        ∙ ap (λ (n : ℕ). option_map (inbox_start app (number - n)) (slice_get app.services.items (number - n))) (sym count)
-
-    pub new_inbox : (s : ServiceDef) (m : Inbox) → slice_get app.services.items service ≡ Some s
-        → inboxes.start_of m ≡ inbox_start app service s → inboxes.InboxStands m [] → IsNew app number (InboxObject m)
-    new_inbox s m there start stands =
-        is_new (InboxObject m) (inbox_start app service s) (behind ∙ ap (option_map (inbox_start app service)) there) start stands
-
-    pub none_there : slice_get app.services.items service ≡ None → start_of app number ≡ None
-    none_there none = behind ∙ ap (option_map (inbox_start app service)) none
+  pub none_there : object_at app number ≡ None → start_of app number ≡ None
+  none_there at = ap (option_and_then (start_at app)) at

@@ -1,18 +1,21 @@
 -- What stands at the numbers of an application's objects, and that each of them is a start.
-use Rattle.std.proofs.Common.{◌≡◌, ℕ, ◌+◌, ◌-◌, ◌<◌, ◌≤◌, List, [], ◌∷◌, Bool, true, false, cond, length, get_or, nat_eq, refl, sym, ap, ◌∙◌, subst, arith, inl, inr}
-use Rattle.std.specs.Prelude.{All, IsTrue, Option, None, Some, option_map, slice_get, flat_map}
+use Rattle.std.proofs.Common.{◌≡◌, ℕ, ◌+◌, ◌-◌, ◌<◌, ◌≤◌, List, [], ◌∷◌, Bool, true, false, cond, length, get_or, nat_eq, refl, sym, ap, ap₂, ◌∙◌, subst, arith, inl, inr}
+use Rattle.std.specs.Prelude.{All, IsTrue, Option, None, Some, option_map, slice_get, flat_map, map, filter}
 use Rattle.std.specs.List.{Contains}
+use Rattle.std.specs.Option.{option_and_then}
 use Rattle.std.proofs.lemmas.Bool.{cases_lt, lt-ltb, le-ltb}
 use Rattle.std.proofs.lemmas.Option.{slice_get_past, slice_get_cases, slice_get_within, get_or_from_slice_get}
 use Rattle.std.proofs.lemmas.List.Elements.{All-nil, All-cons, All-append}
 use Rattle.std.proofs.lemmas.List.Sums.{sum_by-le}
 use Rattle.std.proofs.lemmas.List.Concat.{length-flat_map, flat_map-cons}
-use Rattle.anti_kind.specs.declared.call.Message.{Message}
-use Rattle.anti_kind.specs.declared.call.MessageKind.TheVariants as kinds
-use Rattle.anti_kind.specs.declared.call.Sub.{Sub}
+use Rattle.anti_kind.specs.declared.message.Message.{Message}
+use Rattle.anti_kind.specs.declared.message.MessageKind.TheVariants as kinds
+use Rattle.anti_kind.specs.declared.store_kind.Sub.{Sub}
 use Rattle.anti_ids.specs.Names.{is_plain}
-use Rattle.anti_kind.specs.Store.{kv_store}
-use Rattle.anti_kind.specs.Objects.{Start, IsStart, IsStore}
+use Rattle.anti_kind.specs.declared.store_kind.StoreKind.{StoreKind}
+use Rattle.anti_kind.specs.declared.store_kind.StoreKind.TheVariants.{Kv, Table, Blob, Queue, Topic}
+use Rattle.anti_kind.specs.Store.{store_of, is_queue, is_built}
+use Rattle.anti_kind.specs.Objects.{Start, store, IsStart, IsStore, HasTries}
 use Rattle.anti_kind.specs.Fulls.{ShowsStay}
 use Rattle.anti_kind.proofs.Fullness.{shown_stays}
 use Rattle.anti_app.specs.declared.app.App.{App}
@@ -20,32 +23,47 @@ use Rattle.anti_app.specs.declared.app.StoreDef.{StoreDef}
 use Rattle.anti_app.specs.declared.app.ServiceDef.{ServiceDef}
 use Rattle.anti_app.specs.declared.app.HandlerDef.{HandlerDef}
 use Rattle.anti_app.specs.declared.app.RequestDef.{RequestDef}
+use Rattle.anti_app.specs.declared.app.SubDef.{SubDef}
+use Rattle.anti_app.specs.declared.objects.ObjectAt.TheVariants.{Store, Inbox}
+use Rattle.anti_app.specs.Objects.{inbox_at}
+use Rattle.anti_app.specs.Subs.{subs_on, sub_of, is_on}
 use Rattle.anti_app.specs.Sound.{is_sound}
 use Rattle.anti_app.proofs.SoundLemmas.{SoundApp, SoundStore, app_known}
-use Rattle.anti_object.specs.Starts.{start_of, store_start, inbox_start, message_to, message_of}
+use Rattle.anti_object.specs.Standing.{plain_start}
+use Rattle.anti_object.specs.Starts.{start_at, start_of, store_start, tries_of, inbox_start, message_to, message_of}
 
 -- ---- numbers
 
 -- the start of a store's number, and of one past the stores
-pub start_of-store : (app : App) (o : ℕ) → o < length app.stores.items → start_of app o ≡ option_map (store_start o) (slice_get app.stores.items o)
+pub start_of-store : (app : App) (o : ℕ) → o < length app.stores.items → start_of app o ≡ option_map (store_start app o) (slice_get app.stores.items o)
 start_of-store app o lt =
-    ap (λ (t : Bool). cond t (option_map (store_start o) (slice_get app.stores.items o))
-    (option_map (inbox_start app (o - length app.stores.items)) (slice_get app.services.items (o - length app.stores.items))))
+    ap (λ (t : Bool). option_and_then (start_at app) (cond t (Some (Store o)) (inbox_at (length app.services.items) (o - length app.stores.items))))
     (lt-ltb o (length app.stores.items) lt)
+
+-- the start of a service's inbox, and of one past the services
+at_inbox : (app : App) (service : ℕ)
+    → option_and_then (start_at app) (inbox_at (length app.services.items) service) ≡ option_map (inbox_start app service) (slice_get app.services.items service)
+at_inbox app service =
+    elim (cases_lt service (length app.services.items)) [
+      | inl low ↦ ap (λ (t : Bool). option_and_then (start_at app) (cond t (Some (Inbox service)) None)) (lt-ltb service (length app.services.items) low)
+      | inr past ↦
+          ap (λ (t : Bool). option_and_then (start_at app) (cond t (Some (Inbox service)) None)) (le-ltb service (length app.services.items) past)
+          ∙ sym (ap (option_map (inbox_start app service)) (slice_get_past app.services.items service past))
+    ]
 
 pub start_of-inbox : (app : App) (o : ℕ) → length app.stores.items ≤ o
     → start_of app o ≡ option_map (inbox_start app (o - length app.stores.items)) (slice_get app.services.items (o - length app.stores.items))
 start_of-inbox app o le =
-    ap (λ (t : Bool). cond t (option_map (store_start o) (slice_get app.stores.items o))
-    (option_map (inbox_start app (o - length app.stores.items)) (slice_get app.services.items (o - length app.stores.items))))
+    ap (λ (t : Bool). option_and_then (start_at app) (cond t (Some (Store o)) (inbox_at (length app.services.items) (o - length app.stores.items))))
     (le-ltb o (length app.stores.items) le)
+    ∙ at_inbox app (o - length app.stores.items)
 
 -- each number below the count of the objects has a start, and no other has one
 pub start_there : (app : App) (o : ℕ) → o < length app.stores.items + length app.services.items → (start : Start) × (start_of app o ≡ Some start)
 start_there app o lt =
     elim (cases_lt o (length app.stores.items)) [
       | inl low ↦ elim ((slice_get_cases app.stores.items o).1) [
-        | inl found ↦ (store_start o found.0, start_of-store app o low ∙ ap (option_map (store_start o)) found.2)
+        | inl found ↦ (store_start app o found.0, start_of-store app o low ∙ ap (option_map (store_start app o)) found.2)
         | inr past ↦ absurd (let h = past.0 in omega arith)
       ]
       | inr high ↦ elim ((slice_get_cases app.services.items (o - length app.stores.items)).1) [
@@ -68,22 +86,48 @@ start_known app o start there =
 
 -- ---- stores
 
-pub store_is : (regions number : ℕ) (s : StoreDef) → regions ≤ 8 → SoundStore regions s → IsStore (kv_store number s.replicas.items)
-store_is regions number s few sound = record {
+tries_fit : (kind : StoreKind) (tries : ℕ) → 1 ≤ tries → tries ≤ 8 → HasTries kind (cond (is_queue kind) tries 0)
+tries_fit Queue tries some few = (some, few)
+tries_fit Kv tries some few = tt
+tries_fit Table tries some few = tt
+tries_fit Blob tries some few = tt
+tries_fit Topic tries some few = tt
+
+store_is : (regions number : ℕ) (s : StoreDef) (subs : List Sub) → regions ≤ 8 → SoundStore regions s → subs ≡ []
+    → IsStore (store_of s.kind number s.replicas.items subs (tries_of s))
+store_is regions number s subs few sound none = record {
   some = sound.some;
   few = sound.few;
   below = λ k d l. let lower : get_or s.replicas.items k d < regions = sound.below k d l in omega arith;
   distinct = sound.distinct;
-  subscribed = All-nil (λ (sub : Sub). Contains s.replicas.items sub.region × (is_plain sub.channel ≡ true));
-  tries = tt;
+  subscribed = subst (All (λ (sub : Sub). Contains s.replicas.items sub.region × (is_plain sub.channel ≡ true))) (sym none) (All-nil (λ (sub : Sub). Contains s.replicas.items sub.region × (is_plain sub.channel ≡ true)));
+  tries = tries_fit s.kind s.tries sound.tried sound.few_tries;
 }
 
-pub store_sound : (app : App) (o : ℕ) (s : StoreDef) → IsTrue (is_sound app) → slice_get app.stores.items o ≡ Some s → IsStart (store_start o s)
-store_sound app o s sound found =
+-- no store has a subscription
+pub no_subs : (app : App) (o : ℕ) → IsTrue (is_sound app) → subs_on app o ≡ []
+no_subs app o sound = ap (λ (subs : List SubDef). map (sub_of app) (filter (is_on o) subs)) (app_known app sound).no_sub
+
+-- the store with a number
+pub store_found : (app : App) (o : ℕ) (s : StoreDef) → IsTrue (is_sound app) → slice_get app.stores.items o ≡ Some s → SoundStore (length app.regions.items) s
+store_found app o s sound found =
     let known : SoundApp app = app_known app sound in
-    let within : o < length app.stores.items = slice_get_within app.stores.items o s found in
-    store_is (length app.regions.items) o s known.few_regions
-    (subst (SoundStore (length app.regions.items)) (get_or_from_slice_get app.stores.items o s s found) (known.stores o s within))
+    subst (SoundStore (length app.regions.items)) (get_or_from_slice_get app.stores.items o s s found) (known.stores o s (slice_get_within app.stores.items o s found))
+
+pub store_sound : (app : App) (o : ℕ) (s : StoreDef) → IsTrue (is_sound app) → slice_get app.stores.items o ≡ Some s → IsStart (store_start app o s)
+store_sound app o s sound found = store_is (length app.regions.items) o s (subs_on app o) (app_known app sound).few_regions (store_found app o s sound found) (no_subs app o sound)
+
+-- a kind that is built has no tries
+pub no_tries : (kind : StoreKind) (tries : ℕ) → is_built kind ≡ true → cond (is_queue kind) tries 0 ≡ 0
+no_tries Kv tries built = refl
+no_tries Table tries built = refl
+no_tries Blob tries built = refl
+no_tries Queue tries built = absurd (cc)
+no_tries Topic tries built = absurd (cc)
+
+pub plain_is : (app : App) (o : ℕ) (s : StoreDef) → IsTrue (is_sound app) → slice_get app.stores.items o ≡ Some s → store_start app o s ≡ plain_start o s
+plain_is app o s sound found =
+    ap₂ (λ (subs : List Sub) (tries : ℕ). store (store_of s.kind o s.replicas.items subs tries)) (no_subs app o sound) (no_tries s.kind s.tries (store_found app o s sound found).kind)
 
 -- ---- inboxes
 
@@ -116,16 +160,16 @@ inbox_sound app service s sound =
 
 -- what is true of the start of each store and of each inbox is true of all
 each_start : (P : Start → Type 0) (app : App) (o : ℕ) (start : Start) → start_of app o ≡ Some start
-    → ((s : StoreDef) → slice_get app.stores.items o ≡ Some s → P (store_start o s)) → ((service : ℕ) (s : ServiceDef) → P (inbox_start app service s)) → P start
+    → ((s : StoreDef) → slice_get app.stores.items o ≡ Some s → P (store_start app o s)) → ((service : ℕ) (s : ServiceDef) → P (inbox_start app service s)) → P start
 each_start P app o start there stores inboxes =
     elim (cases_lt o (length app.stores.items)) [
       | inl low ↦ of_store (slice_get app.stores.items o) refl (sym (start_of-store app o low) ∙ there)
       | inr high ↦ of_inbox (slice_get app.services.items (o - length app.stores.items)) (sym (start_of-inbox app o high) ∙ there)
     ]
   where
-    of_store : (found : Option StoreDef) → slice_get app.stores.items o ≡ found → option_map (store_start o) found ≡ Some start → P start
+    of_store : (found : Option StoreDef) → slice_get app.stores.items o ≡ found → option_map (store_start app o) found ≡ Some start → P start
     of_store None at is = absurd (cc)
-    of_store (Some s) at is = let same : store_start o s ≡ start = cc in subst P same (stores s at)
+    of_store (Some s) at is = let same : store_start app o s ≡ start = cc in subst P same (stores s at)
 
     of_inbox : (found : Option ServiceDef) → option_map (inbox_start app (o - length app.stores.items)) found ≡ Some start → P start
     of_inbox None is = absurd (cc)
@@ -137,4 +181,4 @@ start_sound app o start sound there = each_start IsStart app o start there (λ s
 
 -- and what its regions show stays
 pub start_stays : (app : App) (o : ℕ) (start : Start) → start_of app o ≡ Some start → ShowsStay start
-start_stays app o start there = each_start ShowsStay app o start there (λ s at. shown_stays (kv_store o s.replicas.items) refl) (λ service s. tt)
+start_stays app o start there = each_start ShowsStay app o start there (λ s at. shown_stays (store_of s.kind o s.replicas.items (subs_on app o) (tries_of s)) refl) (λ service s. tt)

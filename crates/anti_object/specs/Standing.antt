@@ -1,12 +1,16 @@
 -- How an object of an application stands for a history.
 use Rattle.std.specs.Prelude.{◌≡◌, ℕ, List, [], Some}
 use Rattle.anti_kind.specs.declared.call.Call.{Call}
-use Rattle.anti_kind.specs.declared.call.Entry.{Entry}
+use Rattle.anti_kind.specs.declared.entry.Entry.{Entry}
 use Rattle.anti_kind.specs.Objects.{Start, StandsFor}
 use Rattle.anti_kind.specs.Objects as objects
-use Rattle.anti_kv.specs.KvStates.{its_start, KvStands}
-use Rattle.anti_inbox.specs.Inboxes as inboxes
+use Rattle.anti_kv.specs.KvStates as kv
+use Rattle.anti_table.specs.TableStates as tables
+use Rattle.anti_blob.specs.BlobStates as blobs
+use Rattle.anti_inbox.specs.inner.Inboxes as inboxes
+use Rattle.anti_kind.specs.Store.{store_of}
 use Rattle.anti_app.specs.declared.app.App.{App}
+use Rattle.anti_app.specs.declared.app.StoreDef.{StoreDef}
 use Rattle.anti_object.specs.declared.object.Object.{Object}
 use Rattle.anti_object.specs.declared.object.Object.TheVariants as machines
 use Rattle.anti_object.specs.Starts.{start_of}
@@ -14,11 +18,15 @@ use Rattle.anti_object.specs.Starts.{start_of}
 -- An object is its machine.
 
 abbrev pub object_start : Object → Start
-object_start (machines.Kv m) = its_start m
+object_start (machines.Kv m) = kv.its_start m
+object_start (machines.Table m) = tables.its_start m
+object_start (machines.Blob m) = blobs.its_start m
 object_start (machines.Inbox m) = inboxes.start_of m
 
 abbrev pub ObjectStands : Object → List Entry → Type 0
-ObjectStands (machines.Kv m) h = KvStands m h
+ObjectStands (machines.Kv m) h = kv.KvStands m h
+ObjectStands (machines.Table m) h = tables.TableStands m h
+ObjectStands (machines.Blob m) h = blobs.BlobStands m h
 ObjectStands (machines.Inbox m) h = inboxes.InboxStands m h
 
 -- an object stands for a history that is legal
@@ -33,3 +41,12 @@ MayMake o c = objects.MayMake (object_start o) (ObjectStands o) c
 pub record IsNew (app : App) (number : ℕ) (o : Object) : Type 0 where
   pub start : start_of app number ≡ Some (object_start o)
   pub stands : ObjectAt o []
+
+-- a store of a kind with keys, without subscriptions
+abbrev pub plain_start : ℕ → StoreDef → Start
+plain_start number s = objects.store (store_of s.kind number s.replicas.items [] 0)
+
+-- the object of such a store, on which nothing has happened yet
+pub record IsNewStore (number : ℕ) (s : StoreDef) (o : Object) : Type 0 where
+  pub start : object_start o ≡ plain_start number s
+  pub stands : ObjectStands o []

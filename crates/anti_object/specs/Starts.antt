@@ -1,15 +1,20 @@
 -- What the objects of an application start as.
-use Rattle.std.specs.Prelude.{ℕ, ◌-◌, List, [], ◌∷◌, length, nat_lt, nat_eq, Option, None, Some, option_map, slice_get, flat_map, if◌then◌else◌}
+use Rattle.std.specs.Prelude.{ℕ, cond, List, [], ◌∷◌, nat_eq, Option, None, Some, option_map, slice_get, flat_map, if◌then◌else◌}
+use Rattle.std.specs.Option.{option_and_then}
 use Rattle.anti_ids.specs.List.{plain}
-use Rattle.anti_kind.specs.declared.call.Message.{Message}
-use Rattle.anti_kind.specs.declared.call.MessageKind.TheVariants as kinds
-use Rattle.anti_kind.specs.Store.{kv_store}
+use Rattle.anti_kind.specs.declared.message.Message.{Message}
+use Rattle.anti_kind.specs.declared.message.MessageKind.TheVariants as kinds
+use Rattle.anti_kind.specs.Store.{store_of, is_queue}
 use Rattle.anti_kind.specs.Objects.{Start, store, inbox}
 use Rattle.anti_app.specs.declared.app.App.{App}
 use Rattle.anti_app.specs.declared.app.StoreDef.{StoreDef}
 use Rattle.anti_app.specs.declared.app.ServiceDef.{ServiceDef}
 use Rattle.anti_app.specs.declared.app.HandlerDef.{HandlerDef}
 use Rattle.anti_app.specs.declared.app.RequestDef.{RequestDef}
+use Rattle.anti_app.specs.declared.objects.ObjectAt.{ObjectAt}
+use Rattle.anti_app.specs.declared.objects.ObjectAt.TheVariants.{Store, Inbox}
+use Rattle.anti_app.specs.Objects.{object_at}
+use Rattle.anti_app.specs.Subs.{subs_on}
 
 -- the message of a request: it has depth 0, and its baggage is the text of the empty lineage
 abbrev pub message_to : RequestDef → Option HandlerDef → List Message
@@ -24,15 +29,21 @@ message_of s service r = if nat_eq r.service service then message_to r (slice_ge
 abbrev pub requests_to : App → ServiceDef → ℕ → List Message
 requests_to app s service = flat_map (message_of s service) app.requests.items
 
-abbrev pub store_start : ℕ → StoreDef → Start
-store_start number s = store (kv_store number s.replicas.items)
+-- only a queue has tries
+abbrev pub tries_of : StoreDef → ℕ
+tries_of s = cond (is_queue s.kind) s.tries 0
+
+abbrev pub store_start : App → ℕ → StoreDef → Start
+store_start app number s = store (store_of s.kind number s.replicas.items (subs_on app number) (tries_of s))
 
 abbrev pub inbox_start : App → ℕ → ServiceDef → Start
 inbox_start app service s = inbox (requests_to app s service)
 
--- the object with a number: first the stores, then the inboxes of the services
+-- the start of a store or of an inbox
+abbrev pub start_at : App → ObjectAt → Option Start
+start_at app (Store number) = option_map (store_start app number) (slice_get app.stores.items number)
+start_at app (Inbox service) = option_map (inbox_start app service) (slice_get app.services.items service)
+
+-- the object with a number
 abbrev pub start_of : App → ℕ → Option Start
-start_of app object =
-    if nat_lt object (length app.stores.items)
-    then option_map (store_start object) (slice_get app.stores.items object)
-    else option_map (inbox_start app (object - length app.stores.items)) (slice_get app.services.items (object - length app.stores.items))
+start_of app object = option_and_then (start_at app) (object_at app object)

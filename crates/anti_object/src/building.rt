@@ -1,36 +1,65 @@
-ghost use Rattle.std.specs.Prelude.{◌≡◌, ◌++◌, ◌∷◌, [], None, Some, IfOk, MatchOption, OnOk, IsTrue};
+ghost use Rattle.std.specs.Prelude.{◌≡◌, ◌++◌, ◌∷◌, [], None, Some, IfOk, MatchOption, OnOk, IsTrue, true};
 ghost use Rattle.anti_ids.specs.List.{plain};
 ghost use Rattle.anti_app.specs.Sound.{is_sound};
 ghost use Rattle.anti_object.specs.Starts.{message_of, message_to, requests_to, start_of};
-ghost use Rattle.anti_object.specs.Standing.{IsNew};
+ghost use Rattle.anti_kind.specs.Objects.{IsStart};
+ghost use Rattle.anti_kind.specs.Store.{is_built};
+ghost use Rattle.anti_object.specs.Standing.{IsNew, IsNewStore, plain_start};
 
 use crate::object::Object;
-use anti_app::{App, HandlerDef, RequestDef, ServiceDef};
+use anti_app::{App, HandlerDef, ObjectAt, RequestDef, ServiceDef, StoreDef, object_at};
+use anti_blob::Blob;
 use anti_ids::{Bytes, Copies, List, NoMemory};
 use anti_inbox::Inbox;
-use anti_kind::{Message, MessageKind, Messages};
+use anti_kind::{Message, MessageKind, Messages, StoreKind};
 use anti_kv::Kv;
+use anti_table::Table;
 use std::alloc::Global;
 
 impl Object {
-    /// The object of an application with a number, on which nothing has happened yet: first come the stores, then the inboxes of
-    /// the services. Past the last of them there is none.
+    /// The object of an application with a number, on which nothing has happened yet. Past the last of them there is none.
     pub fn of(alloc: Global, app: &App, number: u32) -> Result<Option<Object>, NoMemory>
         requires { IsTrue (is_sound app.now) }
         ensures { IfOk result (λ o. MatchOption o (start_of app.now number ≡ None) (IsNew app.now number)) }
     {
-        let stores = app.stores.as_slice();
-        if let Some(store) = stores.get(number as usize) {
-            let store = Kv::new(alloc, number, store.replicas.as_slice())?;
-            return Ok(Some(Object::Kv(store)));
+        match object_at(app, number) {
+            Some(ObjectAt::Store(store)) => {
+                let object = store_of(alloc, store, app.stores.at(store as usize))?;
+                Ok(Some(object))
+            }
+            Some(ObjectAt::Inbox(service)) => {
+                let handlers = app.services.at(service as usize);
+                let requests = requests_to(alloc, app, handlers, service)?;
+                let inbox = Inbox::new(alloc, requests)?;
+                Ok(Some(Object::Inbox(inbox)))
+            }
+            None => Ok(None),
         }
-        let number = number - stores.len() as u32;
-        let Some(service) = app.services.as_slice().get(number as usize) else {
-            return Ok(None);
-        };
-        let requests = requests_to(alloc, app, service, number)?;
-        let inbox = Inbox::new(alloc, requests)?;
-        Ok(Some(Object::Inbox(inbox)))
+    }
+}
+
+// The store of a kind that is built.
+fn store_of(alloc: Global, number: u32, store: &StoreDef) -> Result<Object, NoMemory>
+    requires built { is_built store.now.kind ≡ true }
+    requires start { IsStart (plain_start number store.now) }
+    ensures { IfOk result (IsNewStore number store.now) }
+{
+    let regions = store.replicas.as_slice();
+    match store.kind {
+        StoreKind::Kv => {
+            let kv = Kv::new(alloc, number, regions)?;
+            Ok(Object::Kv(kv))
+        }
+        StoreKind::Table => {
+            let table = Table::new(alloc, number, regions)?;
+            Ok(Object::Table(table))
+        }
+        StoreKind::Blob => {
+            let blob = Blob::new(alloc, number, regions)?;
+            Ok(Object::Blob(blob))
+        }
+        // queues and topics are not built yet
+        _ => unreachable!(),
     }
 }
 
@@ -95,7 +124,7 @@ fn message_to(
 fn empty_lineage(alloc: Global) -> Result<Bytes, NoMemory>
     ensures { IfOk result (λ b. b ≡ plain (49 ∷ 59 ∷ [])) }
 {
-    let mut text = List::new(alloc);
+    let mut text = Bytes::new(alloc);
     text.append(b"1;")?;
     Ok(text)
 }

@@ -1,20 +1,38 @@
-ghost use Rattle.std.specs.Prelude.{◌≡◌, ◌&&◌, List, true};
-ghost use Rattle.anti_kind.specs.declared.call.Entry.{Entry};
-ghost use Rattle.anti_kind.specs.Objects.{fits, ready};
+ghost use Rattle.std.specs.Prelude.{◌≡◌, List};
+ghost use Rattle.anti_kind.specs.declared.entry.Entry.{Entry};
+ghost use Rattle.anti_kind.specs.Objects.{fits};
 ghost use Rattle.anti_object.specs.Standing.{object_start, ObjectAt};
 
-use anti_ids::NoMemory;
+use anti_blob::Blob;
+use anti_ids::{MOST_UNITS, NoMemory};
 use anti_inbox::Inbox;
-use anti_kind::{Call, Kind, MOST_UNITS, Machine, Reply};
+use anti_kind::{Call, Kind, Machine, Reply};
 use anti_kv::Kv;
+use anti_table::Table;
 
 /// An object of an application: one of the machines.
 #[derive(Drop)]
 pub enum Object {
     /// A store of keys.
     Kv(Kv),
+    /// A store of keys whose writes come to each region in their order.
+    Table(Table),
+    /// A store of keys whose values come in parts.
+    Blob(Blob),
     /// The inbox of a service.
     Inbox(Inbox),
+}
+
+// What an object does is what its machine does.
+macro_rules! each {
+    ($object:ident, $machine:ident => $does:expr) => {
+        match $object {
+            Object::Kv($machine) => $does,
+            Object::Table($machine) => $does,
+            Object::Blob($machine) => $does,
+            Object::Inbox($machine) => $does,
+        }
+    };
 }
 
 impl Machine for Object {
@@ -25,52 +43,35 @@ impl Machine for Object {
     ghost Stands = { ObjectStands };
 
     fn ready(&self, c: &Call) -> bool {
-        match self {
-            Object::Kv(store) => store.ready(c),
-            Object::Inbox(inbox) => inbox.ready(c),
-        }
+        each!(self, machine => machine.ready(c))
     }
 
     fn need(&self, c: &Call) -> u32 {
-        match self {
-            Object::Kv(store) => store.need(c),
-            Object::Inbox(inbox) => inbox.need(c),
-        }
+        each!(self, machine => machine.need(c))
     }
 
     fn held(&self) -> u32 {
-        match self {
-            Object::Kv(store) => store.held(),
-            Object::Inbox(inbox) => inbox.held(),
-        }
+        each!(self, machine => machine.held())
     }
 
     fn owed(&self) -> u32 {
-        match self {
-            Object::Kv(store) => store.owed(),
-            Object::Inbox(inbox) => inbox.owed(),
-        }
+        each!(self, machine => machine.owed())
     }
 
     fn upto(&self, region: u32) -> u64 {
-        match self {
-            Object::Kv(store) => store.upto(region),
-            Object::Inbox(inbox) => inbox.upto(region),
-        }
+        each!(self, machine => machine.upto(region))
+    }
+
+    fn next_ship(&self, region: u32) -> Option<(u64, u32)> {
+        each!(self, machine => machine.next_ship(region))
     }
 
     fn due(&self, c: &Call) -> Result<Reply, NoMemory> {
-        match self {
-            Object::Kv(store) => store.due(c),
-            Object::Inbox(inbox) => inbox.due(c),
-        }
+        each!(self, machine => machine.due(c))
     }
 
     fn apply(&mut self, c: &Call) -> Result<Reply, NoMemory> {
-        match self {
-            Object::Kv(store) => store.apply(c),
-            Object::Inbox(inbox) => inbox.apply(c),
-        }
+        each!(self, machine => machine.apply(c))
     }
 }
 
@@ -81,20 +82,11 @@ impl Kind for Object {
 }
 
 impl Object {
-    /// Whether a call that is ready fits. It takes no memory.
+    /// Whether a call fits. It takes no memory.
     pub fn fits(&self, call: &Call) -> bool
-        ensures { (h : List Entry) → ObjectAt self.now h → ready (object_start self.now) h call.now ≡ true
-            → result ≡ fits (object_start self.now) h call.now }
+        ensures { (h : List Entry) → ObjectAt self.now h → result ≡ fits (object_start self.now) h call.now }
     {
         let units = self.held() as u64 + self.owed() as u64 + self.need(call) as u64;
         units <= MOST_UNITS as u64
-    }
-
-    /// Whether a call is ready and fits. It takes no memory.
-    pub fn can(&self, call: &Call) -> bool
-        ensures { (h : List Entry) → ObjectAt self.now h
-            → result ≡ (ready (object_start self.now) h call.now && fits (object_start self.now) h call.now) }
-    {
-        self.ready(call) && self.fits(call)
     }
 }

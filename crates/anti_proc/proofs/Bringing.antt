@@ -5,7 +5,7 @@ use Rattle.std.proofs.lemmas.Bool.{or_cases, or_left, or_right}
 use Rattle.anti_ids.specs.Ids.{has_id, is_id}
 use Rattle.anti_ids.specs.declared.id.WriteId.{WriteId}
 use Rattle.anti_ids.proofs.IdLemmas.{among_filter, has_id-with_ids}
-use Rattle.anti_kind.specs.declared.call.Entry.{Entry}
+use Rattle.anti_kind.specs.declared.entry.Entry.{Entry}
 use Rattle.anti_kind.specs.declared.call.Reply.{Reply}
 use Rattle.anti_kind.specs.declared.call.Reply.TheVariants as replies
 use Rattle.anti_lang.specs.Program.{Block}
@@ -15,7 +15,7 @@ use Rattle.anti_proc.specs.declared.want.End.TheVariants.{Fine}
 use Rattle.anti_proc.specs.Brought.{CarriesWhatCame, ask_of, brought_by, came, came_first, made}
 use Rattle.anti_proc.specs.Local.{Setting}
 use Rattle.anti_proc.specs.Meaning.{begun, setting_at, started, stated_in, tree_of}
-use Rattle.anti_body.specs.Numbers.{body_of, handler_number, service_at}
+use Rattle.anti_app.specs.Objects.{body_of, handler_number, service_at}
 use Rattle.anti_proc.specs.Trees.{Tree, Ask, Asks, Ends, after}
 use Rattle.anti_proc.proofs.Keeping.{AnyInbox, AnyReply, AnyStore, Good, Keeps, any_fits, begun_good}
 

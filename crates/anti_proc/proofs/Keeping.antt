@@ -11,12 +11,12 @@ use Rattle.anti_ids.specs.Ids.{ids_of, with_ids, without_id}
 use Rattle.anti_ids.specs.List.{Listed}
 use Rattle.anti_ids.specs.Names.{is_name, is_name_byte, is_plain, is_plain_byte}
 use Rattle.anti_ids.specs.declared.id.WriteId.{WriteId}
-use Rattle.anti_ids.specs.declared.lineage.TheConstants.{MOST_IDS}
+use Rattle.anti_ids.specs.declared.limits.TheConstants.{LONGEST_NAME, LONGEST_PLAIN_NAME, MOST_DEPTH, MOST_IDS}
 use Rattle.anti_kind.specs.declared.call.Call.{Call}
 use Rattle.anti_kind.specs.declared.call.Call.TheVariants as calls
 use Rattle.anti_kind.specs.declared.call.Reply.{Reply}
 use Rattle.anti_kind.specs.declared.call.Reply.TheVariants as replies
-use Rattle.anti_kind.specs.declared.call.Row.{Row}
+use Rattle.anti_kind.specs.declared.row.Row.{Row}
 use Rattle.anti_lang.specs.Program as program
 use Rattle.anti_lang.specs.Program.{Step, Block}
 use Rattle.anti_lang.specs.Texts.{plain_name}
@@ -28,7 +28,6 @@ use Rattle.anti_shim.specs.Plans.{plan, with_look}
 use Rattle.anti_shim.specs.declared.looks.PlannedLook.{PlannedLook}
 use Rattle.anti_proc.specs.declared.given.Duty.{Duty}
 use Rattle.anti_proc.specs.declared.given.Duty.TheVariants as duties
-use Rattle.anti_proc.specs.declared.given.TheConstants.{MOST_DEPTH}
 use Rattle.anti_proc.specs.declared.variables.Held.{Held}
 use Rattle.anti_proc.specs.declared.variables.Held.TheVariants.{Wrote, Saw, Heard}
 use Rattle.anti_proc.specs.declared.variables.Variable.{Variable}
@@ -37,8 +36,8 @@ use Rattle.anti_proc.specs.declared.want.End.TheVariants.{BadKey, Depth, Fine, L
 use Rattle.anti_proc.specs.Brought.{came}
 use Rattle.anti_proc.specs.Calls.{LooksWhereItMay}
 use Rattle.anti_proc.specs.Local.{Setting, Local, any_name, first_local, held, held_ids, held_in, held_text, ids_in, is_absent, key_of, new_span, removed, rooted, rows_ids, set, set_or, text_of, with_held}
-use Rattle.anti_proc.specs.Meaning.{Go, add, after_post, after_read, after_reply, after_write, begun, block_tree, body_tree, carry, hear_call, if_deep, kind_of, leave, leave_by, looks, message, planned, post_call, read_call, stated_in, step_tree, turns, with_key, write_call, wrote}
-use Rattle.anti_body.specs.Numbers.{inbox_of, is_store_here, store_names, store_number, stores_here}
+use Rattle.anti_proc.specs.Meaning.{Go, add, after_post, after_read, after_reply, after_write, begun, block_tree, body_tree, carry, hear_call, if_deep, kind_of, leave, leave_by, look_at, looks, message, planned, post_call, read_call, stated_in, step_tree, turns, with_key, write_call, wrote}
+use Rattle.anti_app.specs.Objects.{inbox_of, is_store_here, store_names, store_number, stores_here}
 use Rattle.anti_proc.specs.Trees.{Tree, Ask, Asks, Ends}
 use Rattle.anti_proc.proofs.Plans.{IsLookAt, among_here, looks_are_at}
 
@@ -141,11 +140,11 @@ name_bytes (b ∷ bs) plain =
 -- a plain name is a name
 pub plain_is_name : (text : List ℕ) → is_plain text ≡ true → is_name text ≡ true
 plain_is_name text plain =
-    let one = and_parts (nat_lt 0 (length text)) (nat_le (length text) 24 && list_all is_plain_byte text) plain in
-    let two = and_parts (nat_le (length text) 24) (list_all is_plain_byte text) one.1 in
-    let short : length text ≤ 24 = leb-true (length text) 24 two.0 in
-    and_from (nat_lt 0 (length text)) (nat_le (length text) 32 && list_all is_name_byte text) one.0
-    (and_from (nat_le (length text) 32) (list_all is_name_byte text) (le-leb (length text) 32 (omega arith)) (name_bytes text two.1))
+    let one = and_parts (nat_lt 0 (length text)) (nat_le (length text) LONGEST_PLAIN_NAME && list_all is_plain_byte text) plain in
+    let two = and_parts (nat_le (length text) LONGEST_PLAIN_NAME) (list_all is_plain_byte text) one.1 in
+    let short : length text ≤ LONGEST_PLAIN_NAME = leb-true (length text) LONGEST_PLAIN_NAME two.0 in
+    and_from (nat_lt 0 (length text)) (nat_le (length text) LONGEST_NAME && list_all is_name_byte text) one.0
+    (and_from (nat_le (length text) LONGEST_NAME) (list_all is_name_byte text) (le-leb (length text) LONGEST_NAME (omega arith)) (name_bytes text two.1))
 
 abbrev IsNamed : List ℕ → Type 0
 IsNamed key = is_name key ≡ true
@@ -245,7 +244,7 @@ module _ (s : Setting) (Store : ℕ → Type 0) (Inbox : ℕ → List ℕ → Ty
     sound_removed h None l sound = sound
 
     abbrev ask_at : ℕ → Call → Local → Ask
-    ask_at object call l = record { object = object; span = l.span; call = call; carried = l.carried }
+    ask_at object call l = record { object = object; span = l.span; call = call; carried = l.carried; left = None }
 
     -- ---- the lineage
 
@@ -333,8 +332,8 @@ module _ (s : Setting) (Store : ℕ → Type 0) (Inbox : ℕ → List ℕ → Ty
         let here : is_store_here s.app region look.store ≡ true =
         sym (among_here region 0 look.store look.store s.app.stores.items (omega arith)) ∙ each.0.among in (
           (sound.0, ((here, each.0.its_own), its.0), sound.1),
-          λ r fair. looks_good (more h (ask_at look.store (calls.Look region look.ids dry) l) r) region dry later l go each.1 its.1
-              (sound_on h (ask_at look.store (calls.Look region look.ids dry) l) r l sound) goes,
+          λ r fair. looks_good (more h (look_at region dry look later l) r) region dry later l go each.1 its.1
+              (sound_on h (look_at region dry look later l) r l sound) goes,
         )
 
     -- ---- statements and blocks

@@ -7,18 +7,18 @@ use Rattle.std.proofs.lemmas.List.{length-map}
 use Rattle.anti_ids.specs.Each.{Each}
 use Rattle.anti_ids.specs.declared.id.WriteId.{WriteId}
 use Rattle.anti_kind.specs.declared.call.Call.{Call}
-use Rattle.anti_kind.specs.declared.call.Message.{Message}
+use Rattle.anti_kind.specs.declared.message.Message.{Message}
 use Rattle.anti_kind.specs.declared.call.Reply.{Reply}
 use Rattle.anti_kind.specs.declared.call.Reply.TheVariants as replies
-use Rattle.anti_kind.specs.declared.call.Row.{Row}
+use Rattle.anti_kind.specs.declared.row.Row.{Row}
 use Rattle.anti_app.specs.declared.app.App.{App}
 use Rattle.anti_app.specs.declared.app.StoreDef.{StoreDef}
-use Rattle.anti_proc.specs.declared.given.TheConstants.{MOST_DEPTH}
+use Rattle.anti_ids.specs.declared.limits.TheConstants.{MOST_DEPTH}
 use Rattle.anti_proc.specs.declared.want.Want.TheVariants.{Make}
 use Rattle.anti_proc.specs.Calls.{IsOfProcess}
 use Rattle.anti_proc.specs.Foreign.{has_baggage, has_stores, is_foreign, is_foreign_birth, is_foreign_to}
 use Rattle.anti_proc.specs.Known.{AllKnown, AreIdsOf, IsCallAt, IsMessageTo, IsReplyAt, IsRowOf}
-use Rattle.anti_body.specs.Numbers.{has_handler, service_at, store_names}
+use Rattle.anti_app.specs.Objects.{has_handler, service_at, store_names}
 use Rattle.anti_proc.specs.Trees.{Tree, Asks, Ends, IsAskedAt, want_of}
 pub use Rattle.anti_proc.proofs.KnownCalls.{process_known, tree_known}
 

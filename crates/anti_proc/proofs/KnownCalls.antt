@@ -7,15 +7,15 @@ use Rattle.std.proofs.lemmas.List.Elements.{All-head, All-tail}
 use Rattle.anti_ids.specs.Each.{Each}
 use Rattle.anti_ids.specs.Ids.{with_ids}
 use Rattle.anti_ids.specs.declared.id.WriteId.{WriteId}
-use Rattle.anti_ids.specs.declared.lineage.TheConstants.{MOST_IDS}
+use Rattle.anti_ids.specs.declared.limits.TheConstants.{MOST_IDS}
 use Rattle.anti_ids.proofs.IdLemmas.{each_filter, each_with_ids, lineage_ids_of, lineage_with_ids, lineage_without}
 use Rattle.anti_kind.specs.declared.call.Call.{Call}
 use Rattle.anti_kind.specs.declared.call.Call.TheVariants as calls
-use Rattle.anti_kind.specs.declared.call.Entry.{Entry}
-use Rattle.anti_kind.specs.declared.call.Message.{Message}
+use Rattle.anti_kind.specs.declared.entry.Entry.{Entry}
+use Rattle.anti_kind.specs.declared.message.Message.{Message}
 use Rattle.anti_kind.specs.declared.call.Reply.{Reply}
 use Rattle.anti_kind.specs.declared.call.Reply.TheVariants as replies
-use Rattle.anti_kind.specs.declared.call.Row.{Row}
+use Rattle.anti_kind.specs.declared.row.Row.{Row}
 use Rattle.anti_lang.specs.Program.{Block}
 use Rattle.anti_baggage.specs.Over.{IsIdOver}
 use Rattle.anti_baggage.specs.Reading.{read_lineage}
@@ -31,7 +31,7 @@ use Rattle.anti_proc.specs.Foreign.{has_baggage, states}
 use Rattle.anti_proc.specs.Known.{AllKnown, IsEntryOf, AreIdsOf, IsCallAt, IsOverApp, IsReplyAt, IsRowOf}
 use Rattle.anti_proc.specs.Local.{Setting, id_at, row_ids, rows_ids}
 use Rattle.anti_proc.specs.Meaning.{begun, setting_at, started, stated_in, tree_of, process_after, reply_of}
-use Rattle.anti_body.specs.Numbers.{body_of, handler_number, service_at, store_names}
+use Rattle.anti_app.specs.Objects.{body_of, handler_number, service_at, store_names}
 use Rattle.anti_proc.specs.Trees.{Tree, Asks, Ends, Ask, after}
 use Rattle.anti_proc.proofs.Keeping.{Good, IsMade, Keeps, begun_good}
 use Rattle.anti_proc.proofs.Lineages.{Written, each_append, none_lineage, stated_over, written_at}

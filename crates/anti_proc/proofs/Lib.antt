@@ -1,5 +1,6 @@
 pub mod Bringing
 pub mod Decimals
+pub mod InARow
 pub mod Keeping
 pub mod Knowing
 pub mod KnownCalls
@@ -14,3 +15,4 @@ pub mod Setting
 pub mod Settling
 pub mod Unions
 pub mod Worked
+pub mod Placing

@@ -8,11 +8,11 @@ use Rattle.anti_ids.specs.declared.id.WriteId.{WriteId}
 use Rattle.anti_ids.proofs.IdLemmas.{lineage_with_ids, lineage_without}
 use Rattle.anti_kind.specs.declared.call.Call.{Call}
 use Rattle.anti_kind.specs.declared.call.Call.TheVariants as calls
-use Rattle.anti_kind.specs.declared.call.Entry.{Entry}
-use Rattle.anti_kind.specs.declared.call.Message.{Message}
+use Rattle.anti_kind.specs.declared.entry.Entry.{Entry}
+use Rattle.anti_kind.specs.declared.message.Message.{Message}
 use Rattle.anti_kind.specs.declared.call.Reply.{Reply}
 use Rattle.anti_kind.specs.declared.call.Reply.TheVariants as replies
-use Rattle.anti_kind.specs.declared.call.Row.{Row}
+use Rattle.anti_kind.specs.declared.row.Row.{Row}
 use Rattle.anti_lang.specs.Program.{Block}
 use Rattle.anti_baggage.specs.declared.fault.BaggageFault.{BaggageFault}
 use Rattle.anti_baggage.specs.Over.{IsOver}
@@ -25,7 +25,7 @@ use Rattle.anti_proc.specs.Brought.{CarriesLineages, HasLineages, ask_of, came}
 use Rattle.anti_proc.specs.Known.{IsOverApp}
 use Rattle.anti_proc.specs.Local.{Setting, id_at, row_ids, rows_ids}
 use Rattle.anti_proc.specs.Meaning.{begun, setting_at, started, stated, stated_in, tree_of}
-use Rattle.anti_body.specs.Numbers.{body_of, handler_number, service_at, store_names}
+use Rattle.anti_app.specs.Objects.{body_of, handler_number, service_at, store_names}
 use Rattle.anti_proc.specs.Trees.{Tree, Ask, Asks, Ends, after}
 use Rattle.anti_proc.proofs.Keeping.{AnyInbox, AnyStore, Good, Keeps, any_fits, begun_good, nothing_more}
 

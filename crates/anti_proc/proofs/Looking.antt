@@ -10,7 +10,7 @@ use Rattle.anti_proc.specs.declared.want.Want.TheVariants.{Make}
 use Rattle.anti_proc.specs.Barriers.{LooksOnceAt, AsksFor, GoesOver}
 use Rattle.anti_proc.specs.Local.{Setting, Local}
 use Rattle.anti_proc.specs.Meaning.{Go, looks, planned}
-use Rattle.anti_body.specs.Numbers.{stores_here}
+use Rattle.anti_app.specs.Objects.{stores_here}
 use Rattle.anti_proc.specs.Trees.{after, next_of}
 use Rattle.anti_proc.proofs.Plans.{among_here, its_look, one_look, asked_of}
 

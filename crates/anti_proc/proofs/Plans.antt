@@ -12,7 +12,7 @@ use Rattle.anti_app.specs.declared.app.StoreDef.{StoreDef}
 use Rattle.anti_shim.specs.declared.looks.PlannedLook.{PlannedLook}
 use Rattle.anti_shim.specs.Plans.{with_look, plan}
 use Rattle.anti_proc.specs.Barriers.{made_at, is_asked}
-use Rattle.anti_body.specs.Numbers.{is_here, here_in, if_here, here_from}
+use Rattle.anti_app.specs.Objects.{is_here, here_in, if_here, here_from}
 
 -- whether a number is among these
 abbrev pub is_among : ℕ → List ℕ → Bool

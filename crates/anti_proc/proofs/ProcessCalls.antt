@@ -4,7 +4,7 @@ use Rattle.std.specs.Str.{bytes_eq}
 use Rattle.anti_ids.specs.declared.id.WriteId.{WriteId}
 use Rattle.anti_kind.specs.declared.call.Call.{Call}
 use Rattle.anti_kind.specs.declared.call.Call.TheVariants as calls
-use Rattle.anti_kind.specs.declared.call.Entry.{Entry}
+use Rattle.anti_kind.specs.declared.entry.Entry.{Entry}
 use Rattle.anti_kind.specs.declared.call.Reply.{Reply}
 use Rattle.anti_kind.specs.declared.call.Reply.TheVariants as replies
 use Rattle.anti_lang.specs.Program.{Block}
@@ -13,7 +13,7 @@ use Rattle.anti_app.specs.declared.app.StoreDef.{StoreDef}
 use Rattle.anti_proc.specs.Calls.{AllOfProcess, IsMadeAt, IsOfProcess, LooksWhereItMay}
 use Rattle.anti_proc.specs.Local.{Setting}
 use Rattle.anti_proc.specs.Meaning.{begun, setting_at, started, stated_in, tree_of}
-use Rattle.anti_body.specs.Numbers.{body_of, handler_number, service_at, store_among}
+use Rattle.anti_app.specs.Objects.{body_of, handler_number, service_at, store_among}
 use Rattle.anti_proc.specs.Trees.{Tree, Asks, Ends}
 use Rattle.anti_proc.proofs.Keeping.{AnyReply, Good, IsMade, Keeps, begun_good, block_fits, nothing_more}
 use Rattle.anti_proc.proofs.Plans.{here_within}

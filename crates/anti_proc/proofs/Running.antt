@@ -6,8 +6,8 @@ use Rattle.anti_lang.specs.Program.{Step, Block, End, Then}
 use Rattle.anti_lang.specs.Spans.{spans_of}
 use Rattle.anti_proc.specs.Local.{Setting, Local}
 use Rattle.anti_proc.specs.Meaning.{Go, block_tree, step_tree, turns}
-use Rattle.anti_body.specs.Places.{again, block_weight, step_weight, weight}
-use Rattle.anti_body.proofs.Placing.{block_again}
+use Rattle.anti_proc.specs.inner.Places.{again, block_weight, step_weight, weight}
+use Rattle.anti_app.proofs.Blocks.{block_again}
 
 -- what statements do, and then what follows them
 abbrev pub run : List Step → Setting → Go → Go

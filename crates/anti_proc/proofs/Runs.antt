@@ -1,7 +1,7 @@
 -- What is left of a process after one entry more.
 use Rattle.std.proofs.Common.{◌≡◌, List, [], ◌∷◌, ◌++◌, map, refl, ap, ◌∙◌}
 use Rattle.std.proofs.lemmas.List.{map-append}
-use Rattle.anti_kind.specs.declared.call.Entry.{Entry}
+use Rattle.anti_kind.specs.declared.entry.Entry.{Entry}
 use Rattle.anti_kind.specs.declared.call.Reply.{Reply}
 use Rattle.anti_app.specs.declared.app.App.{App}
 use Rattle.anti_proc.specs.Trees.{Tree, branch, after}

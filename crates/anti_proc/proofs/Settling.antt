@@ -3,13 +3,13 @@ use Rattle.std.proofs.Common.{◌≡◌, ℕ, ◌+◌, ◌*◌, ◌<◌, ◌≤�
 use Rattle.std.specs.Prelude.{nat_lt}
 use Rattle.std.proofs.lemmas.Bool.{le-ltb}
 use Rattle.anti_ids.specs.declared.id.WriteId.{WriteId}
-use Rattle.anti_ids.specs.declared.lineage.TheConstants.{MOST_IDS}
+use Rattle.anti_ids.specs.declared.limits.TheConstants.{MOST_IDS}
 use Rattle.anti_lang.specs.Bodies.{block_from, list_of}
 use Rattle.anti_lang.specs.Program.{Block, Step}
 use Rattle.anti_lang.specs.Spans.{spans_in, spans_of}
 use Rattle.anti_app.specs.declared.app.App.{App}
 use Rattle.anti_proc.specs.declared.next.Next.{Next}
-use Rattle.anti_body.specs.declared.place.Place.{Place}
+use Rattle.anti_proc.specs.declared.place.Place.{Place}
 use Rattle.anti_proc.specs.declared.run.Run.{Run}
 use Rattle.anti_proc.specs.declared.state.State.{State}
 use Rattle.anti_proc.specs.declared.statements.Does.{Does}
@@ -17,12 +17,12 @@ use Rattle.anti_proc.specs.declared.statements.Does.TheVariants as does
 use Rattle.anti_proc.specs.declared.want.End.TheVariants.{Fine}
 use Rattle.anti_proc.specs.Local.{Local}
 use Rattle.anti_proc.specs.Meaning.{Go, body_tree, carry, leave, step_tree}
-use Rattle.anti_body.specs.Numbers.{body_of}
-use Rattle.anti_body.specs.Places.{Enters, IsStart, again, block_in, block_weight, last_opened, left_at, step_weight, weight}
-use Rattle.anti_body.specs.Running.{CanRun}
+use Rattle.anti_app.specs.Objects.{body_of}
+use Rattle.anti_proc.specs.inner.Places.{Enters, IsStart, again, block_in, block_weight, last_opened, left_at, step_weight, weight}
+use Rattle.anti_app.specs.Running.{CanRun}
 use Rattle.anti_proc.specs.Running.{HasSpans}
 use Rattle.anti_proc.specs.Standing.{body_in, does_tree, going, left_to_run, local_of, run_of, setting_of, spans_done, weight_done}
-use Rattle.anti_body.proofs.Placing.{block_again}
+use Rattle.anti_app.proofs.Blocks.{block_again}
 use Rattle.anti_proc.proofs.Running.{run_again, spans_again, spans_append, spans_block, weight_again, weight_append}
 
 -- a run that passed a statement, of which something comes, and now stands at a place in a state

@@ -3,10 +3,10 @@ use Rattle.std.proofs.Common.{◌≡◌, ℕ, ◌<◌, ◌++◌, List, [], ◌�
 use Rattle.std.specs.Prelude.{Err}
 use Rattle.anti_ids.specs.Ids.{with_id, with_ids}
 use Rattle.anti_ids.specs.declared.id.WriteId.{WriteId}
-use Rattle.anti_ids.specs.declared.lineage.TheConstants.{MOST_IDS}
+use Rattle.anti_ids.specs.declared.limits.TheConstants.{MOST_IDS}
 use Rattle.anti_ids.specs.declared.lineage.LineageRefused.{LineageRefused}
 use Rattle.anti_ids.specs.declared.lineage.LineageRefused.TheVariants.{Full, NoMemory}
-use Rattle.anti_kind.specs.declared.call.Row.{Row}
+use Rattle.anti_kind.specs.declared.row.Row.{Row}
 use Rattle.anti_proc.specs.Adding.{Adds}
 use Rattle.anti_proc.specs.Local.{row_ids, rows_ids}
 use Rattle.anti_ids.proofs.IdLemmas.{le-length-with_ids}

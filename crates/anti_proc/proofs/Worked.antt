@@ -5,17 +5,17 @@ use Rattle.std.specs.Fmt.{digits}
 use Rattle.anti_ids.specs.Ids.{with_ids}
 use Rattle.anti_ids.specs.List.{plain}
 use Rattle.anti_ids.specs.declared.id.WriteId.{WriteId}
-use Rattle.anti_ids.specs.declared.lineage.TheConstants.{MOST_IDS}
-use Rattle.anti_kind.specs.declared.call.Actor.TheVariants as actors
+use Rattle.anti_ids.specs.declared.limits.TheConstants.{MOST_IDS}
+use Rattle.anti_kind.specs.declared.actor.Actor.TheVariants as actors
 use Rattle.anti_kind.specs.declared.call.Call.TheVariants as calls
-use Rattle.anti_kind.specs.declared.call.Entry.{Entry}
-use Rattle.anti_kind.specs.declared.call.Message.{Message}
-use Rattle.anti_kind.specs.declared.call.MessageKind.{MessageKind}
-use Rattle.anti_kind.specs.declared.call.MessageKind.TheVariants as kinds
+use Rattle.anti_kind.specs.declared.entry.Entry.{Entry}
+use Rattle.anti_kind.specs.declared.message.Message.{Message}
+use Rattle.anti_kind.specs.declared.message.MessageKind.{MessageKind}
+use Rattle.anti_kind.specs.declared.message.MessageKind.TheVariants as kinds
 use Rattle.anti_kind.specs.declared.call.Reply.{Reply}
 use Rattle.anti_kind.specs.declared.call.Reply.TheVariants as replies
-use Rattle.anti_kind.specs.declared.call.Row.{Row}
-use Rattle.anti_kind.specs.declared.call.StoreKind.TheVariants.{Kv}
+use Rattle.anti_kind.specs.declared.row.Row.{Row}
+use Rattle.anti_kind.specs.declared.store_kind.StoreKind.TheVariants.{Kv}
 use Rattle.anti_baggage.specs.Reading.{read_lineage}
 use Rattle.anti_lang.specs.Bodies.{block_from}
 use Rattle.anti_lang.specs.Program as statements
@@ -34,7 +34,7 @@ use Rattle.anti_proc.specs.Brought.{brought, made}
 use Rattle.anti_proc.specs.Foreign.{is_foreign, is_foreign_birth}
 use Rattle.anti_proc.specs.Local.{Setting, first_local}
 use Rattle.anti_proc.specs.Meaning.{begun, body_tree, hear_call, setting_at, stated_in, tree_of}
-use Rattle.anti_body.specs.Numbers.{stores_here}
+use Rattle.anti_app.specs.Objects.{stores_here}
 use Rattle.anti_proc.specs.Trees.{Ends, next_of}
 
 abbrev key : List ℕ

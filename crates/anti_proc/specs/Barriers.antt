@@ -1,17 +1,19 @@
--- The looks of a barrier: which they are, and when it is answered.
-use Rattle.std.specs.Prelude.{◌≡◌, ℕ, ◌==◌, ◌&&◌, Bool, Some, List, [], length, filter, slice_get, if◌then◌else◌}
+-- The looks of a barrier: which they are, how one follows another, and when it is answered.
+use Rattle.std.specs.Prelude.{◌≡◌, ℕ, ◌==◌, ◌&&◌, Bool, true, false, Some, is_some, List, [], ◌∷◌, length, filter, slice_get, if◌then◌else◌}
 use Rattle.std.specs.List.{list_any}
 use Rattle.anti_ids.specs.Ids.{has_id, ids_of}
 use Rattle.anti_ids.specs.declared.id.WriteId.{WriteId}
+use Rattle.anti_kind.specs.declared.call.Call.{Call}
 use Rattle.anti_kind.specs.declared.call.Call.TheVariants as calls
 use Rattle.anti_kind.specs.declared.call.Reply.{Reply}
 use Rattle.anti_shim.specs.declared.looks.PlannedLook.{PlannedLook}
 use Rattle.anti_shim.specs.Plans.{with_look}
 use Rattle.anti_proc.specs.declared.want.Want.TheVariants.{Make}
+use Rattle.anti_proc.specs.Brought.{ask_of}
 use Rattle.anti_proc.specs.Local.{Setting, Local}
 use Rattle.anti_proc.specs.Meaning.{Go, planned}
-use Rattle.anti_body.specs.Numbers.{is_store_here}
-use Rattle.anti_proc.specs.Trees.{Tree, after, next_of}
+use Rattle.anti_app.specs.Objects.{is_store_here}
+use Rattle.anti_proc.specs.Trees.{Tree, Ask, Asks, Ends, after, next_of}
 
 -- those of these looks that are made at a store
 abbrev pub made_at : ℕ → List PlannedLook → List PlannedLook
@@ -37,3 +39,37 @@ GoesOver s l dry tree =
     (go : Go) (replies : List Reply)
     → ((look : PlannedLook) → slice_get (planned s l) (length replies) ≡ Some look → next_of (tree go) replies ≡ Make look.store l.span (calls.Look s.region look.ids dry))
     × (length replies ≡ length (planned s l) → after (tree go) replies ≡ go l)
+
+-- It begins with the first of its looks, where there are any, and the others are left after that one.
+abbrev pub BeginsItsLooks : Setting → Local → Bool → (Go → Tree) → Type 0
+BeginsItsLooks s l dry tree =
+    (go : Go) (look : PlannedLook) (later : List PlannedLook) → planned s l ≡ look ∷ later
+    → ask_of (tree go)
+    ≡ Some (record { object = look.store; span = l.span; call = calls.Look s.region look.ids dry; carried = l.carried; left = Some later })
+
+-- whether a call is a look
+abbrev pub is_look : Call → Bool
+is_look (calls.Look region ids dry) = true
+is_look _ = false
+
+-- a look of the same region, as dry, for other ids
+abbrev pub looking_for : List WriteId → Call → Call
+looking_for ids (calls.Look region others dry) = calls.Look region ids dry
+looking_for ids call = call
+
+-- The look that its barrier makes after this one, and after which the later ones are left: at its own store and for its own ids, but of the
+-- same region, as dry, in the same span and with the same lineage.
+abbrev pub next_look : Ask → PlannedLook → List PlannedLook → Ask
+next_look ask look later = record ask { object = look.store; call = looking_for look.ids ask.call; left = Some later }
+
+-- A look, and no other call, has a list of the looks that are left after it. As long as there are any, the process asks next for the first
+-- of them, whatever the reply is.
+pub record LooksInARow (ask : Ask) (go : Reply → Tree) : Type 0 where
+  pub look : is_look ask.call ≡ is_some ask.left
+  pub next : (first : PlannedLook) (later : List PlannedLook) → ask.left ≡ Some (first ∷ later)
+      → (reply : Reply) → ask_of (go reply) ≡ Some (next_look ask first later)
+
+-- it is so of each call that the process makes, whatever it is answered
+abbrev pub AllLookInARow : Tree → Type 0
+AllLookInARow (Asks ask go) = LooksInARow ask go × ((reply : Reply) → AllLookInARow (go reply))
+AllLookInARow (Ends end) = Unit {0}

@@ -1,9 +1,9 @@
 -- The entries that start processes.
 use Rattle.std.specs.Prelude.{Bool, false, ◌&&◌, nat_eq, List, filter}
-use Rattle.anti_kind.specs.declared.call.Actor.{Actor}
-use Rattle.anti_kind.specs.declared.call.Actor.TheVariants as actors
-use Rattle.anti_kind.specs.declared.call.Birth.{Birth}
-use Rattle.anti_kind.specs.declared.call.Entry.{Entry}
+use Rattle.anti_kind.specs.declared.actor.Actor.{Actor}
+use Rattle.anti_kind.specs.declared.actor.Actor.TheVariants as actors
+use Rattle.anti_kind.specs.declared.actor.Birth.{Birth}
+use Rattle.anti_kind.specs.declared.entry.Entry.{Entry}
 
 -- a process is named by the object and the place of the entry that started it
 abbrev pub birth_at : Entry → Birth

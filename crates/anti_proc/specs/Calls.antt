@@ -5,7 +5,7 @@ use Rattle.anti_kind.specs.declared.call.Call.{Call}
 use Rattle.anti_kind.specs.declared.call.Call.TheVariants as calls
 use Rattle.anti_kind.specs.declared.call.Reply.{Reply}
 use Rattle.anti_app.specs.declared.app.App.{App}
-use Rattle.anti_body.specs.Numbers.{is_store_here}
+use Rattle.anti_app.specs.Objects.{is_store_here}
 use Rattle.anti_proc.specs.Trees.{Tree, Asks, Ends}
 
 -- A write, a read, a scan, a poll or a look is made at a store; the number past the stores stands for a store that is not there. A post

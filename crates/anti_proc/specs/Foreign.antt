@@ -2,14 +2,14 @@
 use Rattle.std.specs.Prelude.{ℕ, Bool, true, false, not, ◌&&◌, nat_lt, nat_le, length, Result, Ok, Err, List}
 use Rattle.std.specs.List.{list_all}
 use Rattle.anti_ids.specs.declared.id.WriteId.{WriteId}
-use Rattle.anti_kind.specs.declared.call.Message.{Message}
+use Rattle.anti_kind.specs.declared.message.Message.{Message}
 use Rattle.anti_kind.specs.declared.call.Reply.{Reply}
 use Rattle.anti_kind.specs.declared.call.Reply.TheVariants as replies
 use Rattle.anti_baggage.specs.declared.fault.BaggageFault.{BaggageFault}
 use Rattle.anti_baggage.specs.Reading.{read_lineage}
 use Rattle.anti_app.specs.declared.app.App.{App}
-use Rattle.anti_proc.specs.declared.given.TheConstants.{MOST_DEPTH}
-use Rattle.anti_body.specs.Numbers.{store_names, service_at, has_handler}
+use Rattle.anti_ids.specs.declared.limits.TheConstants.{MOST_DEPTH}
+use Rattle.anti_app.specs.Objects.{store_names, service_at, has_handler}
 
 -- whether each id is of a store of the application
 abbrev pub has_stores : App → List WriteId → Bool

@@ -5,18 +5,18 @@ use Rattle.anti_ids.specs.Names.{is_name}
 use Rattle.anti_ids.specs.declared.id.WriteId.{WriteId}
 use Rattle.anti_kind.specs.declared.call.Call.{Call}
 use Rattle.anti_kind.specs.declared.call.Call.TheVariants as calls
-use Rattle.anti_kind.specs.declared.call.Entry.{Entry}
-use Rattle.anti_kind.specs.declared.call.Message.{Message}
+use Rattle.anti_kind.specs.declared.entry.Entry.{Entry}
+use Rattle.anti_kind.specs.declared.message.Message.{Message}
 use Rattle.anti_kind.specs.declared.call.Reply.{Reply}
 use Rattle.anti_kind.specs.declared.call.Reply.TheVariants as replies
-use Rattle.anti_kind.specs.declared.call.Row.{Row}
+use Rattle.anti_kind.specs.declared.row.Row.{Row}
 use Rattle.anti_baggage.specs.Over.{IsOver, IsIdOver}
 use Rattle.anti_app.specs.declared.app.App.{App}
-use Rattle.anti_proc.specs.declared.given.TheConstants.{MOST_DEPTH}
+use Rattle.anti_ids.specs.declared.limits.TheConstants.{MOST_DEPTH}
 use Rattle.anti_proc.specs.Calls.{IsOfProcess}
 use Rattle.anti_proc.specs.Foreign.{has_baggage}
 use Rattle.anti_proc.specs.Local.{id_at}
-use Rattle.anti_body.specs.Numbers.{store_names, service_at, has_handler}
+use Rattle.anti_app.specs.Objects.{store_names, service_at, has_handler}
 use Rattle.anti_proc.specs.Trees.{Tree, Asks, Ends}
 
 -- ids over the stores of the application

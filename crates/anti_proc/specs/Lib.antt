@@ -12,3 +12,4 @@ pub mod Standing
 pub mod Statements
 pub mod Trees
 pub mod Variables
+pub mod inner

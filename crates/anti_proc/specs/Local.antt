@@ -6,7 +6,7 @@ use Rattle.anti_ids.specs.Ids.{without_id}
 use Rattle.anti_ids.specs.Names.{name_of}
 use Rattle.anti_ids.specs.declared.id.WriteId.{WriteId}
 use Rattle.anti_ids.specs.declared.name.NameFault.{NameFault}
-use Rattle.anti_kind.specs.declared.call.Row.{Row}
+use Rattle.anti_kind.specs.declared.row.Row.{Row}
 use Rattle.anti_lang.specs.declared.statement.KeyWord.{KeyWord}
 use Rattle.anti_lang.specs.declared.statement.KeyWord.TheVariants as keys
 use Rattle.anti_lang.specs.declared.statement.ValueWord.{ValueWord}

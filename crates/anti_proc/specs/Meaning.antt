@@ -5,14 +5,14 @@ use Rattle.anti_ids.specs.List.{plain}
 use Rattle.anti_baggage.specs.declared.fault.BaggageFault.{BaggageFault}
 use Rattle.anti_baggage.specs.Reading.{read_lineage}
 use Rattle.anti_baggage.specs.Texts.{lineage_text}
-use Rattle.anti_ids.specs.declared.lineage.TheConstants.{MOST_IDS}
+use Rattle.anti_ids.specs.declared.limits.TheConstants.{MOST_DEPTH, MOST_IDS}
 use Rattle.anti_ids.specs.declared.id.WriteId.{WriteId}
 use Rattle.anti_kind.specs.declared.call.Call.{Call}
 use Rattle.anti_kind.specs.declared.call.Call.TheVariants as calls
-use Rattle.anti_kind.specs.declared.call.Entry.{Entry}
-use Rattle.anti_kind.specs.declared.call.Message.{Message}
-use Rattle.anti_kind.specs.declared.call.MessageKind.{MessageKind}
-use Rattle.anti_kind.specs.declared.call.MessageKind.TheVariants as kinds
+use Rattle.anti_kind.specs.declared.entry.Entry.{Entry}
+use Rattle.anti_kind.specs.declared.message.Message.{Message}
+use Rattle.anti_kind.specs.declared.message.MessageKind.{MessageKind}
+use Rattle.anti_kind.specs.declared.message.MessageKind.TheVariants as kinds
 use Rattle.anti_kind.specs.declared.call.Reply.{Reply}
 use Rattle.anti_kind.specs.declared.call.Reply.TheVariants as replies
 use Rattle.anti_lang.specs.Program as program
@@ -21,7 +21,6 @@ use Rattle.anti_lang.specs.Texts.{plain_name}
 use Rattle.anti_app.specs.declared.app.App.{App}
 use Rattle.anti_shim.specs.declared.looks.PlannedLook.{PlannedLook}
 use Rattle.anti_shim.specs.Plans.{plan}
-use Rattle.anti_proc.specs.declared.given.TheConstants.{MOST_DEPTH}
 use Rattle.anti_proc.specs.declared.given.Duty.{Duty}
 use Rattle.anti_proc.specs.declared.given.Duty.TheVariants as duties
 use Rattle.anti_proc.specs.declared.variables.Held.{Held}
@@ -29,16 +28,16 @@ use Rattle.anti_proc.specs.declared.variables.Held.TheVariants.{Wrote, Saw, Hear
 use Rattle.anti_proc.specs.declared.want.End.{End}
 use Rattle.anti_proc.specs.declared.want.End.TheVariants.{Fine, Depth, BadKey, LineageFull}
 use Rattle.anti_proc.specs.Local.{Setting, Local, first_local, new_span, rooted, held, set, set_or, held_ids, removed, is_absent, text_of, any_name, key_of}
-use Rattle.anti_body.specs.Numbers.{store_number, store_names, handler_number, service_at, inbox_of, body_of, region_of, stores_here}
-use Rattle.anti_proc.specs.Trees.{Tree, Asks, Ends, after}
+use Rattle.anti_app.specs.Objects.{store_number, store_names, handler_number, service_at, inbox_of, body_of, region_of, stores_here}
+use Rattle.anti_proc.specs.Trees.{Tree, Ask, Asks, Ends, after}
 
 -- what comes next
 abbrev pub Go : Type 0
 Go = Local → Tree
 
--- a call, and what follows on its reply
+-- a call that is no look, and what follows on its reply
 abbrev pub asks : ℕ → Call → Local → (Reply → Tree) → Tree
-asks object call l go = Asks (record { object = object; span = l.span; call = call; carried = l.carried }) go
+asks object call l go = Asks (record { object = object; span = l.span; call = call; carried = l.carried; left = None }) go
 
 -- goes on with this lineage, where it is none too long
 abbrev pub carry : List WriteId → Local → Go → Tree
@@ -149,10 +148,15 @@ if_deep s l tree = if nat_lt s.depth MOST_DEPTH then tree else leave s Depth l
 abbrev pub planned : Setting → Local → List PlannedLook
 planned s l = plan (stores_here s.app s.region) l.carried
 
+-- a look of a barrier or a dry run, after which the later ones are left
+abbrev pub look_at : ℕ → Bool → PlannedLook → List PlannedLook → Local → Ask
+look_at region dry look later l =
+    record { object = look.store; span = l.span; call = calls.Look region look.ids dry; carried = l.carried; left = Some later }
+
 -- These looks, one after another. What a look finds is not carried.
 abbrev pub looks : ℕ → Bool → List PlannedLook → Local → Go → Tree
 looks region dry [] l go = go l
-looks region dry (look ∷ later) l go = asks look.store (calls.Look region look.ids dry) l (λ reply. looks region dry later l go)
+looks region dry (look ∷ later) l go = Asks (look_at region dry look later l) (λ reply. looks region dry later l go)
 
 -- so many turns of a block
 abbrev pub turns : ℕ → (Local → Go → Tree) → Local → Go → Tree

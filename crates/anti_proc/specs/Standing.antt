@@ -1,6 +1,6 @@
 -- What a process of the program stands for.
 use Rattle.std.specs.Prelude.{ℕ, ◌*◌, Option, Some, None, List, ◌∷◌, reverse}
-use Rattle.anti_kind.specs.declared.call.Birth.{Birth}
+use Rattle.anti_kind.specs.declared.actor.Birth.{Birth}
 use Rattle.anti_kind.specs.declared.call.Call.TheVariants as calls
 use Rattle.anti_lang.specs.Bodies.{list_of, block_from}
 use Rattle.anti_lang.specs.Program.{Block, Step}
@@ -14,10 +14,10 @@ use Rattle.anti_proc.specs.declared.run.Run.{Run}
 use Rattle.anti_proc.specs.declared.state.State.{State}
 use Rattle.anti_proc.specs.declared.statements.Does.{Does}
 use Rattle.anti_proc.specs.declared.statements.Does.TheVariants as does
-use Rattle.anti_body.specs.Numbers.{body_of}
+use Rattle.anti_app.specs.Objects.{body_of}
 use Rattle.anti_proc.specs.Local.{Setting, Local}
 use Rattle.anti_proc.specs.Meaning.{Go, answers, block_tree, body_tree, hear_call, looks, post_call, read_call, turns, write_call}
-use Rattle.anti_body.specs.Places.{block_weight, left_at}
+use Rattle.anti_proc.specs.inner.Places.{block_weight, left_at}
 use Rattle.anti_proc.specs.Trees.{Tree, Ends}
 
 abbrev pub setting : App → Given → Setting

@@ -3,16 +3,19 @@ use Rattle.std.specs.Prelude.{ℕ, ◌≡◌, Option, Some, None, List, [], ◌�
 use Rattle.anti_ids.specs.declared.id.WriteId.{WriteId}
 use Rattle.anti_kind.specs.declared.call.Call.{Call}
 use Rattle.anti_kind.specs.declared.call.Reply.{Reply}
+use Rattle.anti_shim.specs.declared.looks.PlannedLook.{PlannedLook}
 use Rattle.anti_proc.specs.declared.want.End.{End}
 use Rattle.anti_proc.specs.declared.want.Want.{Want}
 use Rattle.anti_proc.specs.declared.want.Want.TheVariants.{Make, Over}
 
--- a call at an object, in a span, with the lineage that the process carries as it makes it
+-- A call at an object, in a span, with the lineage that the process carries as it makes it. A look of a barrier or a dry run has the looks
+-- of the same barrier that are left after it, in their order; a call that is no such look has none.
 pub record Ask : Type 0 where
   pub object : ℕ
   pub span : ℕ
   pub call : Call
   pub carried : List WriteId
+  pub left : Option (List PlannedLook)
 
 pub data Tree : Type 0 where
   Asks : (ask : Ask) → (Reply → Tree) → Tree

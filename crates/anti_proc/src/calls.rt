@@ -5,13 +5,13 @@ ghost use Rattle.anti_proc.specs.Meaning.{Go};
 ghost use Rattle.anti_proc.specs.Standing.{local_of, next_tree, setting};
 ghost use Rattle.anti_proc.specs.Trees.{want_of};
 
-use crate::given::{Given, MOST_DEPTH};
+use crate::given::Given;
 use crate::messages::{answer, message};
 use crate::next::Next;
 use crate::state::State;
 use crate::want::Want;
 use anti_app::App;
-use anti_ids::{Copies, Name, NoMemory, Value};
+use anti_ids::{Copies, MOST_DEPTH, Name, NoMemory, Value};
 use anti_kind::Call;
 
 // A write of a value to a key, with what the process carries.

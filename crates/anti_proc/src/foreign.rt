@@ -1,28 +1,34 @@
-ghost use Rattle.std.specs.Prelude.{◌≡◌, ◌≤◌, [], true, false, Err, IfOk, OnOk};
+ghost use Rattle.std.specs.Prelude.{◌≡◌, ◌≤◌, [], length, nat_lt, true, false, Err, IfOk, OnOk};
 ghost use Rattle.std.specs.List.{list_all};
 ghost use Rattle.anti_proc.specs.Brought.{came_first};
 ghost use Rattle.anti_proc.specs.Foreign.{has_baggage, has_stores, is_foreign, is_foreign_to};
 ghost use Rattle.anti_proc.specs.Meaning.{stated_in};
-ghost use Rattle.anti_body.specs.Running.{CanRun};
+ghost use Rattle.anti_app.specs.Running.{CanRun};
 
-use crate::given::MOST_DEPTH;
 use crate::want::ProcFault;
-use anti_app::App;
+use anti_app::{App, has_handler, service_at, store_names};
 use anti_baggage::{BaggageFault, decode};
-use anti_body::{has_handler, service_at, store_names};
-use anti_ids::Lineage;
+use anti_ids::{Lineage, MOST_DEPTH};
 use anti_kind::{Message, Reply, Row};
 use std::alloc::Global;
+
+// Whether the application has the store with a number.
+fn is_store(app: &App, store: u32) -> bool
+    ensures { result ≡ nat_lt store (length app.now.stores.items) }
+{
+    (store as usize) < app.stores.len()
+}
 
 // Whether each id of a lineage is of a store of the application.
 fn has_stores(app: &App, lineage: &Lineage) -> bool
     ensures { result ≡ has_stores app.now lineage.now }
 {
-    let stores = app.stores.len();
-    lineage
-        .as_slice()
-        .iter()
-        .all(|id| (id.store as usize) < stores)
+    for id in lineage.iter() {
+        if !is_store(app, id.store) {
+            return false;
+        }
+    }
+    true
 }
 
 // The same of the lineages of rows.
@@ -45,7 +51,7 @@ fn none_unless(alloc: Global, is_foreign: bool) -> Result<Lineage, ProcFault>
 }
 
 // The lineage that the baggage of a message states. `Foreign` comes exactly where it states none.
-#[tactic(auto, using(anti_body::proofs::Runnable::names_fit))]
+#[tactic(auto, using(anti_app::proofs::Runnable::names_fit))]
 fn stated(alloc: Global, app: &App, message: &Message) -> Result<Lineage, ProcFault>
     requires { CanRun app.now }
     ensures ids { IfOk result (λ ids. ids ≡ stated_in app.now message.now) }

@@ -2,14 +2,10 @@ ghost use Rattle.std.specs.Prelude.{◌≡◌, IfOk};
 ghost use Rattle.anti_proc.specs.Meaning.{duty_of, setting_at};
 ghost use Rattle.anti_proc.specs.Standing.{setting};
 
-use anti_app::App;
-use anti_body::{region_of, service_at};
+use anti_app::{App, region_of, service_at};
 use anti_ids::{Copies, Name, NoMemory, Value};
 use anti_kind::{Message, MessageKind};
 use std::alloc::Global;
-
-/// The depth of the deepest message. A request has depth 0, a call or a send one more than its sender's message.
-pub const MOST_DEPTH: u32 = 8;
 
 /// What a process owes at its end.
 #[derive(Clone, Copy)]

@@ -1,11 +1,11 @@
 ghost use Rattle.std.specs.Prelude.{ℕ, ◌≤◌, List, true, false, length, IsTrue};
 ghost use Rattle.anti_ids.specs.Ids.{IsLineage};
 ghost use Rattle.anti_ids.specs.declared.id.WriteId.{WriteId};
-ghost use Rattle.anti_kind.specs.declared.call.Entry.{Entry};
+ghost use Rattle.anti_kind.specs.declared.entry.Entry.{Entry};
 ghost use Rattle.anti_app.specs.Sound.{is_sound};
 ghost use Rattle.anti_app.specs.declared.app.App.{App};
 ghost use Rattle.anti_lang.specs.Program.{Block, Barrier, DryRun};
-ghost use Rattle.anti_proc.specs.Barriers.{AsksFor, GoesOver, LooksOnceAt};
+ghost use Rattle.anti_proc.specs.Barriers.{AllLookInARow, AsksFor, BeginsItsLooks, GoesOver, LooksOnceAt};
 ghost use Rattle.anti_proc.specs.Brought.{CarriesLineages, CarriesWhatCame, came_first};
 ghost use Rattle.anti_proc.specs.Calls.{AllOfProcess};
 ghost use Rattle.anti_proc.specs.Known.{AllKnown, IsReplyAt};
@@ -19,6 +19,17 @@ pub fn laws_of_processes()
     ensures dry_run { (s : Setting) (l : Local) → GoesOver s l true (step_tree DryRun s l) }
     ensures once { (s : Setting) (l : Local) (store : ℕ) → LooksOnceAt s l store }
     ensures covers { (s : Setting) (l : Local) (i : WriteId) → AsksFor s l i }
+{}
+
+/// A barrier and a dry run begin with the first of their looks, after which the others are left. Each look that a process makes, and no
+/// other call, has a list of the looks that are left after it. As long as there are any, the process asks next for the first of them,
+/// whatever the reply is: at that look's store, for its ids, in the same region, as dry, in the same span and with the same lineage; and
+/// the others are left after that one. So it is for every body, every value and every list of replies. It does nothing.
+pub fn barriers_look_in_a_row()
+    ensures barrier { (s : Setting) (l : Local) → BeginsItsLooks s l false (step_tree Barrier s l) }
+    ensures dry_run { (s : Setting) (l : Local) → BeginsItsLooks s l true (step_tree DryRun s l) }
+    ensures bodies { (body : Block) (s : Setting) (ids : List WriteId) → AllLookInARow (begun body s ids) }
+    ensures processes { (app : App) (birth : Entry) → AllLookInARow (tree_of app birth) }
 {}
 
 /// What a process carries into a call came to the call's span before, or came with its message to the first span, for every body, every

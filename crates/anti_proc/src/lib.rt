@@ -8,6 +8,7 @@ mod given;
 mod laws;
 mod messages;
 mod next;
+mod place;
 mod process;
 mod run;
 mod state;
@@ -16,7 +17,8 @@ mod variables;
 mod want;
 mod words;
 
-pub use given::MOST_DEPTH;
-pub use laws::{calls_are_known, carries_lineages, carries_what_came, laws_of_processes};
+pub use laws::{
+    barriers_look_in_a_row, calls_are_known, carries_lineages, carries_what_came, laws_of_processes,
+};
 pub use process::Process;
 pub use want::{End, ProcFault, Want};

@@ -4,16 +4,15 @@ ghost use Rattle.anti_ids.specs.List.{plain};
 ghost use Rattle.anti_baggage.specs.Texts.{lineage_text};
 ghost use Rattle.anti_proc.specs.Local.{Setting, Local};
 ghost use Rattle.anti_proc.specs.Meaning.{Go, after_post, answer, kind_of, message};
-ghost use Rattle.anti_body.specs.Numbers.{store_names};
+ghost use Rattle.anti_app.specs.Objects.{store_names};
 ghost use Rattle.anti_proc.specs.Standing.{local_of, next_or, setting};
 
-use crate::given::{Given, MOST_DEPTH};
+use crate::given::Given;
 use crate::next::Next;
 use crate::state::State;
-use anti_app::App;
+use anti_app::{App, store_names};
 use anti_baggage::encode;
-use anti_body::store_names;
-use anti_ids::{Bytes, Copies, Lineage, Name, NoMemory, Value};
+use anti_ids::{Bytes, Copies, Lineage, MOST_DEPTH, Name, NoMemory, Value};
 use anti_kind::{Message, MessageKind, Reply};
 use std::alloc::Global;
 

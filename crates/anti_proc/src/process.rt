@@ -3,7 +3,7 @@ ghost use Rattle.anti_app.specs.declared.app.App.{App};
 ghost use Rattle.anti_proc.specs.Births.{birth_at};
 ghost use Rattle.anti_proc.specs.Foreign.{is_foreign, is_foreign_birth};
 ghost use Rattle.anti_proc.specs.Meaning.{tree_of};
-ghost use Rattle.anti_body.specs.Running.{CanRun};
+ghost use Rattle.anti_app.specs.Running.{CanRun};
 ghost use Rattle.anti_proc.specs.Running.{IsRunOf};
 ghost use Rattle.anti_proc.specs.Standing.{birth_of, clock_of, full_of, process_of};
 ghost use Rattle.anti_proc.specs.Trees.{IsAskedAt, branch, want_of, end_of};

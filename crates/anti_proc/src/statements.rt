@@ -6,20 +6,19 @@ ghost use Rattle.anti_lang.specs.Program.{Block};
 ghost use Rattle.anti_lang.specs.Spans.{spans_in};
 ghost use Rattle.anti_proc.specs.Local.{Setting, Local, text_of};
 ghost use Rattle.anti_proc.specs.Meaning.{Go, if_deep, looks, planned, post_call, step_tree, with_key, write_call};
-ghost use Rattle.anti_body.specs.Numbers.{inbox_of};
-ghost use Rattle.anti_body.specs.Places.{block_in, step_weight};
-ghost use Rattle.anti_body.specs.Running.{CanRun};
+ghost use Rattle.anti_app.specs.Objects.{inbox_of};
+ghost use Rattle.anti_proc.specs.inner.Places.{block_in, step_weight};
+ghost use Rattle.anti_app.specs.Running.{CanRun};
 ghost use Rattle.anti_proc.specs.Standing.{does_or, does_tree, local_of, next_or, next_tree, setting, spans_done, weight_done};
 ghost use Rattle.anti_proc.specs.Statements.{is_at_store};
 
-use crate::given::{Given, MOST_DEPTH};
+use crate::given::Given;
 use crate::next::{Next, last_first, leave, look_of};
 use crate::state::State;
 use crate::want::End;
 use crate::words::{cell_key, plain_key, text_of};
-use anti_app::App;
-use anti_body::{inbox_of, store_number, stores_here};
-use anti_ids::{Name, NoMemory, Value};
+use anti_app::{App, inbox_of, store_number, stores_here};
+use anti_ids::{MOST_DEPTH, Name, NoMemory, Value};
 use anti_lang::{KeyWord, Statement, ValueWord};
 use anti_shim::plan;
 

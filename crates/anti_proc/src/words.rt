@@ -14,9 +14,7 @@ use std::alloc::Global;
 fn decimal(alloc: Global, number: u64) -> Result<Value, NoMemory>
     ensures { IfOk result (λ v. v ≡ decimal number) }
 {
-    let Ok(text) = format!(in alloc; "{number}") else {
-        return Err(NoMemory);
-    };
+    let text = format!(in alloc; "{number}")?;
     match Value::new(alloc, text.as_bytes()) {
         Ok(value) => Ok(value),
         Err(ValueFault::NoMemory) => Err(NoMemory),

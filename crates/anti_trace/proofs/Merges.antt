@@ -10,7 +10,7 @@ use Rattle.std.proofs.lemmas.List.Sums.{sum_by-set}
 use Rattle.anti_ids.specs.List.{Listed, empty}
 use Rattle.anti_kind.proofs.Histories.{ascending}
 use Rattle.anti_kind.specs.Objects.{Start, IsLegal}
-use Rattle.anti_kind.specs.declared.call.Entry.{Entry}
+use Rattle.anti_kind.specs.declared.entry.Entry.{Entry}
 use Rattle.anti_trace.specs.Traces.{comes_before, IsTrace, is_on, entries_on}
 use Rattle.anti_trace.specs.Histories.{history_of, IsHistory, AreHistories, entry_count, end_stamp, IsLatest}
 use Rattle.anti_trace.proofs.Orders.{before_to, before_stamp}

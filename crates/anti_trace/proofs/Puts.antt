@@ -4,10 +4,10 @@ use Rattle.std.specs.Prelude.{IsTrue}
 use Rattle.std.specs.List.{All, Contains, filter}
 use Rattle.std.proofs.lemmas.Bool.{cond-true, cond-false, cases_Bool, false≢true, eq-eqb, ne_eqb, eqb-true, and_from, and_parts, false_from_ne_true}
 use Rattle.std.proofs.lemmas.List.Elements.{All-nil, All-cons, All-head, All-tail, All-weaker, All-filter, All-contains, All-contains_itself}
-use Rattle.anti_kind.specs.declared.call.Actor.{Actor}
-use Rattle.anti_kind.specs.declared.call.Actor.TheVariants.{Carrier, Process, Newborn}
-use Rattle.anti_kind.specs.declared.call.Birth.{Birth}
-use Rattle.anti_kind.specs.declared.call.Entry.{Entry}
+use Rattle.anti_kind.specs.declared.actor.Actor.{Actor}
+use Rattle.anti_kind.specs.declared.actor.Actor.TheVariants.{Carrier, Process, Newborn}
+use Rattle.anti_kind.specs.declared.actor.Birth.{Birth}
+use Rattle.anti_kind.specs.declared.entry.Entry.{Entry}
 use Rattle.anti_trace.specs.Traces.{comes_before, IsTrace, put, is_on, entries_on, same_actor, is_by, entries_by}
 use Rattle.anti_trace.proofs.Orders.{stamp_le, before_trans, before_other, not_before_le}
 

@@ -2,7 +2,7 @@
 use Rattle.std.specs.Prelude.{ℕ, ◌-◌, ◌<◌, ◌≤◌, ◌≡◌, List, length, map, slice_index, slice_index_or, All}
 use Rattle.std.specs.List.{AllPairs, sum_by}
 use Rattle.anti_ids.specs.List.{Listed, empty}
-use Rattle.anti_kind.specs.declared.call.Entry.{Entry}
+use Rattle.anti_kind.specs.declared.entry.Entry.{Entry}
 
 -- the history of the object with this number: none past the end
 abbrev pub history_of : List (Listed Entry) → ℕ → List Entry

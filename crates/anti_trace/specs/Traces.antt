@@ -1,9 +1,9 @@
 -- A trace is a list of entries in the order of their stamps, and of their objects where two stamps are equal.
 use Rattle.std.specs.Prelude.{ℕ, ◌==◌, nat_lt, Bool, true, false, ◌&&◌, ◌||◌, cond, List, [], ◌∷◌, IsTrue, All}
 use Rattle.std.specs.List.{filter}
-use Rattle.anti_kind.specs.declared.call.Actor.{Actor}
-use Rattle.anti_kind.specs.declared.call.Actor.TheVariants.{Carrier, Process, Newborn}
-use Rattle.anti_kind.specs.declared.call.Entry.{Entry}
+use Rattle.anti_kind.specs.declared.actor.Actor.{Actor}
+use Rattle.anti_kind.specs.declared.actor.Actor.TheVariants.{Carrier, Process, Newborn}
+use Rattle.anti_kind.specs.declared.entry.Entry.{Entry}
 
 -- whether an entry is on an object
 abbrev pub is_on : ℕ → Entry → Bool

@@ -13,6 +13,3 @@ pub use mark::Mark;
 pub use merging::{Histories, merge};
 pub use owners::{is_by, is_on};
 pub use trace::Trace;
-
-#[cfg(test)]
-mod tests;

@@ -23,7 +23,7 @@ pub fn merge(alloc: Global, histories: Histories) -> Result<Trace, NoMemory>
     while let Some(number) = latest(left.as_slice()) {
         let history = &mut left[number];
         match history.pop() {
-            Some(entry) => keep(&mut entries, entry)?,
+            Some(entry) => entries.push(entry)?,
             None => unreachable!(),
         }
     }
@@ -37,7 +37,7 @@ fn taken_apart(alloc: Global, mut histories: Histories) -> Result<Vec<History>, 
 {
     let mut left = Vec::new(alloc);
     while let Some(history) = histories.pop() {
-        keep(&mut left, history)?;
+        left.push(history)?;
     }
     left.reverse();
     Ok(left)
@@ -69,15 +69,5 @@ fn last_stamp(history: &History) -> Option<u64>
     match history.as_slice() {
         [] => None,
         [.., last] => Some(last.stamp),
-    }
-}
-
-// One item more at the end.
-fn keep<T: Drop>(items: &mut Vec<T>, item: T) -> Result<(), NoMemory>
-    ensures { OnOk result (items.new.items ≡ items.old.items ++ item ∷ []) }
-{
-    match items.push(item) {
-        Ok(()) => Ok(()),
-        Err(_) => Err(NoMemory),
     }
 }

@@ -13,7 +13,7 @@ pub struct Trace {
 
 impl Model for Trace {
     ghost use Rattle.std.specs.Prelude.{List, ◌<◌, ◌^◌, vec_len};
-    ghost use Rattle.anti_kind.specs.declared.call.Entry.{Entry};
+    ghost use Rattle.anti_kind.specs.declared.entry.Entry.{Entry};
     ghost use Rattle.anti_trace.specs.Traces.{IsTrace};
 
     ghost Value = { List Entry };

@@ -1,7 +1,7 @@
 use Rattle.std.proofs.Common.{◌≡◌, ◌++◌, ◌∷◌, [], List, length, reverse, ap, sym, ◌∙◌, subst}
 use Rattle.std.proofs.lemmas.List.{get_or_read, reverse-append}
 use Rattle.anti_ids.specs.List.{Listed, empty}
-use Rattle.anti_kind.specs.declared.call.Entry.{Entry}
+use Rattle.anti_kind.specs.declared.entry.Entry.{Entry}
 use Rattle.anti_trace.specs.Histories.{IsLatest, history_of}
 use Rattle.anti_trace.proofs.Merges.{merging_none, merging_more}
 use Rattle.anti_trace.proofs.merging.merge.Goals as goal
@@ -20,5 +20,5 @@ loop-number-preserved c =
     get_or_read left c.in-Some.number c.index_mut-history.result.now late.inside c.index_mut-history.ensures.value empty in
     let taken : history_of left c.in-Some.number ≡ c.pop.new.self.items ++ c.in-Some-pop.entry ∷ [] =
     sym (ap (λ (h : Listed Entry). h.items) read) ∙ c.in-Some-pop.ensures.some in
-    rw (c.in_ok-keep-in-Some-pop.ensures, reverse-append c.loop-number.entries.items (c.in-Some-pop.entry ∷ []))
+    rw (c.in_ok-push-in-Some-pop.ensures.items, reverse-append c.loop-number.entries.items (c.in-Some-pop.entry ∷ []))
     (merging_more source left (reverse c.loop-number.entries.items) c.loop-number.invariant c.in-Some.number late c.pop.new.self c.in-Some-pop.entry taken)

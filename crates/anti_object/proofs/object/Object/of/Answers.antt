@@ -1,37 +1,34 @@
-use Rattle.std.proofs.Common.{◌∙◌, ◌-◌, ◌<◌, length, ap, subst, List}
+use Rattle.std.proofs.Common.{◌≡◌, ◌∙◌, ap, subst, rules}
+use Rattle.std.specs.Prelude.{Some}
 use Rattle.anti_ids.specs.List.{Listed}
-use Rattle.anti_kind.specs.declared.call.Message.{Message}
-use Rattle.anti_kind.specs.Objects.{inbox}
-use Rattle.anti_kv.specs.KvStates.{kv_start}
-use Rattle.anti_app.specs.declared.app.StoreDef.{StoreDef}
-use Rattle.anti_object.proofs.News.{found, missed, new_store, new_inbox, none_there}
-use Rattle.anti_object.proofs.Starts.{store_sound, inbox_sound}
+use Rattle.anti_kind.specs.declared.message.Message.{Message}
+use Rattle.anti_kind.specs.Objects.{IsStart, inbox}
+use Rattle.anti_app.specs.declared.objects.ObjectAt.TheVariants.{Store, Inbox}
+use Rattle.anti_app.specs.Objects.{object_at}
+use Rattle.anti_object.proofs.News.{new_store, new_inbox}
+use Rattle.anti_object.proofs.Starts.{store_found, store_sound, plain_is, inbox_sound}
 use Rattle.anti_object.proofs.object.Object.of.Goals as goal
 
+pub store_of-requires-clause-built : goal.store_of-requires-clause-built
+store_of-requires-clause-built c = (store_found c.args.app.now c.in-Some-Store.store c.at.result.now c.requires c.at.ensures).kind
+
+pub store_of-requires-clause-start : goal.store_of-requires-clause-start
+store_of-requires-clause-start c =
+    let app = c.args.app.now in
+    subst IsStart (plain_is app c.in-Some-Store.store c.at.result.now c.requires c.at.ensures) (store_sound app c.in-Some-Store.store c.at.result.now c.requires c.at.ensures)
+
+pub returns-in_ok-object-in-Some-Store : goal.returns-in_ok-object-in-Some-Store
+returns-in_ok-object-in-Some-Store c =
+    let at : object_at c.args.app.now c.args.number ≡ Some (Store c.in-Some-Store.store) = search rules in
+    new_store c.args.app.now c.requires c.args.number c.in-Some-Store.store c.at.result.now c.in_ok-object-in-Some-Store.object at c.at.ensures
+    c.in_ok-object-in-Some-Store.ensures
+
 pub new-requires : goal.new-requires
-new-requires c =
-    rw c.as_slice.ensures (store_sound c.args.app.now c.args.number c.in-Some.store.now c.requires
-    (found _ c.as_slice-stores.result.now c.args.number c.in-Some.store.now c.as_slice-stores.ensures c.in-Some.ensures.lookup.3.0 c.in-Some.ensures.lookup.1))
+new-requires c = rw c.in_ok-requests-in-Some-Inbox.ensures (inbox_sound c.args.app.now c.in-Some-Inbox.service c.at-handlers.result.now c.requires)
 
-pub returns-in-Some : goal.returns-in-Some
-returns-in-Some c =
-    new_store c.args.app.now c.requires c.args.number c.in-Some.store.now c.in_ok-store.store
-    (subst (λ (stores : List StoreDef). c.args.number < length stores) c.as_slice-stores.ensures c.in-Some.ensures.lookup.3.0)
-    (found _ c.as_slice-stores.result.now c.args.number c.in-Some.store.now c.as_slice-stores.ensures c.in-Some.ensures.lookup.3.0 c.in-Some.ensures.lookup.1)
-    (c.in_ok-store.ensures.start ∙ ap (kv_start c.args.number) c.as_slice.ensures) c.in_ok-store.ensures.stands
-
-pub returns-in_default-get : goal.returns-in_default-get
-returns-in_default-get c =
-    none_there c.args.app.now c.requires c.args.number c.as_slice-stores.result.now c.as_slice-stores.ensures c.in_default.ensures.lookup.3
-    (missed _ c.as_slice-2.result.now _ c.as_slice-2.ensures c.in_default-get.ensures.lookup.3)
-
-pub new-requires-2 : goal.new-requires-2
-new-requires-2 c =
-    rw c.in_ok-requests.ensures (inbox_sound c.args.app.now (c.args.number - length c.as_slice-stores.result.now) c.in-Some-get.service.now c.requires)
-
-pub returns : goal.returns
-returns c =
-    new_inbox c.args.app.now c.requires c.args.number c.as_slice-stores.result.now c.as_slice-stores.ensures c.in_default.ensures.lookup.3
-    c.in-Some-get.service.now c.in_ok-inbox.inbox
-    (found _ c.as_slice-2.result.now _ c.in-Some-get.service.now c.as_slice-2.ensures c.in-Some-get.ensures.lookup.3.0 c.in-Some-get.ensures.lookup.1)
-    (c.in_ok-inbox.ensures.start ∙ ap (λ (ms : Listed Message). inbox ms.items) c.in_ok-requests.ensures) c.in_ok-inbox.ensures.stands
+pub returns-in_ok-inbox-in-Some-Inbox : goal.returns-in_ok-inbox-in-Some-Inbox
+returns-in_ok-inbox-in-Some-Inbox c =
+    let at : object_at c.args.app.now c.args.number ≡ Some (Inbox c.in-Some-Inbox.service) = search rules in
+    new_inbox c.args.app.now c.requires c.args.number c.in-Some-Inbox.service c.at-handlers.result.now c.in_ok-inbox-in-Some-Inbox.inbox at c.at-handlers.ensures
+    (c.in_ok-inbox-in-Some-Inbox.ensures.start ∙ ap (λ (ms : Listed Message). inbox ms.items) c.in_ok-requests-in-Some-Inbox.ensures)
+    c.in_ok-inbox-in-Some-Inbox.ensures.stands

@@ -4,7 +4,7 @@ use Rattle.anti_proc.specs.declared.run.Run.{Run}
 use Rattle.anti_proc.specs.declared.want.End.TheVariants.{Fine}
 use Rattle.anti_proc.specs.Local.{Local, first_local}
 use Rattle.anti_proc.specs.Meaning.{body_tree}
-use Rattle.anti_body.specs.Numbers.{body_of, handler_number, service_at}
+use Rattle.anti_app.specs.Objects.{body_of, handler_number, service_at}
 use Rattle.anti_proc.specs.Standing.{local_of, setting}
 use Rattle.anti_proc.proofs.Settling.{begins, begins_spans, carried_short}
 use Rattle.anti_proc.proofs.run.Run.begun.Goals as goal

@@ -3,7 +3,7 @@ use Rattle.anti_lang.specs.Bodies.{step_of}
 use Rattle.anti_proc.specs.declared.run.Run.{Run}
 use Rattle.anti_proc.specs.declared.statements.Does.{Does}
 use Rattle.anti_proc.specs.declared.statements.Does.TheVariants as does
-use Rattle.anti_body.specs.Places.{steps_of}
+use Rattle.anti_app.specs.Objects.{steps_of}
 use Rattle.anti_proc.specs.Standing.{body_in}
 use Rattle.anti_proc.proofs.Settling.{Passed, passed_in, settled, entered_goes, entered_lighter, entered_spans}
 use Rattle.anti_proc.proofs.run.Run.settle.Goals as goal

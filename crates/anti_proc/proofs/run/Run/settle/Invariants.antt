@@ -1,5 +1,5 @@
 use Rattle.std.proofs.Common.{◌≡◌}
-use Rattle.anti_body.specs.Places.{weight}
+use Rattle.anti_proc.specs.inner.Places.{weight}
 use Rattle.anti_proc.specs.Running.{HasSpans}
 use Rattle.anti_proc.specs.Standing.{going, left_to_run, local_of}
 use Rattle.anti_proc.proofs.run.Run.settle.Given as goal
