@@ -1,81 +1,55 @@
 -- How far a world has come that finishes.
-use Rattle.std.proofs.Common.{◌≡◌, ℕ, zero, suc, ◌+◌, ◌-◌, ◌<◌, ◌≤◌, ◌++◌, ◌||◌, Bool, true, false, List, [], ◌∷◌, length, get_or, replicate, refl, sym, ap, ◌∙◌, subst, arith, length-append, append-nil}
-use Rattle.std.specs.Prelude.{IsTrue, None, Result, Ok, Err, IsErr, OnOk, OnErr, slice_index}
-use Rattle.std.specs.List.{list_any, sum_by}
-use Rattle.std.proofs.lemmas.List.{get_or-replicate, length-replicate}
-use Rattle.std.proofs.lemmas.List.Folds.{list_any-append}
+use Rattle.std.proofs.Common.{◌≡◌, ℕ, zero, suc, ◌+◌, ◌-◌, ◌<◌, ◌≤◌, Bool, true, false, List, [], ◌∷◌, length, get_or, refl, sym, ap, ◌∙◌, subst, arith, length-append, append-nil}
+use Rattle.std.specs.Prelude.{IsTrue, None, Result, Ok, IsErr}
+use Rattle.std.specs.List.{sum_by}
 use Rattle.std.proofs.lemmas.List.Sums.{sum_by-cons}
 use Rattle.anti_ids.specs.declared.memory.NoMemory.{NoMemory}
-use Rattle.anti_kind.specs.declared.limits.TheConstants.{MOST_UNITS}
-use Rattle.anti_kind.specs.declared.call.Entry.{Entry}
-use Rattle.anti_kind.specs.Stored.{is_ship, is_shipped}
+use Rattle.anti_ids.specs.declared.limits.TheConstants.{MOST_UNITS}
+use Rattle.anti_kind.specs.declared.entry.Entry.{Entry}
+use Rattle.anti_kind.specs.Objects.{Start}
+use Rattle.anti_kind.specs.Records.{Record}
 use Rattle.anti_app.specs.declared.app.App.{App}
 use Rattle.anti_app.specs.Sound.{is_sound}
+use Rattle.anti_object.specs.declared.object.Object.{Object}
 use Rattle.anti_object.specs.Standing.{object_start}
-use Rattle.anti_body.specs.Numbers.{object_count}
+use Rattle.anti_app.specs.Objects.{object_count}
 use Rattle.anti_trace.specs.Traces.{entries_on, put}
 use Rattle.anti_trace.proofs.Sames.{same_trace}
-use Rattle.anti_play.specs.declared.logged.Logged.{Logged}
-use Rattle.anti_play.specs.declared.route.Route.{Route}
 use Rattle.anti_play.specs.declared.world.World.{World}
 use Rattle.anti_play.specs.Schedule.{first_made, finished, IsComplete}
 use Rattle.anti_play.specs.Runs.{GoesOn}
-use Rattle.anti_play.specs.Standing.{Chose, Grows, IsObject, WorldStands}
-use Rattle.anti_play.specs.Finishing.{AreNoted, WentOn}
-use Rattle.anti_play.proofs.Growth.{legal_short}
-use Rattle.anti_play.proofs.Closings.{histories_are}
-use Rattle.anti_play.proofs.Tries.{MadeOne, chose_true, chose_false, chose_lost}
-use Rattle.anti_play.proofs.Turns.{Further, made_further, grows_on, goes_further, finished_next, finished_none, finished_complete}
+use Rattle.anti_play.specs.inner.Standing.{Chose, Grows, IsObject, WorldStands}
+use Rattle.anti_play.specs.inner.Finishing.{WentOn}
+use Rattle.anti_play.proofs.RunMore.{legal_short}
+use Rattle.anti_play.proofs.IntoTrace.{histories_are}
+use Rattle.anti_play.proofs.Stepped.{grows_on}
+use Rattle.anti_play.proofs.Tried.{MadeOne, chose_true, chose_false, chose_lost}
+use Rattle.anti_play.proofs.Finished.{Further, made_further, goes_further, finished_next, finished_none}
 
 -- ---- a world stands for one trace only
 
 pub one_trace : (app : App) (w : World) (t u : List Entry) → WorldStands app w t → WorldStands app w u → t ≡ u
 one_trace app w t u s v = same_trace t u s.run.order v.run.order (λ o. sym (histories_are app w t s o) ∙ histories_are app w u v o)
 
--- ---- notes
-
-shipped_later : (h rest : List Entry) (g v p : ℕ) → is_shipped h g v p ≡ true → is_shipped (h ++ rest) g v p ≡ true
-shipped_later h rest g v p is =
-    list_any-append (λ e. is_ship g v p e.call) h rest ∙ ap (λ (b : Bool). b || list_any (λ e. is_ship g v p e.call) rest) is
-
-pub noted_later : (trace after : List Entry) (rs : List Route) (notes : List ℕ) → GoesOn trace after → AreNoted trace rs notes → AreNoted after rs notes
-noted_later trace after rs notes goes noted = record {
-  count = noted.count;
-  each = λ i d lt v some within.
-      let on = goes (get_or rs i d).store in
-      subst (λ (h : List Entry). is_shipped h (get_or rs i d).region v 1 ≡ true) (sym on.1)
-      (shipped_later (entries_on (get_or rs i d).store trace) on.0 (get_or rs i d).region v 1 (noted.each i d lt v some within));
-}
-
-pub first_noted : (trace : List Entry) (rs : List Route) (notes : List ℕ) → notes ≡ replicate (length rs) 0 → AreNoted trace rs notes
-first_noted trace rs notes none = record {
-  count = ap length none ∙ length-replicate (length rs) 0;
-  each = λ i d lt v some within.
-      let at : slice_index notes i ≡ 0 = ap (λ (ns : List ℕ). slice_index ns i) none ∙ get_or-replicate (length rs) i 0 0 lt in
-      absurd (omega arith);
-}
-
 -- ---- turns
 
 -- the trace that the world stands for now goes on from the first one, and finishing makes the same of it
-pub record Reached (app : App) (routes : List Route) (trace : List Entry) (w : World) (notes : List ℕ) : Type 0 where
+pub record Reached (app : App) (trace : List Entry) (w : World) : Type 0 where
   pub after : List Entry
   pub stands : WorldStands app w after
   pub goes_on : GoesOn trace after
-  pub noted : AreNoted after routes notes
   pub same : finished app after ≡ finished app trace
 
-pub reached_first : (app : App) (routes : List Route) (trace : List Entry) (w : World) (notes : List ℕ) → WorldStands app w trace → AreNoted trace routes notes → Reached app routes trace w notes
-reached_first app routes trace w notes s noted =
-    record { after = trace; stands = s; goes_on = λ o. ([], sym (append-nil (entries_on o trace))); noted = noted; same = refl }
+pub reached_first : (app : App) (trace : List Entry) (w : World) → WorldStands app w trace → Reached app trace w
+reached_first app trace w s = record { after = trace; stands = s; goes_on = λ o. ([], sym (append-nil (entries_on o trace))); same = refl }
 
-module _ (app : App) (sound : IsTrue (is_sound app)) (routes : List Route) (trace : List Entry) (w : World) (notes : List ℕ) (reached : Reached app routes trace w notes) where
+module _ (app : App) (sound : IsTrue (is_sound app)) (trace : List Entry) (w : World) (reached : Reached app trace w) where
   abbrev now : List Entry
   now = reached.after
 
   -- a turn that made an entry
-  pub reached_more : (n : World) (then : List ℕ) → Chose app now (first_made app now) (Ok true) n → AreNoted now routes then → Reached app routes trace n then
-  reached_more n then chose noted =
+  pub reached_more : (n : World) → Chose app now (first_made app now) (Ok true) n → Reached app trace n
+  reached_more n chose =
       let made : MadeOne app now (first_made app now) n = chose_true app now (first_made app now) n chose in
       let next : Further app now made.entry = made_further app sound now made.entry reached.stands.run made.is in
       let goes : GoesOn now (put made.entry now) = grows_on app now (put made.entry now) made.entry next.grows in
@@ -83,7 +57,6 @@ module _ (app : App) (sound : IsTrue (is_sound app)) (routes : List Route) (trac
         after = put made.entry now;
         stands = made.stands;
         goes_on = goes_further trace now (put made.entry now) reached.goes_on goes;
-        noted = noted_later now (put made.entry now) routes then goes noted;
         same = finished_next app sound now made.entry reached.stands.run made.is ∙ reached.same;
       }
 
@@ -97,14 +70,10 @@ module _ (app : App) (sound : IsTrue (is_sound app)) (routes : List Route) (trac
   pub reached_lost : (n : World) (r : Result Bool NoMemory) → IsErr r → Chose app now (first_made app now) r n → WentOn app trace n
   reached_lost n r err chose = record { after = now; stands = chose_lost app now (first_made app now) r n err chose; goes_on = reached.goes_on }
 
-pub after_lost : {T : Type 0} (r : Result T NoMemory) (P : Type 0) → P → OnErr r P
-after_lost (Ok x) P p = tt
-after_lost (Err e) P p = p
-
 -- ---- places that are left
 
-abbrev pub places : Logged → ℕ
-places l = MOST_UNITS + 2 - length l.history.items
+abbrev pub places : Record Object → ℕ
+places r = MOST_UNITS + 2 - length r.history
 
 abbrev pub places_left : World → ℕ
 places_left w = sum_by places w.objects.items
@@ -139,10 +108,8 @@ place_less app w n t e s v grows known =
     let two : length n.objects.items ≡ object_count app = v.objects.count in
     sum_less places w.objects.items n.objects.items (omega arith)
     (λ k d lt.
-    let old : IsObject app k (get_or w.objects.items k d) (entries_on k t) = s.objects.each k d lt in
-    let new : IsObject app k (get_or n.objects.items k d) (entries_on k (put e t)) = v.objects.each k d (omega arith) in
-    let before : length (get_or w.objects.items k d).history.items ≡ length (entries_on k t) = ap length old.logged.history in
-    let after : length (get_or n.objects.items k d).history.items ≡ length (entries_on k (put e t)) = ap length new.logged.history in
+    let before : length (get_or w.objects.items k d).history ≡ length (entries_on k t) = ap length (s.objects.each k d lt).history in
+    let after : length (get_or n.objects.items k d).history ≡ length (entries_on k (put e t)) = ap length (v.objects.each k d (omega arith)).history in
     let goes = grows_on app t (put e t) e grows k in
     let longer : length (entries_on k (put e t)) ≡ length (entries_on k t) + length goes.0 = ap length goes.1 ∙ length-append (entries_on k t) goes.0 in
     omega arith)
@@ -150,16 +117,16 @@ place_less app w n t e s v grows known =
     (λ d.
     let old : IsObject app e.object (get_or w.objects.items e.object d) (entries_on e.object t) = s.objects.each e.object d (omega arith) in
     let new : IsObject app e.object (get_or n.objects.items e.object d) (entries_on e.object (put e t)) = v.objects.each e.object d (omega arith) in
-    let before : length (get_or w.objects.items e.object d).history.items ≡ length (entries_on e.object t) = ap length old.logged.history in
-    let after : length (get_or n.objects.items e.object d).history.items ≡ length (entries_on e.object (put e t)) = ap length new.logged.history in
+    let before : length (get_or w.objects.items e.object d).history ≡ length (entries_on e.object t) = ap length old.history in
+    let after : length (get_or n.objects.items e.object d).history ≡ length (entries_on e.object (put e t)) = ap length new.history in
     let longer : length (entries_on e.object (put e t)) ≡ length (entries_on e.object t) + 1 = ap length grows.here ∙ length-append (entries_on e.object t) (e ∷ []) in
-    let short : length (entries_on e.object (put e t)) ≤ MOST_UNITS + 1 =
-    legal_short (object_start (get_or n.objects.items e.object d).object) (entries_on e.object (put e t)) new.logged.object.legal in
+    let start : Start = object_start (get_or n.objects.items e.object d).machine in
+    let short : length (entries_on e.object (put e t)) ≤ MOST_UNITS + 1 = legal_short start (entries_on e.object (put e t)) (v.run.legal e.object start new.start) in
     omega arith)
 
-pub turn_less : (app : App) (sound : IsTrue (is_sound app)) (routes : List Route) (trace : List Entry) (w : World) (notes : List ℕ) (reached : Reached app routes trace w notes)
+pub turn_less : (app : App) (sound : IsTrue (is_sound app)) (trace : List Entry) (w : World) (reached : Reached app trace w)
     (n : World) → Chose app reached.after (first_made app reached.after) (Ok true) n → places_left n < places_left w
-turn_less app sound routes trace w notes reached n chose =
+turn_less app sound trace w reached n chose =
     let now : List Entry = reached.after in
     let made : MadeOne app now (first_made app now) n = chose_true app now (first_made app now) n chose in
     let next : Further app now made.entry = made_further app sound now made.entry reached.stands.run made.is in
@@ -170,8 +137,3 @@ turn_less app sound routes trace w notes reached n chose =
 pub is_complete : (app : App) (sound : IsTrue (is_sound app)) (n : World) (first trace : List Entry) → WorldStands app n (finished app first) → WorldStands app n trace
     → IsComplete app (finished app first) → IsComplete app trace
 is_complete app sound n first trace done s complete = subst (IsComplete app) (one_trace app n (finished app first) trace done s) complete
-
-pub completes : {T : Type 0} (r : Result T NoMemory) (app : App) (sound : IsTrue (is_sound app)) (w n : World) (first trace : List Entry) → WorldStands app w first
-    → OnOk r (WorldStands app n (finished app first)) → WorldStands app n trace → OnOk r (IsComplete app trace)
-completes (Ok x) app sound w n first trace s done t = is_complete app sound n first trace done t (finished_complete app sound first s.run)
-completes (Err e) app sound w n first trace s done t = tt

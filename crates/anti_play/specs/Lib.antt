@@ -1,5 +1,3 @@
 pub mod Schedule
 pub mod Runs
-pub mod Standing
-pub mod Closing
-pub mod Finishing
+pub mod inner

@@ -1,13 +1,12 @@
 -- What is true of each trace that choices have made.
 use Rattle.std.specs.Prelude.{◌≡◌, ℕ, ◌<◌, ◌≤◌, List, [], ◌++◌, length, All, Some}
-use Rattle.anti_kind.specs.declared.call.Actor.{Actor}
-use Rattle.anti_kind.specs.declared.call.Actor.TheVariants.{Process}
-use Rattle.anti_kind.specs.declared.call.Birth.{Birth}
-use Rattle.anti_kind.specs.declared.call.Entry.{Entry}
+use Rattle.anti_kind.specs.declared.actor.Actor.TheVariants.{Process}
+use Rattle.anti_kind.specs.declared.actor.Birth.{Birth}
+use Rattle.anti_kind.specs.declared.entry.Entry.{Entry}
 use Rattle.anti_kind.specs.Objects.{Start, IsLegal}
 use Rattle.anti_app.specs.declared.app.App.{App}
 use Rattle.anti_trace.specs.Traces.{IsTrace, entries_on, entries_by}
-use Rattle.anti_body.specs.Numbers.{object_count}
+use Rattle.anti_app.specs.Objects.{object_count}
 use Rattle.anti_object.specs.Starts.{start_of}
 use Rattle.anti_proc.specs.Known.{IsEntryOf}
 
@@ -28,8 +27,3 @@ pub record IsRun (app : App) (trace : List Entry) : Type 0 where
 -- the history of each object goes on from what it was
 abbrev pub GoesOn : List Entry → List Entry → Type 0
 GoesOn before after = (o : ℕ) → (rest : List Entry) × (entries_on o after ≡ entries_on o before ++ rest)
-
--- a process that acts is born already; a carrier is always there, and a newborn process is yet to be born
-abbrev pub IsBorn : Actor → List Entry → Type 0
-IsBorn (Process b) trace = entries_by (Process b) trace ≡ [] → ⊥
-IsBorn _ trace = Unit {0}

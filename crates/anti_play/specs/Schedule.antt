@@ -1,92 +1,92 @@
 -- The run that an application's choices make: each makes one entry or none, but `finish` makes all that can still be made.
-use Rattle.std.specs.Prelude.{ℕ, ◌≡◌, ◌+◌, ◌*◌, max, suc, zero, ◌&&◌, List, [], ◌∷◌, ◌++◌, length, map, flat_map, All, Option, None, Some, option_and_then, unwrap_or, if◌then◌else◌}
+use Rattle.std.specs.Prelude.{ℕ, ◌≡◌, ◌+◌, ◌*◌, max, suc, zero, ◌&&◌, List, [], ◌∷◌, ◌++◌, length, map, flat_map, All, Option, None, Some, slice_get, option_map, option_and_then, unwrap_or, if◌then◌else◌}
 use Rattle.std.specs.List.{range_with_len}
 use Rattle.std.specs.Option.{option_or, option_map_or}
-use Rattle.anti_kind.specs.declared.limits.TheConstants.{MOST_UNITS}
-use Rattle.anti_kind.specs.declared.call.Row.{Row}
-use Rattle.anti_kind.specs.declared.call.StoreKind.{StoreKind}
+use Rattle.anti_ids.specs.declared.limits.TheConstants.{MOST_UNITS}
+use Rattle.anti_kind.specs.declared.row.Row.{Row}
+use Rattle.anti_kind.specs.declared.store_kind.StoreKind.{StoreKind}
 use Rattle.anti_kind.specs.Stored.{rows, parts}
-use Rattle.anti_kind.specs.declared.call.Actor.{Actor}
-use Rattle.anti_kind.specs.declared.call.Actor.TheVariants.{Carrier, Process, Newborn}
-use Rattle.anti_kind.specs.declared.call.Birth.{Birth}
+use Rattle.anti_kind.specs.declared.asking.Asking.{Asking}
+use Rattle.anti_kind.specs.declared.actor.Actor.{Actor}
+use Rattle.anti_kind.specs.declared.actor.Actor.TheVariants.{Carrier, Process, Newborn}
+use Rattle.anti_kind.specs.declared.actor.Birth.{Birth}
 use Rattle.anti_kind.specs.declared.call.Call.{Call}
 use Rattle.anti_kind.specs.declared.call.Call.TheVariants as calls
-use Rattle.anti_kind.specs.declared.call.Entry.{Entry}
-use Rattle.anti_kind.specs.declared.call.Reply.{Reply}
+use Rattle.anti_kind.specs.declared.entry.Entry.{Entry}
 use Rattle.anti_kind.specs.Objects.{Start, store, inbox, ready, due, fits, last_stamp}
-use Rattle.anti_kind.specs.Ports.{named}
+use Rattle.anti_kind.specs.Ports.{entry_of}
 use Rattle.anti_app.specs.declared.app.App.{App}
+use Rattle.anti_app.specs.declared.app.SubDef.{SubDef}
 use Rattle.anti_app.specs.declared.app.Choice.{Choice}
 use Rattle.anti_app.specs.declared.app.Choice.TheVariants.{Take, Repost, Pull, Repull, Ship, Again, Go, Finish}
+use Rattle.anti_app.specs.Subs.{position_on}
 use Rattle.anti_object.specs.Starts.{start_of}
-use Rattle.anti_play.specs.declared.asked.Asked.{Asked}
 use Rattle.anti_trace.specs.Traces.{entries_on, entries_by, put}
 use Rattle.anti_proc.specs.declared.want.Want.{Want}
 use Rattle.anti_proc.specs.declared.want.Want.TheVariants.{Make, Over}
 use Rattle.anti_proc.specs.Trees.{want_of}
 use Rattle.anti_proc.specs.Births.{births}
-use Rattle.anti_body.specs.Numbers.{inbox_number, object_count}
+use Rattle.anti_app.specs.Objects.{inbox_number, object_count}
 use Rattle.anti_proc.specs.Meaning.{process_after}
 
 -- What a choice asks for.
-
-abbrev pub asked_by : Birth → Want → Option Asked
-asked_by birth (Make object span call) = Some (record { object = object; actor = Process birth; span = span; call = call })
-asked_by birth (Over end) = None
-
--- The next call of a process, by its entries in the trace; none of a process that is not there or has ended.
-abbrev pub next_call : App → List Entry → Birth → Option Asked
-next_call app trace birth = asked_by birth (want_of (process_after app (entries_by (Process birth) trace)))
-
--- A carrier asks at an object, in no span.
-abbrev pub carrying : ℕ → Call → Asked
-carrying object call = record { object = object; actor = Carrier 0; span = 0; call = call }
-
--- A part that is not given is the first.
-abbrev pub asked : App → List Entry → Choice → Option Asked
-asked app trace (Take service nth) =
-    Some (record { object = inbox_number app service; actor = Newborn; span = 1; call = calls.Take nth })
-asked app trace (Repost service number) = Some (carrying (inbox_number app service) (calls.Repost number))
-asked app trace (Ship store_number region version part) = Some (carrying store_number (calls.Ship region version (unwrap_or part 1)))
-asked app trace (Again store_number region version part) = Some (carrying store_number (calls.Again region version (unwrap_or part 1)))
-asked app trace (Go object place) = next_call app trace (record { object = object; place = place })
-asked app trace Finish = None
--- these are not built yet, and no application has one
-asked app trace (Pull sub) = None
-asked app trace (Repull sub version) = None
-
--- The entry that it makes.
 
 -- the last stamp of an actor
 abbrev pub clock_of : Actor → List Entry → ℕ
 clock_of Newborn trace = 0
 clock_of actor trace = last_stamp (entries_by actor trace)
 
--- The entry of a call, behind the history of its object: at the next place, with the stamp after the actor's last and the object's.
--- A process that the entry itself begins is named by the entry.
-abbrev pub entry_with : List Entry → ℕ → Asked → Reply → Entry
-entry_with history clock q reply = record {
-  stamp = max clock (last_stamp history) + 1;
-  object = q.object;
-  place = length history + 1;
-  seat = 0;
-  actor = named q.actor q.object (length history + 1);
-  span = q.span;
-  call = q.call;
-  reply = reply;
-}
+-- A call of an actor at an object, in a span. What the actor did last in the trace is its clock.
+abbrev pub asking_at : List Entry → ℕ → Actor → ℕ → Call → Asking
+asking_at trace object actor span call = record { object = object; actor = actor; span = span; clock = clock_of actor trace; call = call }
 
--- with the reply that the call is due
-abbrev pub entry_of : Start → List Entry → List Entry → Asked → Entry
-entry_of start history trace q = entry_with history (clock_of q.actor trace) q (due start history q.call)
+abbrev pub asked_by : List Entry → Birth → Want → Option Asking
+asked_by trace birth (Make object span call) = Some (asking_at trace object (Process birth) span call)
+asked_by trace birth (Over end) = None
+
+-- The next call of a process, by its entries in the trace; none of a process that is not there or has ended.
+abbrev pub next_call : App → List Entry → Birth → Option Asking
+next_call app trace birth = asked_by trace birth (want_of (process_after app (entries_by (Process birth) trace)))
+
+-- A call by which a process is born: it is the first of its process, in its first span.
+abbrev pub bearing : List Entry → ℕ → Call → Asking
+bearing trace object call = asking_at trace object Newborn 1 call
+
+-- A carrier asks at an object, in no span.
+abbrev pub carrying : List Entry → ℕ → Call → Asking
+carrying trace object call = asking_at trace object (Carrier 0) 0 call
+
+-- A pull is made at the store of the subscription, where this goes by its position among those of the store.
+abbrev pub pulling : App → List Entry → (ℕ → Call) → ℕ → SubDef → Asking
+pulling app trace call number sub = bearing trace sub.store (call (position_on app sub.store number))
+
+abbrev pub pulling_at : App → List Entry → (ℕ → Call) → ℕ → Option Asking
+pulling_at app trace call number = option_map (pulling app trace call number) (slice_get app.subs.items number)
+
+-- A part that is not given is the first.
+abbrev pub asked : App → List Entry → Choice → Option Asking
+asked app trace (Take service nth) = Some (bearing trace (inbox_number app service) (calls.Take nth))
+asked app trace (Repost service number) = Some (carrying trace (inbox_number app service) (calls.Repost number))
+asked app trace (Pull sub) = pulling_at app trace calls.Pull sub
+asked app trace (Repull sub version) = pulling_at app trace (λ position. calls.Repull position version) sub
+asked app trace (Ship store_number region version part) = Some (carrying trace store_number (calls.Ship region version (unwrap_or part 1)))
+asked app trace (Again store_number region version part) = Some (carrying trace store_number (calls.Again region version (unwrap_or part 1)))
+asked app trace (Go object place) = next_call app trace (record { object = object; place = place })
+asked app trace Finish = None
+
+-- The entry that it makes.
+
+-- The entry of what is asked, behind the history of its object: at the next place, with the stamp after the two clocks, the asker's
+-- and the object's, and with the reply that the call is due. No pass makes it.
+abbrev pub next_entry : Start → List Entry → Asking → Entry
+next_entry start history q = entry_of q 0 (length history + 1) (max q.clock (last_stamp history) + 1) (due start history q.call)
 
 -- an entry is made where the call is ready and fits
-abbrev pub made : Start → List Entry → List Entry → Asked → Option Entry
-made start history trace q =
-    if ready start history q.call && fits start history q.call then Some (entry_of start history trace q) else None
+abbrev pub made : Start → List Entry → Asking → Option Entry
+made start history q = if ready start history q.call && fits start history q.call then Some (next_entry start history q) else None
 
-abbrev pub made_at : App → List Entry → Asked → Option Entry
-made_at app trace q = option_and_then (λ start. made start (entries_on q.object trace) trace q) (start_of app q.object)
+abbrev pub made_at : App → List Entry → Asking → Option Entry
+made_at app trace q = option_and_then (λ start. made start (entries_on q.object trace) q) (start_of app q.object)
 
 abbrev pub chosen : App → List Entry → Choice → Option Entry
 chosen app trace choice = option_and_then (made_at app trace) (asked app trace choice)

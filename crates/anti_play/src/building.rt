@@ -1,13 +1,14 @@
 ghost use Rattle.std.specs.Prelude.{◌≡◌, ◌++◌, ◌∷◌, [], IfOk, OnOk, IsTrue};
 ghost use Rattle.anti_app.specs.Sound.{is_sound};
-ghost use Rattle.anti_body.specs.Numbers.{object_count};
-ghost use Rattle.anti_play.specs.Standing.{WorldStands};
-ghost use Rattle.anti_play.specs.Closing.{AreFirst, NoneBorn};
+ghost use Rattle.anti_app.specs.Objects.{object_count};
+ghost use Rattle.anti_play.specs.inner.Standing.{WorldStands};
+ghost use Rattle.anti_object.specs.Standing.{ObjectAt};
+ghost use Rattle.anti_play.specs.inner.Closing.{AreFirst, NoneBorn};
 
-use crate::logged::Logged;
 use crate::world::{Processes, World};
 use anti_app::App;
 use anti_ids::{List, NoMemory};
+use anti_kind::Recorded;
 use anti_object::Object;
 use std::alloc::Global;
 
@@ -29,13 +30,13 @@ impl World {
 }
 
 // The objects, each with no entry.
-fn objects(alloc: Global, app: &App) -> Result<Vec<Logged>, NoMemory>
+fn objects(alloc: Global, app: &App) -> Result<Vec<Recorded<Object>>, NoMemory>
     requires { IsTrue (is_sound app.now) }
     ensures { IfOk result (λ v. AreFirst app.now (object_count app.now) v.items) }
 {
     let mut objects = Vec::new(alloc);
     while let Some(object) = Object::of(alloc, app, objects.len() as u32)? {
-        keep(&mut objects, Logged::new(alloc, object))?;
+        keep(alloc, &mut objects, object)?;
     }
     Ok(objects)
 }
@@ -54,11 +55,16 @@ fn no_processes(alloc: Global, count: usize) -> Result<Vec<Processes>, NoMemory>
     Ok(processes)
 }
 
-// One object more at the end.
-fn keep(objects: &mut Vec<Logged>, object: Logged) -> Result<(), NoMemory>
-    ensures { OnOk result (objects.new.items ≡ objects.old.items ++ object ∷ []) }
+// One object more at the end, on which nothing has happened yet.
+fn keep(alloc: Global, objects: &mut Vec<Recorded<Object>>, object: Object) -> Result<(), NoMemory>
+    requires { ObjectAt object [] }
+    ensures { OnOk result (objects.new.items
+        ≡ objects.old.items ++ record { machine = object; history = [] } ∷ []) }
 {
-    match objects.push(object) {
+    let Ok(recorded) = Recorded::new(alloc, object) else {
+        return Err(NoMemory);
+    };
+    match objects.push(recorded) {
         Ok(()) => Ok(()),
         Err(_) => Err(NoMemory),
     }

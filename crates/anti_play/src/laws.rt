@@ -9,14 +9,19 @@ ghost use Rattle.anti_play.specs.Runs.{Entries, GoesOn, IsRun};
 /// What `finish` makes of a run of a sound application is a run, in which the history of each object goes on from what it was, and
 /// after which nothing is left to make.
 pub fn finish_completes()
-    ensures run { (app : App) (trace : Entries) → IsTrue (is_sound app) → IsRun app trace → IsRun app (finished app trace) }
-    ensures goes_on { (app : App) (trace : Entries) → IsTrue (is_sound app) → IsRun app trace → GoesOn trace (finished app trace) }
-    ensures complete { (app : App) (trace : Entries) → IsTrue (is_sound app) → IsRun app trace → IsComplete app (finished app trace) }
+    ensures run { (app : App) (trace : Entries) → IsTrue (is_sound app) → IsRun app trace
+        → IsRun app (finished app trace) }
+    ensures goes_on { (app : App) (trace : Entries) → IsTrue (is_sound app) → IsRun app trace
+        → GoesOn trace (finished app trace) }
+    ensures complete { (app : App) (trace : Entries) → IsTrue (is_sound app) → IsRun app trace
+        → IsComplete app (finished app trace) }
 {}
 
 /// In a run no reply is foreign to the application, and no entry has a message that starts nothing. So a process of a world is never
 /// refused a message or a reply.
 pub fn nothing_is_foreign()
-    ensures replies { (app : App) (trace : Entries) → IsRun app trace → All (λ e. is_foreign app e.reply ≡ false) trace }
-    ensures births { (app : App) (trace : Entries) → IsRun app trace → All (λ e. is_foreign_birth app e.object e.reply ≡ false) trace }
+    ensures replies { (app : App) (trace : Entries) → IsRun app trace
+        → All (λ e. is_foreign app e.reply ≡ false) trace }
+    ensures births { (app : App) (trace : Entries) → IsRun app trace
+        → All (λ e. is_foreign_birth app e.object e.reply ≡ false) trace }
 {}

@@ -1,15 +1,11 @@
 //! Schedules: what the choices of an application make of its stores, inboxes and processes.
 #![tactic(auto)]
 
-mod asked;
 mod building;
 mod feeding;
 mod finish;
 mod laws;
-mod logged;
-mod outcome;
 mod player;
-mod route;
 mod tracing;
 mod world;
 

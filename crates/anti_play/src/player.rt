@@ -1,10 +1,10 @@
-ghost use Rattle.std.specs.Prelude.{◌≡◌, ℕ, length, IfOk, IsTrue};
+ghost use Rattle.std.specs.Prelude.{◌≡◌, ℕ, IfOk, IsTrue};
 ghost use Rattle.anti_ids.specs.List.{plain};
 ghost use Rattle.anti_app.specs.Sound.{is_sound, is_sound_choice};
 ghost use Rattle.anti_play.specs.Schedule.{Run, trace_of, waits_of};
 ghost use Rattle.anti_play.specs.Runs.{IsRun};
-ghost use Rattle.anti_play.specs.Standing.{IsWorldOf, WorldStands};
-ghost use Rattle.anti_play.specs.Closing.{Steps};
+ghost use Rattle.anti_play.specs.inner.Standing.{IsWorldOf, WorldStands};
+ghost use Rattle.anti_play.specs.inner.Closing.{Steps};
 
 use crate::world::World;
 use anti_app::{App, Choice};
@@ -28,7 +28,7 @@ impl World {
     // Makes a choice, and tells whether it was no wait.
     fn make(&mut self, app: &App, choice: &Choice) -> Result<bool, NoMemory>
         requires sound { IsTrue (is_sound app.now) }
-        requires named { IsTrue (is_sound_choice (length app.now.regions.items) (length app.now.stores.items) (length app.now.services.items) choice.now) }
+        requires named { IsTrue (is_sound_choice app.now choice.now) }
         requires world { IsWorldOf app.now self.old }
         ensures { (run : Run) (number : ℕ) → WorldStands app.now self.old run.trace
             → IfOk result (λ made. Steps app.now run number choice.now made self.new) }

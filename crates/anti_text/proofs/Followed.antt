@@ -1,9 +1,9 @@
 -- A process followed through the front of a trace is followed through one more entry, and what it wants at the end.
 use Rattle.std.proofs.Common.{IfSome, if◌then◌else◌, ◌≡◌, ℕ, ◌+◌, ◌<◌, Bool, true, false, cond, List, [], ◌∷◌, ◌++◌, length, map, take, get_or, Some, None, Option, Result, Err, refl, ap, sym, subst, ◌∙◌, append-nil}
 use Rattle.std.proofs.lemmas.List.Elements.{filter_more}
-use Rattle.anti_kind.specs.declared.call.Actor.TheVariants as actors
-use Rattle.anti_kind.specs.declared.call.Birth.{Birth}
-use Rattle.anti_kind.specs.declared.call.Entry.{Entry}
+use Rattle.anti_kind.specs.declared.actor.Actor.TheVariants as actors
+use Rattle.anti_kind.specs.declared.actor.Birth.{Birth}
+use Rattle.anti_kind.specs.declared.entry.Entry.{Entry}
 use Rattle.anti_app.specs.declared.app.App.{App}
 use Rattle.anti_proc.specs.Running.{IsRunOf}
 use Rattle.anti_proc.specs.declared.process.Process.{Process}
@@ -18,7 +18,7 @@ use Rattle.anti_proc.specs.Meaning.{reply_of, tree_of, process_after}
 use Rattle.anti_proc.specs.Standing.{full_of, process_of}
 use Rattle.anti_proc.specs.Trees.{Tree, after, branch, want_of}
 use Rattle.anti_trace.specs.Traces.{is_by, entries_by, entries_on}
-use Rattle.anti_text.specs.Following.{left_after, Stands, IsFollowed}
+use Rattle.anti_text.specs.inner.Following.{left_after, Stands, IsFollowed}
 use Rattle.anti_text.specs.Processes.{ended_in, end_in, is_full_after}
 
 after-more : (tree : Tree) (es : List Entry) (e : Entry) → after tree (map reply_of (es ++ e ∷ [])) ≡ branch (after tree (map reply_of es)) e.reply

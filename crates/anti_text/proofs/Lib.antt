@@ -1,4 +1,5 @@
 pub mod Followed
+pub mod Looks
 pub mod Replayed
 pub mod Sound
 pub mod Worked

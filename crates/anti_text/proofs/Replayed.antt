@@ -1,9 +1,11 @@
 -- An object is replayed through one more entry of its history.
-use Rattle.std.proofs.Common.{Option, Some, None, MatchOption, ◌≡◌, ℕ, ◌+◌, ◌<◌, ◌≤◌, Bool, true, false, cond, List, [], ◌∷◌, ◌++◌, length, take, drop, get_or, ap, sym, subst, ◌∙◌, append-nil, append_assoc, arith}
-use Rattle.std.proofs.lemmas.List.{take-append-drop}
+use Rattle.std.proofs.Common.{Option, Some, None, MatchOption, ◌≡◌, ℕ, ◌+◌, ◌<◌, ◌≤◌, Bool, true, false, cond, List, [], ◌∷◌, ◌++◌, length, take, drop, get_or, ap, sym, subst, ◌∙◌, inl, inr, append-nil, append_assoc, length-append, arith}
+use Rattle.std.proofs.lemmas.Bool.{cases_lt}
+use Rattle.std.proofs.lemmas.List.{take-append-drop, get_or_append_left}
+use Rattle.std.proofs.Math.Seq.{get_or-append_seam}
 use Rattle.std.proofs.lemmas.List.Elements.{filter_more, filter-append}
 use Rattle.anti_kind.specs.declared.call.Call.{Call}
-use Rattle.anti_kind.specs.declared.call.Entry.{Entry}
+use Rattle.anti_kind.specs.declared.entry.Entry.{Entry}
 use Rattle.anti_kind.specs.Objects.{Start, Follows, IsLegal}
 use Rattle.anti_kind.proofs.Histories.{follows_in}
 use Rattle.anti_app.specs.declared.app.App.{App}
@@ -11,10 +13,10 @@ use Rattle.anti_object.specs.declared.object.Object.{Object}
 use Rattle.anti_object.specs.Standing.{object_start, ObjectAt, MayMake, IsNew}
 use Rattle.anti_object.specs.Starts.{start_of}
 use Rattle.anti_object.proofs.Starts.{start_past, start_there}
-use Rattle.anti_body.specs.Numbers.{object_count}
+use Rattle.anti_app.specs.Objects.{object_count}
 use Rattle.anti_trace.specs.Traces.{is_on, entries_on}
 use Rattle.anti_text.specs.Processes.{is_full_after}
-use Rattle.anti_text.specs.Replays.{AreAfter}
+use Rattle.anti_text.specs.inner.Replayed.{AreAfter, IsAfter}
 
 -- the history of an object in one entry more of the trace
 entries_more : (o : ℕ) (trace : List Entry) (i : ℕ) (e : Entry) (own : Bool) → i < length trace → e ≡ get_or trace i e → is_on o e ≡ own
@@ -62,3 +64,19 @@ none_full app trace count o objects call all is past =
 pub no_object : (app : App) (o : ℕ) (x : Option Object) → x ≡ None → MatchOption x (start_of app o ≡ None) (IsNew app o) → o < object_count app → ⊥
 no_object app o None is none lt = let there = start_there app o lt in let start : start_of app o ≡ Some there.0 = there.1 in cc
 no_object app o (Some y) is new lt = cc
+
+-- one object more, after its history
+pub objects_more : (app : App) (trace : List Entry) (count : ℕ) (objects : List Object) (x : Object) → AreAfter app trace count objects
+    → IsAfter app trace count x → AreAfter app trace (count + 1) (objects ++ x ∷ [])
+objects_more app trace count objects x all is = record {
+  many = omega (arith, all.many, length-append objects (x ∷ []));
+  each = λ o d lt. elim (cases_lt o (length objects)) [
+    | inl before ↦
+        subst (IsAfter app trace o) (sym (get_or_append_left objects (x ∷ []) d o before)) (all.each o d before)
+    | inr last ↦
+        let same : count ≡ o = omega (arith, last, lt, all.many, length-append objects (x ∷ [])) in
+        let here : get_or (objects ++ x ∷ []) o d ≡ x =
+        ap (λ (k : ℕ). get_or (objects ++ x ∷ []) k d) (sym same ∙ sym all.many) ∙ get_or-append_seam objects x [] d in
+        subst (IsAfter app trace o) (sym here) (subst (λ (k : ℕ). IsAfter app trace k x) same is)
+  ];
+}

@@ -3,7 +3,7 @@ use Rattle.std.proofs.Common.{◌<◌, ◌^◌, IsTrue, arith}
 use Rattle.anti_app.specs.Sound.{is_sound}
 use Rattle.anti_app.specs.declared.app.App.{App}
 use Rattle.anti_app.proofs.SoundLemmas.{app_known}
-use Rattle.anti_body.specs.Numbers.{object_count}
+use Rattle.anti_app.specs.Objects.{object_count}
 
 pub few_objects : (app : App) → IsTrue (is_sound app) → object_count app < 2 ^ 32
 few_objects app sound =

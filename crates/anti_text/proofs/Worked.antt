@@ -1,23 +1,25 @@
 -- The lines of a small run, worked out: a process writes and reads one key, and its last choice is a wait.
-use Rattle.std.proofs.Common.{◌≡◌, [], ◌∷◌, refl, Some, None}
+use Rattle.std.proofs.Common.{◌≡◌, ℕ, List, [], ◌∷◌, refl, Some, None}
 use Rattle.std.specs.Prelude.{codes}
 use Rattle.std.specs.Fmt.{digits}
 use Rattle.anti_ids.specs.List.{plain}
-use Rattle.anti_kind.specs.declared.call.Actor.{Actor}
-use Rattle.anti_kind.specs.declared.call.Actor.TheVariants.{Carrier, Process}
+use Rattle.anti_kind.specs.declared.actor.Actor.{Actor}
+use Rattle.anti_kind.specs.declared.actor.Actor.TheVariants.{Carrier, Process}
 use Rattle.anti_kind.specs.declared.call.Call.TheVariants as calls
-use Rattle.anti_kind.specs.declared.call.Entry.{Entry}
-use Rattle.anti_kind.specs.declared.call.Message.{Message}
-use Rattle.anti_kind.specs.declared.call.MessageKind.TheVariants as kinds
+use Rattle.anti_kind.specs.declared.entry.Entry.{Entry}
+use Rattle.anti_kind.specs.declared.message.Message.{Message}
+use Rattle.anti_kind.specs.declared.message.MessageKind.TheVariants as kinds
 use Rattle.anti_kind.specs.declared.call.Reply.TheVariants as replies
-use Rattle.anti_kind.specs.declared.call.Row.{Row}
-use Rattle.anti_kind.specs.declared.call.StoreKind.TheVariants.{Kv}
+use Rattle.anti_kind.specs.declared.row.Row.{Row}
+use Rattle.anti_kind.specs.declared.store_kind.StoreKind.TheVariants.{Kv, Queue}
 use Rattle.anti_ids.specs.declared.id.WriteId.{WriteId}
 use Rattle.anti_app.specs.declared.app.App.{App}
 use Rattle.anti_app.specs.declared.app.Choice.TheVariants.{Take, Ship, Go}
 use Rattle.anti_app.specs.declared.app.HandlerDef.{HandlerDef}
 use Rattle.anti_app.specs.declared.app.ServiceDef.{ServiceDef}
 use Rattle.anti_app.specs.declared.app.StoreDef.{StoreDef}
+use Rattle.anti_app.specs.declared.app.SubDef.{SubDef}
+use Rattle.anti_text.specs.Calls.{call_text, reply_text}
 use Rattle.anti_text.specs.Entries.{entry_line, wait_line}
 use Rattle.anti_text.specs.Processes.{process_line}
 use Rattle.percent_encoding.specs.Percent.{percent_encode_byte}
@@ -106,3 +108,52 @@ waits = refl
 pub ids : lineage_text app (id_k ∷ record { store = 0; key = codes "n#1"; version = 12 } ∷ []) ≡ codes "1;s/k@1,s/n%231@12"
 unfolding digits percent_encode_byte
 ids = refl
+
+-- Scans and subscriptions. The store q has the second and the third sub, which are its first and its second.
+
+abbrev store_q : StoreDef
+store_q = record { name = codes "q"; kind = Queue; replicas = plain (0 ∷ []); tries = 3 }
+
+abbrev sub_on_store : List ℕ → ℕ → SubDef
+sub_on_store name store = record { name = name; store = store; channel = codes "c"; service = 0; handler = 0 }
+
+abbrev subscribed : App
+subscribed = record app {
+  stores = plain (store_s ∷ store_q ∷ []);
+  subs = plain (sub_on_store (codes "other") 0 ∷ sub_on_store (codes "fans") 1 ∷ sub_on_store (codes "more") 1 ∷ []);
+}
+
+abbrev row_of_version : List ℕ → ℕ → Row
+row_of_version key version = record { key = key; version = version; value = codes "v"; lineage = [] }
+
+abbrev by_reader : Actor
+by_reader = Process (record { object = 1; place = 4 })
+
+abbrev pulled : Entry
+pulled = record { stamp = 8; object = 1; place = 4; seat = 0; actor = by_reader; span = 1; call = calls.Pull 1; reply = replies.Pulled (row_of_version (codes "c#1") 1) }
+
+pub scans : call_text app 0 (calls.Scan 0 (codes "ro")) ≡ codes "scan eu ro"
+scans = refl
+
+pub nothing-shown : reply_text app (replies.Shown (plain [])) ≡ codes "none"
+nothing-shown = refl
+
+pub rows-shown : reply_text app (replies.Shown (plain (row_of_version (codes "a") 3 ∷ row_of_version (codes "b") 2 ∷ []))) ≡ codes "a@3 \"v\" 1; + b@2 \"v\" 1;"
+unfolding digits percent_encode_byte
+rows-shown = refl
+
+pub part : call_text app 0 (calls.Ship 0 7 4) ≡ codes "ship eu 7 4"
+unfolding digits
+part = refl
+
+pub pull : entry_line subscribed pulled ≡ codes "8 q.4 q.4/1 pull more = c#1@1 \"v\" 1;\n"
+unfolding digits percent_encode_byte
+pull = refl
+
+pub repull : call_text subscribed 1 (calls.Repull 0 12) ≡ codes "repull fans 12"
+unfolding digits
+repull = refl
+
+pub pulled-birth : process_line subscribed pulled (Some Fine) ≡ codes "process q.4 w one fine\n"
+unfolding digits
+pulled-birth = refl

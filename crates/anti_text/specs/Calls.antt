@@ -4,14 +4,14 @@ use Rattle.std.specs.List.{join_by}
 use Rattle.anti_ids.specs.declared.id.WriteId.{WriteId}
 use Rattle.anti_kind.specs.declared.call.Call.{Call}
 use Rattle.anti_kind.specs.declared.call.Call.TheVariants as calls
-use Rattle.anti_kind.specs.declared.call.Message.{Message}
-use Rattle.anti_kind.specs.declared.call.MessageKind.{MessageKind}
-use Rattle.anti_kind.specs.declared.call.MessageKind.TheVariants as messages
+use Rattle.anti_kind.specs.declared.message.Message.{Message}
+use Rattle.anti_kind.specs.declared.message.MessageKind.{MessageKind}
+use Rattle.anti_kind.specs.declared.message.MessageKind.TheVariants as messages
 use Rattle.anti_kind.specs.declared.call.Reply.{Reply}
 use Rattle.anti_kind.specs.declared.call.Reply.TheVariants as replies
-use Rattle.anti_kind.specs.declared.call.Row.{Row}
+use Rattle.anti_kind.specs.declared.row.Row.{Row}
 use Rattle.anti_app.specs.declared.app.App.{App}
-use Rattle.anti_text.specs.Words.{region_name, quoted, lineage_text}
+use Rattle.anti_text.specs.Words.{region_name, sub_name_on, quoted, lineage_text}
 
 -- the kind, and what a message says: the handler, the depth, the value and the lineage
 abbrev pub kind_text : MessageKind → List ℕ
@@ -43,23 +43,26 @@ key_at_region app region key = region_name app region ++ codes " " ++ key
 abbrev pub part_at_region : App → ℕ → ℕ → ℕ → List ℕ
 part_at_region app region version part = region_name app region ++ codes " " ++ decimal version ++ codes " " ++ decimal part
 
--- A call. No application has subs today, so a pull has no text.
-abbrev pub call_text : App → Call → List ℕ
-call_text app (calls.Write key value lineage) = codes "write " ++ key ++ codes " " ++ quoted value ++ codes " " ++ lineage_text app lineage
-call_text app (calls.Read region key) = codes "read " ++ key_at_region app region key
-call_text app (calls.Scan region prefix) = codes "scan " ++ key_at_region app region prefix
-call_text app (calls.Poll region key) = codes "poll " ++ key_at_region app region key
-call_text app (calls.Look region ids dry) = (if dry then codes "dry " else codes "look ") ++ region_name app region ++ codes " " ++ lineage_text app ids
-call_text app (calls.Ship region version part) = codes "ship " ++ part_at_region app region version part
-call_text app (calls.Again region version part) = codes "again " ++ part_at_region app region version part
-call_text app (calls.Pull sub) = []
-call_text app (calls.Repull sub version) = []
-call_text app (calls.Ack version) = codes "ack " ++ decimal version
-call_text app (calls.Nack version) = codes "nack " ++ decimal version
-call_text app (calls.Post message) = codes "post " ++ posted_text message message.kind
-call_text app (calls.Take nth) = codes "take " ++ decimal nth
-call_text app (calls.Repost number) = codes "repost " ++ decimal number
-call_text app (calls.TakeReply number) = codes "takereply " ++ decimal number
+-- a call at the object with a number; a pull names the sub at its position among those of that store
+abbrev pub call_text : App → ℕ → Call → List ℕ
+call_text app object (calls.Write key value lineage) =
+    codes "write " ++ key ++ codes " " ++ quoted value ++ codes " " ++ lineage_text app lineage
+call_text app object (calls.Read region key) = codes "read " ++ key_at_region app region key
+call_text app object (calls.Scan region prefix) = codes "scan " ++ key_at_region app region prefix
+call_text app object (calls.Poll region key) = codes "poll " ++ key_at_region app region key
+call_text app object (calls.Look region ids dry) =
+    (if dry then codes "dry " else codes "look ") ++ region_name app region ++ codes " " ++ lineage_text app ids
+call_text app object (calls.Ship region version part) = codes "ship " ++ part_at_region app region version part
+call_text app object (calls.Again region version part) = codes "again " ++ part_at_region app region version part
+call_text app object (calls.Pull sub) = codes "pull " ++ sub_name_on app object sub
+call_text app object (calls.Repull sub version) =
+    codes "repull " ++ sub_name_on app object sub ++ codes " " ++ decimal version
+call_text app object (calls.Ack version) = codes "ack " ++ decimal version
+call_text app object (calls.Nack version) = codes "nack " ++ decimal version
+call_text app object (calls.Post message) = codes "post " ++ posted_text message message.kind
+call_text app object (calls.Take nth) = codes "take " ++ decimal nth
+call_text app object (calls.Repost number) = codes "repost " ++ decimal number
+call_text app object (calls.TakeReply number) = codes "takereply " ++ decimal number
 
 -- a key with its version, as `p1@3`
 abbrev pub version_text : List ℕ → ℕ → List ℕ

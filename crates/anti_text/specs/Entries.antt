@@ -1,26 +1,34 @@
 -- The lines of the entries, and of the choices that made none.
 use Rattle.std.specs.Prelude.{ℕ, List, [], ◌++◌, ◌-◌, codes, decimal, Option, Some, None, slice_get}
 use Rattle.std.specs.Option.{option_map_or}
-use Rattle.anti_kind.specs.declared.call.Actor.{Actor}
-use Rattle.anti_kind.specs.declared.call.Actor.TheVariants.{Carrier, Process, Newborn}
-use Rattle.anti_kind.specs.declared.call.Entry.{Entry}
+use Rattle.anti_kind.specs.declared.actor.Actor.{Actor}
+use Rattle.anti_kind.specs.declared.actor.Actor.TheVariants.{Carrier, Process, Newborn}
+use Rattle.anti_kind.specs.declared.entry.Entry.{Entry}
 use Rattle.anti_app.specs.declared.app.App.{App}
 use Rattle.anti_app.specs.declared.app.Choice.{Choice}
 use Rattle.anti_app.specs.declared.app.Choice.TheVariants.{Take, Repost, Pull, Repull, Ship, Again, Go, Finish}
 use Rattle.anti_text.specs.Words.{sub_name, store_name, service_name, region_name, mark_text}
 use Rattle.anti_text.specs.Calls.{call_text, reply_text}
 
--- who made a call: carrier 0 as `~0`, a process by its birth and the span, as `w.1/1`; no entry is a newborn's
+-- who made a call: carrier 0 as `~0`, a process by its birth, as `w.1`; no entry is a newborn's
+abbrev pub actor_name : App → Actor → List ℕ
+actor_name app (Carrier number) = codes "~" ++ decimal number
+actor_name app (Process birth) = mark_text app birth.object birth.place
+actor_name app Newborn = []
+
+-- the same with the span of a process, as `w.1/1`
+abbrev pub span_text : Actor → ℕ → List ℕ
+span_text (Process birth) span = codes "/" ++ decimal span
+span_text _ span = []
+
 abbrev pub actor_text : App → Actor → ℕ → List ℕ
-actor_text app (Carrier number) span = codes "~" ++ decimal number
-actor_text app (Process birth) span = mark_text app birth.object birth.place ++ codes "/" ++ decimal span
-actor_text app Newborn span = []
+actor_text app actor span = actor_name app actor ++ span_text actor span
 
 -- an entry, as `2 s.1 w.1/1 write k "a" 1; = k@1`
 abbrev pub entry_line : App → Entry → List ℕ
 entry_line app e =
     decimal e.stamp ++ codes " " ++ mark_text app e.object e.place ++ codes " " ++ actor_text app e.actor e.span
-    ++ codes " " ++ call_text app e.call ++ codes " = " ++ reply_text app e.reply ++ codes "\n"
+    ++ codes " " ++ call_text app e.object e.call ++ codes " = " ++ reply_text app e.reply ++ codes "\n"
 
 -- a choice in its own words; a part that was left out stays out
 abbrev pub part_text : Option ℕ → List ℕ

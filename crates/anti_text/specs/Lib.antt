@@ -1,7 +1,7 @@
 pub mod Calls
 pub mod Entries
-pub mod Following
 pub mod Processes
 pub mod Record
 pub mod Replays
 pub mod Words
+pub mod inner

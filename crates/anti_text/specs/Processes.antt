@@ -1,14 +1,19 @@
 -- The lines of the processes.
-use Rattle.std.specs.Prelude.{ℕ, zero, suc, ◌-◌, ◌&&◌, Bool, false, not, List, [], ◌++◌, length, codes, if◌then◌else◌, Option, Some, None}
+use Rattle.std.specs.Prelude.{ℕ, zero, suc, ◌&&◌, Bool, false, not, List, [], ◌++◌, codes, if◌then◌else◌, Option, Some, None, slice_get}
 use Rattle.std.specs.List.{flat_map}
-use Rattle.anti_kind.specs.declared.call.Actor.TheVariants.{Process}
-use Rattle.anti_kind.specs.declared.call.Birth.{Birth}
+use Rattle.std.specs.Option.{option_and_then, option_map_or}
+use Rattle.anti_kind.specs.declared.actor.Actor.TheVariants.{Process}
+use Rattle.anti_kind.specs.declared.actor.Birth.{Birth}
 use Rattle.anti_kind.specs.declared.call.Call.{Call}
-use Rattle.anti_kind.specs.declared.call.Entry.{Entry}
+use Rattle.anti_kind.specs.declared.call.Call.TheVariants as calls
+use Rattle.anti_kind.specs.declared.entry.Entry.{Entry}
 use Rattle.anti_kind.specs.declared.call.Reply.{Reply}
 use Rattle.anti_kind.specs.declared.call.Reply.TheVariants as replies
 use Rattle.anti_kind.specs.Objects.{Start, ready, fits}
 use Rattle.anti_app.specs.declared.app.App.{App}
+use Rattle.anti_app.specs.declared.app.SubDef.{SubDef}
+use Rattle.anti_app.specs.Objects.{service_at}
+use Rattle.anti_app.specs.Subs.{number_on}
 use Rattle.anti_object.specs.Starts.{start_of}
 use Rattle.anti_proc.specs.Births.{birth_at, is_birth}
 use Rattle.anti_proc.specs.Meaning.{process_after}
@@ -18,7 +23,7 @@ use Rattle.anti_proc.specs.declared.want.Want.TheVariants.{Make, Over}
 use Rattle.anti_proc.specs.declared.want.End.{End}
 use Rattle.anti_proc.specs.declared.want.End.TheVariants.{Fine, Depth, BadKey, LineageFull, StoreFull}
 use Rattle.anti_trace.specs.Traces.{is_on, entries_on, entries_by}
-use Rattle.anti_text.specs.Words.{service_name, object_name, mark_text}
+use Rattle.anti_text.specs.Words.{service_name, handler_name, object_name, mark_text}
 
 -- whether a call is ready after a history of an object that starts so, and does not fit there
 abbrev pub is_full_after : List Entry → Call → Option Start → Bool
@@ -44,18 +49,38 @@ end_text app (Some LineageFull) = codes "lineage"
 end_text app (Some (StoreFull object)) = codes "store " ++ object_name app object
 end_text app None = codes "open"
 
--- the handler that a birth started: the one that the message names
-abbrev pub handler_text : Reply → List ℕ
-handler_text (replies.Got number message) = message.handler
-handler_text _ = []
+-- The service and the handler that a birth runs. A pull starts the handler of its sub; what is taken from an inbox starts, in the
+-- service of the inbox, the handler that the message names.
 
--- the service of an inbox
-abbrev pub service_text : App → ℕ → List ℕ
-service_text app object = service_name app (object - length app.stores.items)
+-- the sub at a position among those of a store
+abbrev pub sub_on : App → ℕ → ℕ → Option SubDef
+sub_on app store position = option_and_then (λ number. slice_get app.subs.items number) (number_on app store position)
+
+abbrev pub sub_service : App → ℕ → ℕ → List ℕ
+sub_service app store position = option_map_or (λ sub. service_name app sub.service) (sub_on app store position) []
+
+abbrev pub sub_handler : App → ℕ → ℕ → List ℕ
+sub_handler app store position = option_map_or (λ sub. handler_name app sub.service sub.handler) (sub_on app store position) []
+
+abbrev pub service_text : App → ℕ → Call → List ℕ
+service_text app object (calls.Pull sub) = sub_service app object sub
+service_text app object (calls.Repull sub version) = sub_service app object sub
+service_text app object _ = service_name app (service_at app object)
+
+abbrev pub handler_taken : Reply → List ℕ
+handler_taken (replies.Got number message) = message.handler
+handler_taken _ = []
+
+abbrev pub handler_text : App → ℕ → Call → Reply → List ℕ
+handler_text app object (calls.Pull sub) reply = sub_handler app object sub
+handler_text app object (calls.Repull sub version) reply = sub_handler app object sub
+handler_text app object _ reply = handler_taken reply
 
 -- a birth, as `w.1 w one`: its place, and the service and the handler that it runs
 abbrev pub birth_text : App → Entry → List ℕ
-birth_text app e = mark_text app e.object e.place ++ codes " " ++ service_text app e.object ++ codes " " ++ handler_text e.reply
+birth_text app e =
+    mark_text app e.object e.place ++ codes " " ++ service_text app e.object e.call
+    ++ codes " " ++ handler_text app e.object e.call e.reply
 
 -- the process of a birth, as `process w.1 w one fine`
 abbrev pub process_line : App → Entry → Option End → List ℕ

@@ -1,10 +1,10 @@
 -- The record of a run, as text.
 use Rattle.std.specs.Prelude.{ℕ, List, ◌++◌, length, codes, decimal}
 use Rattle.std.specs.List.{flat_map}
-use Rattle.anti_kind.specs.declared.call.Entry.{Entry}
+use Rattle.anti_kind.specs.declared.entry.Entry.{Entry}
 use Rattle.anti_app.specs.declared.app.App.{App}
 use Rattle.anti_text.specs.Entries.{entry_line, wait_line}
-use Rattle.anti_body.specs.Numbers.{object_count}
+use Rattle.anti_app.specs.Objects.{object_count}
 use Rattle.anti_text.specs.Processes.{process_lines}
 
 -- a line for each entry in the order of the trace, for each choice that made none, and for each process; last how many entries there are

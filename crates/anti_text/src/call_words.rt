@@ -3,7 +3,7 @@ ghost use Rattle.anti_text.specs.Calls.{kind_text, value_and_baggage, handler_an
 
 use crate::output::Output;
 use crate::printer::Printer;
-use crate::words::{quoted, region_name};
+use crate::words::{quoted, region_name, sub_name_on};
 use anti_app::App;
 use anti_ids::{Name, NoMemory};
 use anti_kind::{Call, Message, MessageKind};
@@ -85,9 +85,14 @@ fn part_at_region(
     out.number(u64::from(part))
 }
 
-/// Writes a call.
-pub fn call_text(out: &mut Output, printer: &Printer, call: &Call) -> Result<(), NoMemory>
-    ensures { OnOk result (out.new ≡ out.old ++ call_text printer.now.app.now call.now) }
+/// Writes a call at the object with a number.
+pub fn call_text(
+    out: &mut Output,
+    printer: &Printer,
+    object: u32,
+    call: &Call,
+) -> Result<(), NoMemory>
+    ensures { OnOk result (out.new ≡ out.old ++ call_text printer.now.app.now object call.now) }
 {
     let app = printer.app;
     match call {
@@ -141,7 +146,16 @@ pub fn call_text(out: &mut Output, printer: &Printer, call: &Call) -> Result<(),
             out.put(b"again ")?;
             part_at_region(out, app, *region, *version, *part)
         }
-        Call::Pull { .. } | Call::Repull { .. } => Ok(()),
+        Call::Pull { sub } => {
+            out.put(b"pull ")?;
+            sub_name_on(out, app, object, *sub)
+        }
+        Call::Repull { sub, version } => {
+            out.put(b"repull ")?;
+            sub_name_on(out, app, object, *sub)?;
+            out.put(b" ")?;
+            out.number(*version)
+        }
         Call::Ack { version } => {
             out.put(b"ack ")?;
             out.number(*version)

@@ -1,16 +1,16 @@
 ghost use Rattle.std.specs.Prelude.{◌≡◌, List, All, IfOk, IfSome};
 ghost use Rattle.std.specs.Option.{option_map};
-ghost use Rattle.anti_kind.specs.declared.call.Entry.{Entry};
+ghost use Rattle.anti_kind.specs.declared.entry.Entry.{Entry};
 ghost use Rattle.anti_app.specs.declared.app.App.{App};
 ghost use Rattle.anti_object.specs.Starts.{start_of};
 ghost use Rattle.anti_trace.specs.Traces.{entries_on};
 ghost use Rattle.anti_proc.specs.Known.{IsEntryOf, IsReplyAt};
-ghost use Rattle.anti_body.specs.Numbers.{object_count};
-ghost use Rattle.anti_body.specs.Running.{CanRun};
+ghost use Rattle.anti_app.specs.Objects.{object_count};
+ghost use Rattle.anti_app.specs.Running.{CanRun};
 ghost use Rattle.anti_proc.specs.Running.{IsRunOf};
-ghost use Rattle.anti_text.specs.Following.{IsLeftAfter, IsFollowed};
+ghost use Rattle.anti_text.specs.inner.Following.{IsLeftAfter, IsFollowed};
 ghost use Rattle.anti_text.specs.Processes.{end_in, is_full_after};
-ghost use Rattle.anti_text.specs.Replays.{AreAfter};
+ghost use Rattle.anti_text.specs.inner.Replayed.{AreAfter};
 
 use anti_app::App;
 use anti_ids::NoMemory;

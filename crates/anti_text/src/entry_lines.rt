@@ -1,5 +1,5 @@
 ghost use Rattle.std.specs.Prelude.{◌≡◌, ◌++◌, OnOk};
-ghost use Rattle.anti_text.specs.Entries.{actor_text, entry_line};
+ghost use Rattle.anti_text.specs.Entries.{actor_name, span_text, actor_text, entry_line};
 
 use crate::call_words::call_text;
 use crate::output::Output;
@@ -11,21 +11,38 @@ use anti_ids::NoMemory;
 use anti_kind::{Actor, Entry};
 
 // Writes who made a call.
-fn actor_text(out: &mut Output, app: &App, actor: Actor, span: u32) -> Result<(), NoMemory>
-    ensures { OnOk result (out.new ≡ out.old ++ actor_text app.now actor span) }
+fn actor_name(out: &mut Output, app: &App, actor: Actor) -> Result<(), NoMemory>
+    ensures { OnOk result (out.new ≡ out.old ++ actor_name app.now actor) }
 {
     match actor {
         Actor::Carrier(number) => {
             out.put(b"~")?;
             out.number(u64::from(number))
         }
-        Actor::Process(birth) => {
-            mark_text(out, app, birth.object, birth.place)?;
+        Actor::Process(birth) => mark_text(out, app, birth.object, birth.place),
+        Actor::Newborn => Ok(()),
+    }
+}
+
+// Writes the span of a process.
+fn span_text(out: &mut Output, actor: Actor, span: u32) -> Result<(), NoMemory>
+    ensures { OnOk result (out.new ≡ out.old ++ span_text actor span) }
+{
+    match actor {
+        Actor::Process(_) => {
             out.put(b"/")?;
             out.number(u64::from(span))
         }
-        Actor::Newborn => Ok(()),
+        Actor::Carrier(_) | Actor::Newborn => Ok(()),
     }
+}
+
+// Writes who made a call, with the span of a process.
+fn actor_text(out: &mut Output, app: &App, actor: Actor, span: u32) -> Result<(), NoMemory>
+    ensures { OnOk result (out.new ≡ out.old ++ actor_text app.now actor span) }
+{
+    actor_name(out, app, actor)?;
+    span_text(out, actor, span)
 }
 
 /// Writes the line of an entry.
@@ -39,7 +56,7 @@ pub fn entry_line(out: &mut Output, printer: &Printer, entry: &Entry) -> Result<
     out.put(b" ")?;
     actor_text(out, app, entry.actor, entry.span)?;
     out.put(b" ")?;
-    call_text(out, printer, &entry.call)?;
+    call_text(out, printer, entry.object, &entry.call)?;
     out.put(b" = ")?;
     reply_text(out, printer, &entry.reply)?;
     out.put(b"\n")

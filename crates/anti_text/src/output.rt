@@ -1,9 +1,10 @@
 ghost use Rattle.std.specs.Prelude.{◌≡◌, [], ◌++◌, decimal, OnOk};
 ghost use Rattle.anti_ids.specs.List.{plain};
 ghost use Rattle.anti_baggage.specs.Escapes.{escaped};
+ghost use Rattle.anti_baggage.specs.Texts.{lineage_text};
 
-use anti_baggage::escape;
-use anti_ids::{Bytes, NoMemory};
+use anti_baggage::{add_lineage, escape};
+use anti_ids::{Bytes, Lineage, List, Name, NoMemory};
 use itoa::Buffer;
 use std::alloc::Global;
 use std::marker::Model;
@@ -11,7 +12,7 @@ use std::marker::Model;
 /// Text that grows at its end. Contracts see its bytes.
 #[derive(Drop)]
 pub struct Output {
-    bytes: Bytes,
+    bytes: List<u8>,
 }
 
 impl Model for Output {
@@ -30,7 +31,7 @@ impl Output {
         ensures { result ≡ [] }
     {
         Output {
-            bytes: Bytes::new(alloc),
+            bytes: List::new(alloc),
         }
     }
 
@@ -56,11 +57,18 @@ impl Output {
         self.put(digits.format(number).as_bytes())
     }
 
+    /// Adds the text of a lineage at the end, over the names of the stores by their numbers.
+    pub fn lineage(&mut self, stores: &[Name], lineage: &Lineage) -> Result<(), NoMemory>
+        ensures { OnOk result (self.new ≡ self.old ++ lineage_text stores.now lineage.now) }
+    {
+        add_lineage(&mut self.bytes, stores, lineage)
+    }
+
     /// The text as a list of bytes.
     pub fn into_bytes(self) -> Bytes
         ensures { result ≡ plain self }
     {
         let Output { bytes } = self;
-        bytes
+        Bytes::from(bytes)
     }
 }

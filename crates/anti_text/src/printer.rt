@@ -1,11 +1,9 @@
 ghost use Rattle.std.specs.Prelude.{◌≡◌, ◌++◌, IfOk, OnOk};
-ghost use Rattle.anti_body.specs.Numbers.{store_names};
+ghost use Rattle.anti_app.specs.Objects.{store_names};
 ghost use Rattle.anti_text.specs.Words.{lineage_text};
 
 use crate::output::Output;
-use anti_app::App;
-use anti_baggage::encode;
-use anti_body::store_names;
+use anti_app::{App, store_names};
 use anti_ids::{Lineage, Name, NoMemory};
 use std::alloc::Global;
 
@@ -32,7 +30,6 @@ impl<'a> Printer<'a> {
     pub fn lineage(&self, out: &mut Output, lineage: &Lineage) -> Result<(), NoMemory>
         ensures { OnOk result (out.new ≡ out.old ++ lineage_text self.now.app.now lineage.now) }
     {
-        let text = encode(self.alloc, self.stores.as_slice(), lineage)?;
-        out.put(text.bytes())
+        out.lineage(self.stores.as_slice(), lineage)
     }
 }

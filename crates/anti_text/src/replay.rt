@@ -1,12 +1,13 @@
 ghost use Rattle.std.specs.Prelude.{◌≡◌, ◌<◌, List, [], ◌∷◌, ◌++◌, IfOk, OnOk};
-ghost use Rattle.anti_kind.specs.declared.call.Entry.{Entry};
+ghost use Rattle.anti_kind.specs.declared.entry.Entry.{Entry};
 ghost use Rattle.anti_kind.specs.Objects.{Follows, IsLegal};
 ghost use Rattle.anti_object.specs.Standing.{object_start, ObjectAt, MayMake};
 ghost use Rattle.anti_trace.specs.Traces.{entries_on};
-ghost use Rattle.anti_body.specs.Numbers.{object_count};
-ghost use Rattle.anti_text.specs.Replays.{AreAfter, IsAfter, IsReplayable};
+ghost use Rattle.anti_app.specs.Objects.{object_count};
+ghost use Rattle.anti_text.specs.inner.Replayed.{AreAfter, IsAfter};
+ghost use Rattle.anti_text.specs.Replays.{IsReplayable};
 
-use anti_app::App;
+use anti_app::{App, object_count};
 use anti_ids::NoMemory;
 use anti_kind::{Entry, Machine};
 use anti_object::Object;
@@ -53,18 +54,24 @@ fn object_after(alloc: Global, app: &App, trace: &[Entry], number: u32) -> Resul
     }
 }
 
+// Adds an object behind others.
+fn add(objects: &mut Vec<Object>, object: Object) -> Result<(), NoMemory>
+    ensures { OnOk result (objects.new.items ≡ objects.old.items ++ object ∷ []) }
+{
+    match objects.push(object) {
+        Ok(()) => Ok(()),
+        Err(_) => Err(NoMemory),
+    }
+}
+
 /// The objects of an application, each after its history in a trace.
 pub fn objects_after(alloc: Global, app: &App, trace: &[Entry]) -> Result<Vec<Object>, NoMemory>
     requires { IsReplayable app.now trace.now }
     ensures { IfOk result (λ objects. AreAfter app.now trace.now (object_count app.now) objects.items) }
 {
     let mut objects = Vec::new(alloc);
-    let count = (app.stores.len() + app.services.len()) as u32;
-    for number in 0..count {
-        let object = object_after(alloc, app, trace, number)?;
-        if objects.push(object).is_err() {
-            return Err(NoMemory);
-        }
+    for number in 0..object_count(app) {
+        add(&mut objects, object_after(alloc, app, trace, number)?)?;
     }
     Ok(objects)
 }

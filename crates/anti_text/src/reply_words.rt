@@ -1,4 +1,4 @@
-ghost use Rattle.std.specs.Prelude.{◌≡◌, ◌++◌, OnOk};
+ghost use Rattle.std.specs.Prelude.{◌≡◌, ◌++◌, ◌&&◌, ◌==◌, length, OnOk};
 ghost use Rattle.anti_text.specs.Calls.{taken_text, version_text, row_text, rows_text, look_text, reply_text};
 
 use crate::call_words::{handler_and_rest, kind_text, value_and_baggage};
@@ -68,7 +68,15 @@ fn rows_text(out: &mut Output, printer: &Printer, rows: &[Row]) -> Result<(), No
     Ok(())
 }
 
+// Whether a look named nothing.
+fn are_empty(missing: &Lineage, unwritten: &Lineage) -> bool
+    ensures { result ≡ ((length missing.now == 0) && (length unwritten.now == 0)) }
+{
+    missing.is_empty() && unwritten.is_empty()
+}
+
 // Writes what a look named.
+#[tactic(auto, using(crate::proofs::Looks::clear_is, crate::proofs::Looks::named_is))]
 fn look_text(
     out: &mut Output,
     printer: &Printer,
@@ -77,15 +85,13 @@ fn look_text(
 ) -> Result<(), NoMemory>
     ensures { OnOk result (out.new ≡ out.old ++ look_text printer.now.app.now missing.now unwritten.now) }
 {
-    match (missing.as_slice(), unwritten.as_slice()) {
-        ([], []) => out.put(b"clear"),
-        _ => {
-            out.put(b"missing ")?;
-            printer.lineage(out, missing)?;
-            out.put(b" unwritten ")?;
-            printer.lineage(out, unwritten)
-        }
+    if are_empty(missing, unwritten) {
+        return out.put(b"clear");
     }
+    out.put(b"missing ")?;
+    printer.lineage(out, missing)?;
+    out.put(b" unwritten ")?;
+    printer.lineage(out, unwritten)
 }
 
 /// Writes a reply.

@@ -57,11 +57,11 @@ fn choice_text(out: &mut Output, app: &App, choice: &Choice) -> Result<(), NoMem
         }
         Choice::Pull { sub } => {
             out.put(b"pull ")?;
-            sub_name(out, app, *sub)
+            sub_name(out, app, *sub as usize)
         }
         Choice::Repull { sub, version } => {
             out.put(b"repull ")?;
-            sub_name(out, app, *sub)?;
+            sub_name(out, app, *sub as usize)?;
             out.put(b" ")?;
             out.number(*version)
         }

@@ -1,8 +1,8 @@
 ghost use Rattle.std.specs.Prelude.{◌≡◌, ◌++◌, OnOk};
-ghost use Rattle.anti_text.specs.Words.{store_name, service_name, sub_name, region_name, object_name, mark_text, quoted};
+ghost use Rattle.anti_text.specs.Words.{store_name, service_name, name_among, handler_name, sub_name, sub_name_on, region_name, object_name, mark_text, quoted};
 
 use crate::output::Output;
-use anti_app::App;
+use anti_app::{App, HandlerDef, ObjectAt, number_on, object_at};
 use anti_ids::NoMemory;
 
 /// Writes the name of a store, by its number.
@@ -25,12 +25,47 @@ pub fn service_name(out: &mut Output, app: &App, service: usize) -> Result<(), N
     }
 }
 
+// Writes the name of a handler among those of a service, by its number.
+fn name_among(out: &mut Output, handlers: &[HandlerDef], handler: usize) -> Result<(), NoMemory>
+    ensures { OnOk result (out.new ≡ out.old ++ name_among handler handlers.now) }
+{
+    match handlers.get(handler) {
+        Some(found) => out.put(found.name.bytes()),
+        None => Ok(()),
+    }
+}
+
+/// Writes the name of a handler of a service, by their numbers.
+pub fn handler_name(
+    out: &mut Output,
+    app: &App,
+    service: usize,
+    handler: usize,
+) -> Result<(), NoMemory>
+    ensures { OnOk result (out.new ≡ out.old ++ handler_name app.now service handler) }
+{
+    match app.services.as_slice().get(service) {
+        Some(found) => name_among(out, found.handlers.as_slice(), handler),
+        None => Ok(()),
+    }
+}
+
 /// Writes the name of a sub, by its number.
-pub fn sub_name(out: &mut Output, app: &App, sub: u32) -> Result<(), NoMemory>
+pub fn sub_name(out: &mut Output, app: &App, sub: usize) -> Result<(), NoMemory>
     ensures { OnOk result (out.new ≡ out.old ++ sub_name app.now sub) }
 {
-    match app.subs.as_slice().get(sub as usize) {
+    match app.subs.as_slice().get(sub) {
         Some(found) => out.put(found.name.bytes()),
+        None => Ok(()),
+    }
+}
+
+/// Writes the name of the sub at a position among those of a store.
+pub fn sub_name_on(out: &mut Output, app: &App, store: u32, position: u32) -> Result<(), NoMemory>
+    ensures { OnOk result (out.new ≡ out.old ++ sub_name_on app.now store position) }
+{
+    match number_on(app, store, position as usize) {
+        Some(number) => sub_name(out, app, number),
         None => Ok(()),
     }
 }
@@ -45,16 +80,14 @@ pub fn region_name(out: &mut Output, app: &App, region: u32) -> Result<(), NoMem
     }
 }
 
-/// Writes the name of an object, by its number: the stores come first, then the services.
+/// Writes the name of an object, by its number: that of the store, or of the service whose inbox it is.
 pub fn object_name(out: &mut Output, app: &App, object: u32) -> Result<(), NoMemory>
     ensures { OnOk result (out.new ≡ out.old ++ object_name app.now object) }
 {
-    let object = object as usize;
-    let stores = app.stores.len();
-    if object < stores {
-        store_name(out, app, object)
-    } else {
-        service_name(out, app, object - stores)
+    match object_at(app, object) {
+        Some(ObjectAt::Store(store)) => store_name(out, app, store as usize),
+        Some(ObjectAt::Inbox(service)) => service_name(out, app, service as usize),
+        None => Ok(()),
     }
 }
 

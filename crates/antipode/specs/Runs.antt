@@ -9,7 +9,7 @@ use Rattle.anti_text.specs.Record.{text_of}
 use Rattle.anti_play.specs.Runs.{IsRun}
 use Rattle.anti_play.specs.Schedule.{trace_of, waits_of}
 use Rattle.antipode.specs.declared.outcome.RunKept.{RunKept}
-use Rattle.antipode.specs.declared.preparing.TheConstants.{LONGEST_DOCUMENT}
+use Rattle.anti_ids.specs.declared.limits.TheConstants.{LONGEST_DOCUMENT}
 
 -- the application that bytes state, or why they state none
 unfoldable pub application_of : List ℕ → Result App AppFault

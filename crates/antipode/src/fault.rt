@@ -3,6 +3,7 @@ ghost use Rattle.antipode.specs.Faults.{fault_of, status_of};
 ghost use Rattle.antipode.specs.Lines.{line_of, part_word};
 
 use anti_app::{AppFault, Part, Place};
+use anti_ids::LONGEST_LINE;
 use arrayvec::ArrayString;
 use itoa::Buffer;
 
@@ -11,11 +12,11 @@ use itoa::Buffer;
 pub enum TopFault {
     /// The words ask for nothing that the program does.
     Usage,
-    /// A read failed: the count of faults of the source rose in this call.
+    /// A read failed: the count of faults of the source rose in this call, and not more bytes were taken before than a document has.
     ReadFault,
     /// A write failed: the count of faults of the sink rose in this call. A front of the text was written.
     WriteFault,
-    /// The source has more than 262,144 bytes.
+    /// The source has more than `LONGEST_DOCUMENT` bytes.
     TooLong,
     /// The bytes are no TOML document.
     NotToml,
@@ -26,9 +27,6 @@ pub enum TopFault {
     /// Memory ran out before the first byte was written.
     NoMemory,
 }
-
-/// The most bytes of a line that tells a fault.
-pub const LONGEST_LINE: usize = 160;
 
 /// The fault of the call for the fault of its bytes.
 pub fn fault_of(fault: AppFault) -> TopFault

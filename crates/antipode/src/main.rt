@@ -8,12 +8,12 @@ ghost use Rattle.antipode.specs.Words.{word_of};
 mod call_tests;
 mod command;
 mod fault;
+#[cfg(test)]
+mod kind_tests;
 mod outcome;
 mod preparing;
 #[cfg(test)]
 mod rule_tests;
-#[cfg(test)]
-mod shim_tests;
 mod telling;
 #[cfg(test)]
 mod tests;

@@ -1,5 +1,5 @@
 ghost use Rattle.std.specs.Prelude.{◌≡◌, ℕ, ◌≤◌, List, length, None, Some, false, Ok, Err, IfOk, OnOk, IfErr, IfSome};
-ghost use Rattle.anti_edge.specs.Outside.{Rose};
+ghost use Rattle.anti_ids.specs.Counts.{Rose};
 ghost use Rattle.antipode.specs.Words.{command_of};
 ghost use Rattle.antipode.specs.Faults.{keeps_run};
 ghost use Rattle.antipode.specs.Causes.{HasCause, IsFaultOf};
@@ -10,13 +10,10 @@ use crate::fault::{TopFault, fault_of};
 use crate::outcome::RunKept;
 use anti_app::{App, read_app};
 use anti_edge::{ReadRefused, Source, read_all};
-use anti_ids::{Bytes, NoMemory, Value};
+use anti_ids::{Bytes, LONGEST_DOCUMENT, NoMemory, Value};
 use anti_play::{Played, play};
 use anti_text::text;
 use std::alloc::Global;
-
-/// The most bytes of a document.
-pub const LONGEST_DOCUMENT: u32 = 262_144;
 
 /// All that is made before the first byte is written.
 #[derive(Drop)]
@@ -31,7 +28,8 @@ pub struct Prepared {
 fn document<S: Source>(alloc: Global, src: &mut S) -> Result<Bytes, TopFault>
     ensures all { IfOk result (λ bytes. IfSome (S.left src.old) (λ left. bytes.items ≡ left)) }
     ensures short { IfOk result (λ bytes. length bytes.items ≤ LONGEST_DOCUMENT) }
-    ensures cause { (words : List (List ℕ)) → IfErr result (HasCause words (S.left src.old) (Rose (S.faults src.old) (S.faults src.new)) ⊥) }
+    ensures cause { (words : List (List ℕ)) → IfErr result (HasCause words (S.left src.old) (S.left src.new)
+        (Rose (S.faults src.old) (S.faults src.new)) ⊥) }
     ensures unwritten { IfErr result (λ fault. keeps_run (Some fault) ≡ false) }
     ensures words { ¬ (result ≡ Err TopFault.Usage) }
 {
@@ -80,7 +78,8 @@ pub fn prepare<S: Source>(alloc: Global, words: &[Value], src: &mut S) -> Result
     ensures asked { OnOk result (command_of words.now ≡ Some Command.Step) }
 
     // Each fault has its cause, and none is of writing.
-    ensures cause { IfErr result (HasCause words.now (S.left src.old) (Rose (S.faults src.old) (S.faults src.new)) ⊥) }
+    ensures cause { IfErr result (HasCause words.now (S.left src.old) (S.left src.new)
+        (Rose (S.faults src.old) (S.faults src.new)) ⊥) }
     ensures unwritten { IfErr result (λ fault. keeps_run (Some fault) ≡ false) }
     ensures usage { command_of words.now ≡ None → result ≡ Err TopFault.Usage }
     ensures src { result ≡ Err TopFault.Usage → src.new ≡ src.old }

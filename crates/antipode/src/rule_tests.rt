@@ -418,7 +418,7 @@ service = [{name = 'a', region = 'us', handler = [{name = 'h', body = ['send s h
     ),
     (
         "regions = ['us']
-store = [{name = 's', kind = 'table', replicas = ['us']}]",
+store = [{name = 's', kind = 'queue', replicas = ['us']}]",
         "app 25 top 0 0\n",
     ),
     (

@@ -1,5 +1,6 @@
 ghost use Rattle.std.specs.Prelude.{◌≡◌};
-ghost use Rattle.anti_edge.specs.Outside.{Rose, AddsFront, with_bytes};
+ghost use Rattle.anti_ids.specs.Counts.{Rose};
+ghost use Rattle.anti_edge.specs.Outside.{AddsFront, with_bytes};
 ghost use Rattle.antipode.specs.Lines.{line_of};
 
 use crate::fault::{TopFault, line_of};

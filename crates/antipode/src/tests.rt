@@ -1,7 +1,6 @@
-use crate::preparing::LONGEST_DOCUMENT;
 use crate::top::antipode_plain;
 use anti_edge::{MemorySink, MemorySource};
-use anti_ids::{Bytes, List, Value, add};
+use anti_ids::{Bytes, LONGEST_DOCUMENT, List, Value};
 use std::alloc::Global;
 use std::test::Fail;
 
@@ -297,7 +296,7 @@ pub fn ends_as(alloc: Global, row: &Row) -> Option<bool> {
 fn is_usage(alloc: Global, words: &[&str]) -> Option<bool> {
     let mut list = List::new(alloc);
     for word in words {
-        add(&mut list, Value::new(alloc, word.as_bytes()).ok()?).ok()?;
+        list.add(Value::new(alloc, word.as_bytes()).ok()?).ok()?;
     }
     let mut src = MemorySource::new(alloc, STORE_ALONE, 10, &[]).ok()?;
     let mut out = MemorySink::new(alloc, 100, 10, &[]).ok()?;

@@ -1,5 +1,6 @@
 ghost use Rattle.std.specs.Prelude.{◌≡◌, None, Some, false, IfSome, IsSomeAnd, is_some};
-ghost use Rattle.anti_edge.specs.Outside.{Rose, AddsFront, with_bytes};
+ghost use Rattle.anti_ids.specs.Counts.{Rose};
+ghost use Rattle.anti_edge.specs.Outside.{AddsFront, with_bytes};
 ghost use Rattle.antipode.specs.Words.{command_of};
 ghost use Rattle.antipode.specs.Lines.{line_of};
 ghost use Rattle.antipode.specs.Faults.{status_of, keeps_run};
@@ -28,7 +29,7 @@ pub fn antipode_plain<S: Source, K: Sink, E: Sink>(
 
     // The status is the fault's, and each fault has its cause.
     ensures status { result.status ≡ status_of result.fault }
-    ensures cause { IfSome result.fault (HasCause words.now (S.left src.old)
+    ensures cause { IfSome result.fault (HasCause words.now (S.left src.old) (S.left src.new)
         (Rose (S.faults src.old) (S.faults src.new)) (Rose (K.faults out.old) (K.faults out.new))) }
     ensures usage { command_of words.now ≡ None → result.fault ≡ Some TopFault.Usage }
 

@@ -1,4 +1,4 @@
-use Rattle.anti_play.specs.Closing.{NoneBorn}
+use Rattle.anti_play.specs.inner.Closing.{NoneBorn}
 use Rattle.anti_play.proofs.building.no_processes.Given as goal
 
 -- the lists so far

@@ -1,11 +1,11 @@
 use Rattle.std.proofs.Common.{arith}
-use Rattle.anti_play.proofs.Starts.{first_then, first_all}
+use Rattle.anti_play.proofs.NewWorld.{first_then, first_all}
 use Rattle.anti_play.proofs.building.objects.Goals as goal
 
 pub loop-objects-preserved : goal.loop-objects-preserved
 loop-objects-preserved c =
     let more = first_then c.args.app.now c.loop-objects.objects.items c.loop-objects.invariant.first c.len.result (omega (arith, c.loop-objects.objects.ok.0)) c.in_ok-object.field-0 c.in_ok-object.ensures
-    c.in-Some.object c.new.result c.keep.new.objects.items c.in-Some.is c.new.ensures.object c.new.ensures.history c.in_ok-keep.ensures in
+    c.in-Some.object c.keep.new.objects.items c.in-Some.is c.in_ok-keep.ensures in
     record { first = more.0; few = more.1 }
 
 pub returns : goal.returns

@@ -1,6 +1,6 @@
 use Rattle.std.proofs.Common.{◌-◌, ◌≤◌, length}
-use Rattle.anti_body.specs.Numbers.{object_count}
-use Rattle.anti_play.specs.Closing.{AreFirst}
+use Rattle.anti_app.specs.Objects.{object_count}
+use Rattle.anti_play.specs.inner.Closing.{AreFirst}
 use Rattle.anti_play.proofs.building.objects.Given as goal
 
 -- the objects so far

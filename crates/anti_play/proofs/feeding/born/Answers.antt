@@ -1,6 +1,6 @@
 use Rattle.std.proofs.Common.{◌≡◌, true, false, Err, ap, sym, ◌∙◌}
 use Rattle.anti_proc.proofs.Knowing.{birth_known}
-use Rattle.anti_body.proofs.Runnable.{can_run}
+use Rattle.anti_app.proofs.Runnable.{can_run}
 use Rattle.anti_play.proofs.feeding.born.Goals as goal
 
 pub born-requires : goal.born-requires

@@ -1,6 +1,6 @@
 use Rattle.std.proofs.Common.{◌≡◌, true, false, Err, ap, sym, ◌∙◌}
 use Rattle.anti_proc.proofs.Knowing.{reply_known}
-use Rattle.anti_body.proofs.Runnable.{can_run}
+use Rattle.anti_app.proofs.Runnable.{can_run}
 use Rattle.anti_play.proofs.feeding.feed.Goals as goal
 
 pub feed-requires-clause-app : goal.feed-requires-clause-app

@@ -1,4 +1,4 @@
-use Rattle.anti_play.proofs.Turns.{finished_run, finished_goes_on, finished_complete}
+use Rattle.anti_play.proofs.Finished.{finished_run, finished_goes_on, finished_complete}
 use Rattle.anti_play.proofs.laws.finish_completes.Goals as goal
 
 pub returns : goal.returns

@@ -1,13 +1,14 @@
 use Rattle.std.proofs.Common.{◌≡◌, ◌≤◌, IsTrue, arith, ◌<◌, ◌++◌, ◌∷◌, ◌+◌, [], ℕ, Bool, List, length, get_or, refl, ap, sym, ◌∙◌, subst}
+use Rattle.anti_ids.specs.declared.limits.TheConstants.{MOST_CHOICES}
 use Rattle.anti_ids.specs.List.{Listed, plain, pushed}
 use Rattle.anti_app.specs.declared.app.App.{App}
 use Rattle.anti_app.specs.declared.app.Choice.{Choice}
 use Rattle.anti_app.specs.Sound.{is_sound}
 use Rattle.anti_app.proofs.SoundLemmas.{app_known}
 use Rattle.anti_app.specs.declared.app.Choice.TheVariants.{Take}
-use Rattle.anti_play.specs.Closing.{HasPlayed, Steps, run_until}
-use Rattle.anti_play.proofs.Starts.{added}
-use Rattle.anti_play.proofs.Plays.{sound_at, played_made, played_waited}
+use Rattle.anti_play.specs.inner.Closing.{HasPlayed, Steps, run_until}
+use Rattle.anti_play.proofs.NewWorld.{added}
+use Rattle.anti_play.proofs.HasPlayed.{sound_at, played_made, played_waited}
 use Rattle.anti_play.proofs.player.play.Goals as goal
 use Rattle.anti_play.proofs.player.play.Goals.{then-not-branch+in_ok-reserve, else-not-branch}
 
@@ -16,19 +17,19 @@ here : (choices items : List Choice) (i : ℕ) → items ≡ choices → i < len
 here choices items i same lt = (subst (λ (xs : List Choice). i < length xs) same lt, ap (λ (xs : List Choice). get_or xs i (Take 0 0)) same)
 
 -- the number of a choice is no more than there are
-few : (app : App) (items : List Choice) (i : ℕ) → IsTrue (is_sound app) → items ≡ app.choices.items → i < length items → i + 1 ≤ 4096
+few : (app : App) (items : List Choice) (i : ℕ) → IsTrue (is_sound app) → items ≡ app.choices.items → i < length items → i + 1 ≤ MOST_CHOICES
 few app items i sound same lt =
     let known = (app_known app sound).few_choices in
     let there : length items ≡ length app.choices.items = ap (λ (xs : List Choice). length xs) same in omega (arith)
 
 pub overflow_cast-before : goal.overflow_cast-before
 overflow_cast-before c =
-    let less : c.loop-before.before + 1 ≤ 4096 = few c.args.app.now c.as_slice-choice-items.result.now c.loop-before.before c.requires c.as_slice-choice-items.ensures c.loop-before-test.true in
+    let less : c.loop-before.before + 1 ≤ MOST_CHOICES = few c.args.app.now c.as_slice-choice-items.result.now c.loop-before.before c.requires c.as_slice-choice-items.ensures c.loop-before-test.true in
     omega arith
 
 pub overflow_add-before : goal.overflow_add-before
 overflow_add-before c =
-    let less : c.loop-before.before + 1 ≤ 4096 = few c.args.app.now c.as_slice-choice-items.result.now c.loop-before.before c.requires c.as_slice-choice-items.ensures c.loop-before-test.true in
+    let less : c.loop-before.before + 1 ≤ MOST_CHOICES = few c.args.app.now c.as_slice-choice-items.result.now c.loop-before.before c.requires c.as_slice-choice-items.ensures c.loop-before-test.true in
     omega arith
 
 pub make-requires-clause-named : goal.make-requires-clause-named

@@ -1,4 +1,4 @@
-use Rattle.anti_play.specs.Closing.{HasPlayed}
+use Rattle.anti_play.specs.inner.Closing.{HasPlayed}
 use Rattle.anti_play.proofs.player.play.Given as goal
 
 -- the run of the choices so far

@@ -1,6 +1,7 @@
 use Rattle.std.proofs.Common.{◌≡◌, map}
+use Rattle.anti_play.specs.inner.Closing.{histories_of}
 use Rattle.anti_play.proofs.tracing.histories.Given as goal
 
 -- the histories of the objects so far
-abbrev pub invariant-loop-logged : goal.invariant-loop-logged
-invariant-loop-logged l = l.histories.items ≡ map (λ o. o.history) l.yielded
+abbrev pub invariant-loop-recorded : goal.invariant-loop-recorded
+invariant-loop-recorded l = map (λ h. h.items) l.histories.items ≡ histories_of l.yielded

@@ -2,7 +2,7 @@ use Rattle.std.proofs.Common.{Option, subst}
 use Rattle.anti_proc.specs.Foreign.{is_foreign, is_foreign_birth}
 use Rattle.anti_proc.specs.declared.process.Process.{Process}
 use Rattle.anti_proc.proofs.Knowing.{birth_known, reply_known}
-use Rattle.anti_text.specs.Following.{Stands}
+use Rattle.anti_text.specs.inner.Following.{Stands}
 use Rattle.anti_text.proofs.Followed.{followed_more, not_foreign}
 use Rattle.anti_text.proofs.ends.followed.Goals as goal
 

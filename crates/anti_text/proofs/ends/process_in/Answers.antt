@@ -1,5 +1,5 @@
 use Rattle.std.proofs.Common.{take}
-use Rattle.anti_kind.specs.declared.call.Actor.TheVariants as actors
+use Rattle.anti_kind.specs.declared.actor.Actor.TheVariants as actors
 use Rattle.anti_trace.specs.Traces.{entries_by}
 use Rattle.anti_text.proofs.Followed.{runs_of}
 use Rattle.anti_text.proofs.ends.process_in.Goals as goal

@@ -1,5 +1,5 @@
 use Rattle.std.proofs.Common.{take}
-use Rattle.anti_text.specs.Following.{IsLeftAfter}
+use Rattle.anti_text.specs.inner.Following.{IsLeftAfter}
 use Rattle.anti_text.proofs.ends.process_in.Given as goal
 
 -- the process stands after its entries so far

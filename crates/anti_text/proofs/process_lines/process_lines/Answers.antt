@@ -1,5 +1,8 @@
-use Rattle.anti_body.proofs.Runnable.{can_run}
+use Rattle.anti_app.proofs.Runnable.{can_run}
 use Rattle.anti_text.proofs.process_lines.process_lines.Goals as goal
 
 pub lines_on-requires-clause-runs : goal.lines_on-requires-clause-runs
 lines_on-requires-clause-runs c = can_run c.args.app.now c.requires.sound
+
+pub object_count-object-end-requires : goal.object_count-object-end-requires
+object_count-object-end-requires c = can_run c.args.app.now c.requires.sound

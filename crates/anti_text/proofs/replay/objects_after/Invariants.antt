@@ -1,4 +1,4 @@
-use Rattle.anti_text.specs.Replays.{AreAfter}
+use Rattle.anti_text.specs.inner.Replayed.{AreAfter}
 use Rattle.anti_text.proofs.replay.objects_after.Given as goal
 
 -- the objects so far

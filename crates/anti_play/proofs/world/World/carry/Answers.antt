@@ -1,23 +1,34 @@
-use Rattle.std.proofs.Common.{refl}
-use Rattle.anti_play.specs.declared.outcome.Outcome.TheVariants.{Makes}
+use Rattle.std.proofs.Common.{Ok, Err, refl}
 use Rattle.anti_play.specs.Schedule.{carrying}
-use Rattle.anti_play.proofs.Steps.{outcome_is, may_grow, carry_done, chose_kept}
-use Rattle.anti_play.proofs.Births.{same_itself}
+use Rattle.anti_play.proofs.NextEntry.{outcome_is, refused_none}
+use Rattle.anti_play.proofs.Stepped.{may_grow}
+use Rattle.anti_play.proofs.Chose.{carry_done, chose_kept, chose_none}
+use Rattle.anti_play.proofs.AreBorn.{same_itself}
 use Rattle.anti_play.proofs.world.World.carry.Goals as goal
 
-pub add-requires : goal.add-requires
-add-requires c =
-    let q = carrying c.args.object c.args.call in
-    let trace = c.requires.world.trace in
-    may_grow c.args.app.now c.requires.sound c.args.self.now trace c.requires.world.stands q tt c.requires.known c.in-Makes.entry
-    (outcome_is c.args.app.now trace q c.in_ok-entry.field-0 (Makes c.in-Makes.entry) c.in-Makes.is (c.in_ok-entry.ensures trace c.requires.world.stands c.requires.world.stands.carrier))
+pub returns-in_err-entry : goal.returns-in_err-entry
+returns-in_err-entry c = λ app trace sound s. chose_kept app c.args.self.now _ trace _ _ c.from_residual.ensures.0 s s.objects (same_itself _ _ refl) refl
 
-pub returns-in_err-add : goal.returns-in_err-add
-returns-in_err-add c = λ trace s.
-    chose_kept c.args.app.now c.args.self.now _ trace _ _ c.from_residual-in_err-add.ensures.0 s (c.in_err-add.ensures.err c.args.app.now trace s.objects) (same_itself _ _ refl) refl
+pub returns-in_default : goal.returns-in_default
+returns-in_default c = λ app trace sound s.
+    let q = carrying trace c.args.object c.args.call in
+    chose_none app c.args.self.now trace _
+    (refused_none app trace q c.in_default.field-0 (outcome_is app trace q c.in_ok-entry.field-0 (Err c.in_default.field-0) c.in_default.is (c.in_ok-entry.ensures app trace sound s s.carrier))) s
+
+pub make_entry-requires : goal.make_entry-requires
+make_entry-requires c =
+    let w = c.requires.world in
+    let q = carrying w.trace c.args.object c.args.call in
+    may_grow w.app w.sound c.args.self.now w.trace w.stands q tt refl (c.requires.known w.app) c.in-Ok.entry
+    (outcome_is w.app w.trace q c.in_ok-entry.field-0 (Ok c.in-Ok.entry) c.in-Ok.is (c.in_ok-entry.ensures w.app w.trace w.sound w.stands w.stands.carrier))
+
+pub returns-in_err-make_entry : goal.returns-in_err-make_entry
+returns-in_err-make_entry c = λ app trace sound s.
+    chose_kept app c.args.self.now _ trace _ _ c.from_residual-in_err-make_entry.ensures.0 s (c.in_err-make_entry.ensures.err app trace s.objects) (same_itself _ _ refl) refl
 
 pub returns : goal.returns
-returns c = λ trace s.
-    carry_done c.args.app.now c.requires.sound c.args.self.now _ trace c.args.object c.args.call c.in-Makes.entry s c.requires.known
-    (outcome_is c.args.app.now trace (carrying c.args.object c.args.call) c.in_ok-entry.field-0 (Makes c.in-Makes.entry) c.in-Makes.is (c.in_ok-entry.ensures trace s s.carrier))
-    (c.in_ok-add.ensures.stand c.args.app.now) (same_itself _ _ refl) refl
+returns c = λ app trace sound s.
+    let q = carrying trace c.args.object c.args.call in
+    carry_done app sound c.args.self.now _ trace c.args.object c.args.call c.in-Ok.entry s (c.requires.known app)
+    (outcome_is app trace q c.in_ok-entry.field-0 (Ok c.in-Ok.entry) c.in-Ok.is (c.in_ok-entry.ensures app trace sound s s.carrier))
+    (c.in_ok-make_entry.ensures.stand app) (same_itself _ _ refl) refl

@@ -1,14 +1,14 @@
 use Rattle.std.proofs.Common.{◌≡◌, ℕ, List, Option, length, vec_len, map, true, false, sym, arith}
 use Rattle.std.specs.List.{range_with_len}
-use Rattle.anti_kind.specs.declared.call.Entry.{Entry}
+use Rattle.anti_kind.specs.declared.entry.Entry.{Entry}
 use Rattle.anti_app.specs.declared.app.App.{App}
 use Rattle.anti_trace.specs.Traces.{entries_on}
 use Rattle.anti_proc.specs.Births.{births}
-use Rattle.anti_body.specs.Numbers.{object_count}
+use Rattle.anti_app.specs.Objects.{object_count}
 use Rattle.anti_play.specs.Schedule.{chosen, first_of, go_of, goes}
-use Rattle.anti_play.specs.Standing.{WorldStands}
-use Rattle.anti_play.proofs.Firsts.{first_of-flat_map}
-use Rattle.anti_play.proofs.Tries.{none_tried, one_tried, found_one, found_none, tried_world, lost_too, came_as, chose_of, range_same, range_all, range_count}
+use Rattle.anti_play.specs.inner.Standing.{WorldStands}
+use Rattle.anti_play.proofs.FirstOf.{first_of-flat_map}
+use Rattle.anti_play.proofs.Tried.{none_tried, one_tried, found_one, found_none, tried_world, lost_too, came_as, chose_of, range_same, range_all, range_count}
 use Rattle.anti_play.proofs.world.World.go_first.Goals as goal
 
 -- the first entry of a process that was born at an object

@@ -2,8 +2,8 @@ use Rattle.std.proofs.Common.{map}
 use Rattle.anti_trace.specs.Traces.{entries_on}
 use Rattle.anti_proc.specs.Births.{births}
 use Rattle.anti_play.specs.Schedule.{chosen, first_of, go_of}
-use Rattle.anti_play.specs.Standing.{WorldStands}
-use Rattle.anti_play.proofs.Tries.{Tried}
+use Rattle.anti_play.specs.inner.Standing.{WorldStands}
+use Rattle.anti_play.proofs.Tried.{Tried}
 use Rattle.anti_play.proofs.world.World.go_first.Given as goal
 
 -- no process that was born at the objects so far goes on

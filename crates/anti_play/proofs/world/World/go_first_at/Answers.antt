@@ -1,18 +1,19 @@
 use Rattle.std.proofs.Common.{◌≡◌, ◌<◌, ℕ, List, Option, Some, length, get_or, vec_len, map, true, false, sym, ap, ◌∙◌, subst, arith}
 use Rattle.std.specs.Prelude.{position}
-use Rattle.anti_kind.specs.declared.call.Birth.{Birth}
-use Rattle.anti_kind.specs.declared.call.Entry.{Entry}
+use Rattle.anti_kind.specs.declared.actor.Birth.{Birth}
+use Rattle.anti_kind.specs.declared.entry.Entry.{Entry}
 use Rattle.anti_app.specs.declared.app.App.{App}
 use Rattle.anti_app.specs.declared.app.Choice.TheVariants.{Go}
 use Rattle.anti_trace.specs.Traces.{entries_on}
 use Rattle.anti_proc.specs.Births.{births}
-use Rattle.anti_body.specs.Numbers.{object_count}
+use Rattle.anti_app.specs.Objects.{object_count}
 use Rattle.anti_proc.specs.Standing.{birth_of}
 use Rattle.anti_play.specs.Schedule.{chosen, first_of, go_of}
-use Rattle.anti_play.specs.Standing.{WorldStands, born_at, is_named}
-use Rattle.anti_play.proofs.Firsts.{first_of-map}
-use Rattle.anti_play.proofs.Goings.{any_default, no_entry, born_length, birth_here, birth_found, going_is}
-use Rattle.anti_play.proofs.Tries.{one_tried, found_one, found_none, came_as, chose_of}
+use Rattle.anti_play.specs.inner.Standing.{WorldStands, born_at, is_named}
+use Rattle.anti_play.proofs.FirstOf.{first_of-map}
+use Rattle.anti_play.proofs.MakeEntry.{any_default}
+use Rattle.anti_play.proofs.GoFirst.{no_entry, born_length, birth_here, birth_found, going_is}
+use Rattle.anti_play.proofs.Tried.{one_tried, found_one, found_none, came_as, chose_of}
 use Rattle.anti_play.proofs.world.World.go_first_at.Goals as goal
 use Rattle.anti_play.proofs.world.World.go_first_at.Goals.{After-birth-birth}
 

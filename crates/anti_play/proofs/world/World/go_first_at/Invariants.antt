@@ -2,9 +2,9 @@ use Rattle.std.proofs.Common.{get_or}
 use Rattle.anti_trace.specs.Traces.{entries_on}
 use Rattle.anti_proc.specs.Births.{births}
 use Rattle.anti_play.specs.Schedule.{chosen, go_of}
-use Rattle.anti_play.specs.Standing.{WorldStands}
-use Rattle.anti_play.proofs.Goings.{no_entry}
-use Rattle.anti_play.proofs.Tries.{Tried}
+use Rattle.anti_play.specs.inner.Standing.{WorldStands}
+use Rattle.anti_play.proofs.GoFirst.{no_entry}
+use Rattle.anti_play.proofs.Tried.{Tried}
 use Rattle.anti_play.proofs.world.World.go_first_at.Given as goal
 
 -- the processes so far do not go on

@@ -1,12 +1,12 @@
 use Rattle.std.proofs.Common.{ℕ, List, Option, length, true, false, sym, arith}
 use Rattle.std.specs.List.{range_with_len}
-use Rattle.anti_kind.specs.declared.call.Entry.{Entry}
+use Rattle.anti_kind.specs.declared.entry.Entry.{Entry}
 use Rattle.anti_app.specs.declared.app.App.{App}
 use Rattle.anti_app.specs.declared.app.Choice.TheVariants.{Take}
 use Rattle.anti_play.specs.Schedule.{chosen, first_of, take_of, takes}
-use Rattle.anti_play.specs.Standing.{WorldStands}
-use Rattle.anti_play.proofs.Firsts.{first_of-map}
-use Rattle.anti_play.proofs.Tries.{none_tried, one_tried, found_one, found_none, tried_world, lost_too, came_as, chose_of, range_same, range_all, range_count}
+use Rattle.anti_play.specs.inner.Standing.{WorldStands}
+use Rattle.anti_play.proofs.FirstOf.{first_of-map}
+use Rattle.anti_play.proofs.Tried.{none_tried, one_tried, found_one, found_none, tried_world, lost_too, came_as, chose_of, range_same, range_all, range_count}
 use Rattle.anti_play.proofs.world.World.take_first.Goals as goal
 
 -- the entry of the take at a service

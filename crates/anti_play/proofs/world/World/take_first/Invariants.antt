@@ -1,7 +1,7 @@
 use Rattle.anti_app.specs.declared.app.Choice.TheVariants.{Take}
 use Rattle.anti_play.specs.Schedule.{chosen}
-use Rattle.anti_play.specs.Standing.{WorldStands}
-use Rattle.anti_play.proofs.Tries.{Tried}
+use Rattle.anti_play.specs.inner.Standing.{WorldStands}
+use Rattle.anti_play.proofs.Tried.{Tried}
 use Rattle.anti_play.proofs.world.World.take_first.Given as goal
 
 -- the services so far have nothing to take

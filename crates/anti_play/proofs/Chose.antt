@@ -1,0 +1,110 @@
+-- What a choice made of a world.
+use Rattle.std.proofs.Common.{◌≡◌, ℕ, ◌+◌, ◌<◌, ◌++◌, List, [], ◌∷◌, Bool, true, false, length, map, refl, sym, ap, ◌∙◌, subst, arith}
+use Rattle.std.specs.Prelude.{All, Option, None, Some, Result, Ok, Err, IsErr, IsTrue, position}
+use Rattle.anti_ids.specs.List.{Listed}
+use Rattle.anti_ids.specs.declared.memory.NoMemory.{NoMemory}
+use Rattle.anti_kind.specs.declared.actor.Actor.{Actor}
+use Rattle.anti_kind.specs.declared.actor.Actor.TheVariants.{Carrier, Process as Acting}
+use Rattle.anti_kind.specs.declared.call.Call.{Call}
+use Rattle.anti_kind.specs.declared.call.Call.TheVariants as calls
+use Rattle.anti_kind.specs.declared.entry.Entry.{Entry}
+use Rattle.anti_kind.specs.Objects.{last_stamp}
+use Rattle.anti_kind.proofs.Histories.{last_is}
+use Rattle.anti_app.specs.declared.app.App.{App}
+use Rattle.anti_app.specs.Sound.{is_sound}
+use Rattle.anti_trace.specs.Traces.{entries_on, entries_by, put}
+use Rattle.anti_proc.specs.declared.process.Process.{Process}
+use Rattle.anti_proc.specs.Known.{IsCallAt}
+use Rattle.anti_proc.specs.Births.{birth_at}
+use Rattle.anti_proc.specs.Meaning.{tree_of}
+use Rattle.anti_app.specs.Objects.{inbox_number}
+use Rattle.anti_proc.specs.Standing as standing
+use Rattle.anti_proc.specs.Running.{IsRunOf}
+use Rattle.anti_proc.specs.Standing.{process_of, birth_of, full_of}
+use Rattle.anti_play.specs.declared.world.World.{World}
+use Rattle.anti_play.specs.Schedule.{bearing, carrying, made_at}
+use Rattle.anti_play.specs.inner.Standing.{AllStand, AllLive, AreBorn, born_at, Changes, Lives, is_named, WorldStands, Chose, Grows}
+use Rattle.anti_play.proofs.Stepped.{Stepped, step, goes_on}
+use Rattle.anti_play.proofs.AllLive.{live_born, live_kept}
+use Rattle.anti_play.proofs.AreBorn.{SameBorn, is_birth_itself, no_birth, born_kept, born_more}
+
+-- the same processes stand for a trace in lists that may have more room
+kept_live : (app : App) (ps ns : List (Listed Process)) (trace : List Entry) → SameBorn ps ns → AllLive app ps trace → AllLive app ns trace
+kept_live app ps ns trace same live b =
+    subst (λ (xs : List Process). Lives app trace xs (position (is_named b) xs) (entries_by (Acting b) trace)) (sym (same.same b.object)) (live b)
+
+kept_born : (ps ns : List (Listed Process)) (trace : List Entry) → SameBorn ps ns → AreBorn ps trace → AreBorn ns trace
+kept_born ps ns trace same born o = ap (λ (xs : List Process). map birth_of xs) (same.same o) ∙ born o
+
+pub kept_stands : (app : App) (w n : World) (trace : List Entry) → WorldStands app w trace → AllStand app n.objects.items trace
+    → SameBorn w.processes.items n.processes.items → n.carrier ≡ w.carrier → WorldStands app n trace
+kept_stands app w n trace s objects same carrier = record {
+  run = s.run;
+  objects = objects;
+  lists = same.count ∙ s.lists;
+  born = kept_born w.processes.items n.processes.items trace same s.born;
+  processes = kept_live app w.processes.items n.processes.items trace same s.processes;
+  carrier = carrier ∙ s.carrier;
+}
+
+-- nothing was made, for want of memory
+pub chose_kept : (app : App) (w n : World) (trace : List Entry) (o : Option Entry) (r : Result Bool NoMemory) → IsErr r → WorldStands app w trace
+    → AllStand app n.objects.items trace → SameBorn w.processes.items n.processes.items → n.carrier ≡ w.carrier → Chose app trace o r n
+chose_kept app w n trace o (Ok x) err s objects same carrier = absurd (cc)
+chose_kept app w n trace None (Err x) err s objects same carrier = kept_stands app w n trace s objects same carrier
+chose_kept app w n trace (Some e) (Err x) err s objects same carrier = kept_stands app w n trace s objects same carrier
+
+pub chose_made : (app : App) (n : World) (trace : List Entry) (o : Option Entry) (e : Entry) → o ≡ Some e → WorldStands app n (put e trace) → Chose app trace o (Ok true) n
+chose_made app n trace o e is s = subst (λ (x : Option Entry). Chose app trace x (Ok true) n) (sym is) (refl, s)
+
+pub chose_none : (app : App) (w : World) (trace : List Entry) (o : Option Entry) → o ≡ None → WorldStands app w trace → Chose app trace o (Ok false) w
+chose_none app w trace o is s = subst (λ (x : Option Entry). Chose app trace x (Ok false) w) (sym is) (refl, s)
+
+pub take_done : (app : App) (sound : IsTrue (is_sound app)) (w n : World) (trace : List Entry) (object service nth : ℕ) (e : Entry) (p : Process)
+    → WorldStands app w trace → object ≡ inbox_number app service → made_at app trace (bearing trace object (calls.Take nth)) ≡ Some e
+    → ((before after : List Entry) → AllStand app w.objects.items before → Grows app before after e → AllStand app n.objects.items after)
+    → Changes w.processes.items n.processes.items e.object (born_at w.processes.items e.object ++ p ∷ []) → n.carrier ≡ w.carrier
+    → process_of app p ≡ tree_of app e → standing.clock_of p ≡ e.stamp → birth_of p ≡ birth_at e → full_of p ≡ None → IsRunOf app p
+    → Chose app trace (made_at app trace (bearing trace (inbox_number app service) (calls.Take nth))) (Ok true) n
+take_done app sound w n trace object service nth e p s same m objects processes carrier tree clock birth full runs =
+    let st : Stepped app trace (bearing trace object (calls.Take nth)) e = step app sound w trace s (bearing trace object (calls.Take nth)) tt refl tt e m in
+    let at : e.actor ≡ Acting (birth_at e) = st.actor in
+    let unborn : entries_by (Acting (birth_at e)) trace ≡ [] = s.run.unborn (birth_at e)
+    (let place : e.place ≡ length (entries_on object trace) + 1 = st.place in
+    let object_is : length (entries_on e.object trace) ≡ length (entries_on object trace) = ap (λ (x : ℕ). length (entries_on x trace)) st.object in omega arith) in
+    let none : e.actor ≡ Carrier 0 → ⊥ = λ c. (let both : Acting (birth_at e) ≡ Carrier 0 = sym at ∙ c in absurd (cc)) in
+    chose_made app n trace (made_at app trace (bearing trace (inbox_number app service) (calls.Take nth))) e
+    (sym (ap (λ (x : ℕ). made_at app trace (bearing trace x (calls.Take nth))) same) ∙ m)
+    (record {
+      run = st.run;
+      objects = objects trace (put e trace) s.objects st.grows;
+      lists = processes.count ∙ s.lists;
+      born = born_more app w.processes.items trace (put e trace) e s.born st.grows n.processes.items p (is_birth_itself e at) birth processes;
+      processes = live_born app w.processes.items trace s.processes e (goes_on app sound w trace s (bearing trace object (calls.Take nth)) tt refl tt e m) st.own st.others (birth_at e) at p birth unborn tree clock full runs
+          n.processes.items processes;
+      carrier = carrier ∙ s.carrier ∙ sym (ap (λ (x : List Entry). last_stamp x) (st.others (Carrier 0) none));
+    })
+
+pub carry_done : (app : App) (sound : IsTrue (is_sound app)) (w n : World) (trace : List Entry) (object : ℕ) (call : Call) (e : Entry)
+    → WorldStands app w trace → IsCallAt app object call → made_at app trace (carrying trace object call) ≡ Some e
+    → ((before after : List Entry) → AllStand app w.objects.items before → Grows app before after e → AllStand app n.objects.items after)
+    → SameBorn w.processes.items n.processes.items → n.carrier ≡ e.stamp
+    → Chose app trace (made_at app trace (carrying trace object call)) (Ok true) n
+carry_done app sound w n trace object call e s known m objects processes carrier =
+    let st : Stepped app trace (carrying trace object call) e = step app sound w trace s (carrying trace object call) tt refl known e m in
+    let at : e.actor ≡ Carrier 0 = st.actor in
+    let own : entries_by (Carrier 0) (put e trace) ≡ entries_by (Carrier 0) trace ++ e ∷ [] = subst (λ (a : Actor). entries_by a (put e trace) ≡ entries_by a trace ++ e ∷ []) at st.own in
+    let before : All (λ d. d.stamp < e.stamp) (entries_by (Carrier 0) trace) = subst (λ (a : Actor). All (λ d. d.stamp < e.stamp) (entries_by a trace)) at st.before in
+    chose_made app n trace (made_at app trace (carrying trace object call)) e m
+    (record {
+      run = st.run;
+      objects = objects trace (put e trace) s.objects st.grows;
+      lists = processes.count ∙ s.lists;
+      born = born_kept app w.processes.items trace (put e trace) e s.born st.grows n.processes.items
+          (no_birth e (λ is. let both : Acting (birth_at e) ≡ Carrier 0 = sym is ∙ at in absurd (cc)))
+          (λ o. ap (λ (xs : List Process). map birth_of xs) (processes.same o));
+      processes = kept_live app w.processes.items n.processes.items (put e trace) processes
+          (live_kept app w.processes.items trace s.processes e (goes_on app sound w trace s (carrying trace object call) tt refl known e m) st.own st.others
+          (λ b c. (let both : Acting b ≡ Carrier 0 = sym c ∙ at in absurd (cc))));
+      carrier = carrier ∙ sym (last_is (entries_by (Carrier 0) trace) e before) ∙ sym (ap (λ (x : List Entry). last_stamp x) own);
+    })

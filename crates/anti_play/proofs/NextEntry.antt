@@ -1,0 +1,111 @@
+-- What comes of what is asked at an object of a world.
+use Rattle.std.proofs.Common.{◌≡◌, ℕ, ◌+◌, ◌-◌, ◌*◌, ◌<◌, ◌≤◌, ◌^◌, max, List, true, false, length, get_or, sym, ap, ◌∙◌, subst, arith}
+use Rattle.std.specs.Prelude.{None, Some, option_and_then, Result, Ok, Err, IsTrue}
+use Rattle.std.proofs.Math.Nat.{le_trans, mul-le-mul_right}
+use Rattle.anti_ids.specs.declared.limits.TheConstants.{MOST_UNITS}
+use Rattle.anti_kind.specs.declared.asking.Asking.{Asking}
+use Rattle.anti_kind.specs.declared.recorded.Refusal.{Refusal}
+use Rattle.anti_kind.specs.declared.recorded.Refusal.TheVariants.{NotYet, Full, Spent}
+use Rattle.anti_kind.specs.declared.entry.Entry.{Entry}
+use Rattle.anti_kind.specs.declared.call.Reply.{Reply}
+use Rattle.anti_kind.specs.Objects.{Start, ready, due, fits, last_stamp}
+use Rattle.anti_kind.specs.Ports.{entry_of}
+use Rattle.anti_kind.specs.Records.{Record, Goes, IsRefusal}
+use Rattle.anti_app.specs.declared.app.App.{App}
+use Rattle.anti_app.specs.Sound.{is_sound}
+use Rattle.anti_app.proofs.SoundLemmas.{SoundApp, app_known}
+use Rattle.anti_object.specs.declared.object.Object.{Object}
+use Rattle.anti_object.specs.Standing.{object_start}
+use Rattle.anti_object.specs.Starts.{start_of}
+use Rattle.anti_object.proofs.Starts.{start_past}
+use Rattle.anti_trace.specs.Traces.{entries_on}
+use Rattle.anti_app.specs.Objects.{object_count}
+use Rattle.anti_play.specs.Schedule.{clock_of, made, made_at, next_entry}
+use Rattle.anti_play.specs.Runs.{IsRun}
+use Rattle.anti_play.specs.inner.Standing.{AllStand, IsObject, IsOutcome, asked_in}
+use Rattle.anti_play.proofs.MadeAt.{unready, none_fits, ready_made}
+use Rattle.anti_play.proofs.FullStays.{unfit}
+use Rattle.anti_play.proofs.RunMore.{history_stamps, clock_within, run_short}
+
+few_objects : (app : App) → IsTrue (is_sound app) → object_count app ≤ 32
+few_objects app sound = let known : SoundApp app = app_known app sound in omega arith
+
+-- no run has so many entries that stamps are spent
+few_entries : (app : App) (trace : List Entry) → IsTrue (is_sound app) → IsRun app trace → length trace ≤ 32 * 4097
+few_entries app trace sound run =
+    let whole : length trace ≤ object_count app * (MOST_UNITS + 1) = run_short app trace run in
+    le_trans whole (mul-le-mul_right (MOST_UNITS + 1) (few_objects app sound))
+
+-- what came of it, in other words
+pub outcome_is : (app : App) (trace : List Entry) (q : Asking) (found then : Result Entry Refusal) → found ≡ then → IsOutcome app trace q found → IsOutcome app trace q then
+outcome_is app trace q found then is outcome = subst (IsOutcome app trace q) is outcome
+
+-- what is refused makes no entry
+pub refused_none : (app : App) (trace : List Entry) (q : Asking) (refusal : Refusal) → IsOutcome app trace q (Err refusal) → made_at app trace q ≡ None
+refused_none app trace q NotYet outcome = outcome.0
+refused_none app trace q (Full a b n) outcome = outcome.0
+refused_none app trace q (Spent clock) outcome = absurd outcome
+
+module _ (app : App) (sound : IsTrue (is_sound app)) (trace : List Entry) (run : IsRun app trace) (q : Asking) (clock : q.clock ≡ clock_of q.actor trace) where
+  same_asking : q ≡ asked_in trace q
+  same_asking = ap (λ (n : ℕ). record { object = q.object; actor = q.actor; span = q.span; clock = n; call = q.call }) clock
+
+  in_trace : (result : Result Entry Refusal) → IsOutcome app trace q result → IsOutcome app trace (asked_in trace q) result
+  in_trace result outcome = subst (λ (x : Asking). IsOutcome app trace x result) same_asking outcome
+
+  -- an object that is not there makes nothing of a call
+  module _ (given objects : List (Record Object)) (all : AllStand app objects trace) (same : given ≡ objects) where
+    pub outcome_none : length given ≤ q.object → IsOutcome app trace (asked_in trace q) (Err NotYet)
+    outcome_none past =
+        let count : length given ≡ object_count app = ap length same ∙ all.count in
+        let none : start_of app q.object ≡ None = start_past app q.object (omega arith) in
+        in_trace (Err NotYet)
+        (ap (option_and_then (λ (x : Start). made x (entries_on q.object trace) q)) none, (λ full. let both : None ≡ Some full.start = sym none ∙ full.there in cc))
+
+    -- one that is there
+    module _ (r : Record Object) (is : r ≡ get_or given q.object r) (inside : q.object < length given) where
+      abbrev start : Start
+      start = object_start r.machine
+
+      here : IsObject app q.object r (entries_on q.object trace)
+      here =
+          subst (λ (x : Record Object). IsObject app q.object x (entries_on q.object trace)) (sym (subst (λ (x : List (Record Object)). r ≡ get_or x q.object r) same is))
+          (all.each q.object r (subst (λ (x : List (Record Object)). q.object < length x) same inside))
+
+      refused : (refusal : Refusal) → IsRefusal start (entries_on q.object trace) q refusal → IsOutcome app trace q (Err refusal)
+      refused NotYet off = (
+        unready app trace q start here.start off,
+        λ full.
+            let both : Some full.start ≡ Some start = sym full.there ∙ here.start in
+            let one : full.start ≡ start = cc in
+            let on : ready start (entries_on q.object trace) q.call ≡ true = subst (λ (x : Start). ready x (entries_on q.object trace) q.call ≡ true) one full.full.is_ready in
+            let off' : true ≡ false = sym on ∙ off in cc,
+      )
+      refused (Full a b n) full = (
+        none_fits app trace q start here.start (unfit start (entries_on q.object trace) q.call a b n full),
+        record { start = start; there = here.start; held_units = a; owed_units = b; need_units = n; full = full },
+      )
+      refused (Spent last) spent =
+          let short : length trace ≤ 32 * 4097 = few_entries app trace sound run in
+          let own : clock_of q.actor trace ≤ length trace = clock_within app trace run q.actor in
+          let before : last_stamp (entries_on q.object trace) ≤ length trace = history_stamps app trace run q.object in
+          let is_clock : q.clock ≡ clock_of q.actor trace = clock in
+          let greater : last ≡ max q.clock (last_stamp (entries_on q.object trace)) = spent.clock_is in
+          let most : last ≡ 2 ^ 64 - 1 = spent.last in
+          absurd (omega arith)
+
+      pub outcome_refused : (refusal : Refusal) → IsRefusal start r.history q refusal → IsOutcome app trace (asked_in trace q) (Err refusal)
+      outcome_refused refusal cause =
+          in_trace (Err refusal) (refused refusal (subst (λ (h : List Entry). IsRefusal start h q refusal) here.history cause))
+
+      made_here : (h : List Entry) → h ≡ entries_on q.object trace → ready start h q.call ≡ true → fits start h q.call ≡ true → made_at app trace q ≡ Some (next_entry start h q)
+      made_here h same_history on fit =
+          ready_made app trace q start here.start (subst (λ (x : List Entry). ready start x q.call ≡ true) same_history on) (subst (λ (x : List Entry). fits start x q.call ≡ true) same_history fit)
+          ∙ ap (λ (x : List Entry). Some (next_entry start x q)) (sym same_history)
+
+      pub outcome_made : (reply : Reply) (e : Entry) → Goes start r.history q → reply ≡ due start r.history q.call
+          → e ≡ entry_of q 0 (length r.history + 1) (max q.clock (last_stamp r.history) + 1) reply → IsOutcome app trace (asked_in trace q) (Ok e)
+      outcome_made reply e goes is_due made =
+          in_trace (Ok e)
+          (made_here r.history here.history goes.is_ready goes.fits
+          ∙ ap Some (sym (made ∙ ap (λ (x : Reply). entry_of q 0 (length r.history + 1) (max q.clock (last_stamp r.history) + 1) x) is_due)))

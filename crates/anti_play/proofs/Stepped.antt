@@ -1,0 +1,90 @@
+-- What stands behind the entry that is made of what is asked.
+use Rattle.std.proofs.Common.{◌≡◌, ℕ, ◌+◌, ◌<◌, ◌++◌, inl, inr, List, [], ◌∷◌, length, refl, sym, ◌∙◌, subst, arith, append-nil}
+use Rattle.std.specs.Prelude.{All, Some, IsTrue}
+use Rattle.anti_kind.specs.declared.asking.Asking.{Asking}
+use Rattle.anti_kind.specs.declared.actor.Actor.{Actor}
+use Rattle.anti_kind.specs.declared.entry.Entry.{Entry}
+use Rattle.anti_kind.specs.Objects.{Start, Follows}
+use Rattle.anti_kind.specs.Ports.{named}
+use Rattle.anti_app.specs.declared.app.App.{App}
+use Rattle.anti_app.specs.Sound.{is_sound}
+use Rattle.anti_object.proofs.Starts.{start_known}
+use Rattle.anti_trace.specs.Traces.{entries_on, entries_by, put}
+use Rattle.anti_proc.specs.Known.{IsCallAt, IsEntryOf, IsReplyAt}
+use Rattle.anti_app.specs.Objects.{object_count}
+use Rattle.anti_play.specs.declared.world.World.{World}
+use Rattle.anti_play.specs.Schedule.{clock_of, next_entry, made_at}
+use Rattle.anti_play.specs.Runs.{IsRun, GoesOn}
+use Rattle.anti_play.specs.inner.Standing.{Grows, IsBorn, MayGrow, WorldStands}
+use Rattle.anti_play.proofs.MadeAt.{Made, made_of}
+use Rattle.anti_play.proofs.RunMore.{entry_follows, it_known, run_more, run_history, run_others, run_actor, run_other_actors, own_before, decide}
+
+pub record Stepped (app : App) (trace : List Entry) (q : Asking) (e : Entry) : Type 0 where
+  pub run : IsRun app (put e trace)
+  pub grows : Grows app trace (put e trace) e
+  pub own : entries_by e.actor (put e trace) ≡ entries_by e.actor trace ++ e ∷ []
+  pub others : (a : Actor) → (e.actor ≡ a → ⊥) → entries_by a (put e trace) ≡ entries_by a trace
+  pub before : All (λ d. d.stamp < e.stamp) (entries_by e.actor trace)
+  pub object : e.object ≡ q.object
+  pub actor : e.actor ≡ named q.actor e.object e.place
+  pub call : e.call ≡ q.call
+  pub place : e.place ≡ length (entries_on q.object trace) + 1
+  pub known : q.object < object_count app
+  pub entry : IsEntryOf app e
+
+pub stepped : (app : App) (trace : List Entry) (q : Asking) (e : Entry) → IsTrue (is_sound app) → IsRun app trace → IsBorn q.actor trace → q.clock ≡ clock_of q.actor trace → IsCallAt app q.object q.call
+    → Made app trace q e → Stepped app trace q e
+stepped app trace q e sound run born clock call m =
+    subst (λ (x : Entry). Stepped app trace q x) (sym m.is) (record {
+      run = run_more app trace run q m.start m.there m.is_ready m.is_fit born clock sound call;
+      grows = record {
+        here = run_history app trace run q m.start m.there m.is_ready m.is_fit born clock;
+        others = run_others app trace run q m.start m.there m.is_ready m.is_fit born clock;
+        follows = λ start at. subst (λ (s : Start). Follows s (entries_on q.object trace) (next_entry m.start (entries_on q.object trace) q)) (let same : m.start ≡ start = let both : Some m.start ≡ Some start = sym m.there ∙ at in cc in same)
+            (entry_follows m.start (entries_on q.object trace) q m.is_ready m.is_fit);
+      };
+      own = run_actor app trace run q m.start m.there m.is_ready m.is_fit born clock;
+      others = run_other_actors app trace run q m.start m.there m.is_ready m.is_fit born clock;
+      before = own_before app trace run q m.start m.there m.is_ready m.is_fit born clock;
+      object = refl;
+      actor = refl;
+      call = refl;
+      place = refl;
+      known = start_known app q.object m.start m.there;
+      entry = it_known app trace run q m.start m.there m.is_ready m.is_fit born clock sound call;
+    })
+
+-- each object's history goes on
+pub grows_on : (app : App) (before after : List Entry) (e : Entry) → Grows app before after e → GoesOn before after
+grows_on app before after e grows o =
+    elim (decide e.object o) as (λ _. (rest : List Entry) × (entries_on o after ≡ entries_on o before ++ rest)) [
+      | inl here ↦ (e ∷ [], subst (λ (n : ℕ). entries_on n after ≡ entries_on n before ++ e ∷ []) here grows.here)
+      | inr other ↦ ([], grows.others o other ∙ sym (append-nil (entries_on o before)))
+    ]
+
+module _ (app : App) (sound : IsTrue (is_sound app)) (w : World) (trace : List Entry) (stands : WorldStands app w trace) (q : Asking) (born : IsBorn q.actor trace) (clock : q.clock ≡ clock_of q.actor trace)
+    (call : IsCallAt app q.object q.call)
+    (e : Entry) (m : made_at app trace q ≡ Some e) where
+  pub step : Stepped app trace q e
+  step = stepped app trace q e sound stands.run born clock call (made_of app trace q e m)
+
+  -- its reply is known
+  pub reply_of : IsReplyAt app e.object e.reply
+  reply_of = step.entry.reply
+
+  pub may_grow : MayGrow w.objects.items e
+  may_grow = record {
+    app = app;
+    before = trace;
+    after = put e trace;
+    stand = stands.objects;
+    grows = step.grows;
+    known = let a : e.object ≡ q.object = step.object in let b : q.object < object_count app = step.known in let count : length w.objects.items ≡ object_count app = stands.objects.count in omega arith;
+  }
+
+  -- its object has a list of processes
+  pub has_list : e.object < length w.processes.items
+  has_list = let a : e.object ≡ q.object = step.object in let b : q.object < object_count app = step.known in let count : length w.processes.items ≡ object_count app = stands.lists in omega arith
+
+  pub goes_on : GoesOn trace (put e trace)
+  goes_on = grows_on app trace (put e trace) e step.grows

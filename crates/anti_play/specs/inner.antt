@@ -1,0 +1,3 @@
+pub mod Standing
+pub mod Closing
+pub mod Finishing
