@@ -1,0 +1,32 @@
+//! The tests of the library crates, a file for each crate that they are about. The crates themselves have none, so that each is
+//! proved once.
+#![tactic(auto)]
+
+#[cfg(test)]
+mod app;
+#[cfg(test)]
+mod baggage;
+#[cfg(test)]
+mod blob;
+#[cfg(test)]
+mod edge;
+#[cfg(test)]
+mod ids;
+#[cfg(test)]
+mod inbox;
+#[cfg(test)]
+mod kv;
+#[cfg(test)]
+mod lang;
+#[cfg(test)]
+mod made;
+#[cfg(test)]
+mod sending;
+#[cfg(test)]
+mod shim;
+#[cfg(test)]
+mod steps;
+#[cfg(test)]
+mod table;
+#[cfg(test)]
+mod trace;

@@ -1,0 +1,70 @@
+// Names, values, ids, lineages and messages, as the tests make them.
+ghost use Rattle.std.specs.Prelude.{◌≡◌, IfOk};
+
+use anti_ids::{Bytes, Lineage, Name, Value, WriteId};
+use anti_kind::{Message, MessageKind};
+use std::alloc::Global;
+use std::test::Fail;
+
+/// The name that a text is.
+pub fn name(text: &[u8]) -> Result<Name, Fail> {
+    let name = Name::new(text).ok().ok_or("no name")?;
+    Ok(name)
+}
+
+/// The value that a text is.
+pub fn value(alloc: Global, text: &[u8]) -> Result<Value, Fail> {
+    let value = Value::new(alloc, text).ok().ok_or("no value")?;
+    Ok(value)
+}
+
+/// The id of a version of a key of a store.
+pub fn id(store: u32, key: &[u8], version: u64) -> Result<WriteId, Fail>
+    ensures { IfOk result (λ id. id.version ≡ version) }
+{
+    let key = name(key)?;
+    Ok(WriteId {
+        store,
+        key,
+        version,
+    })
+}
+
+/// The first versions of a key of a store.
+pub fn versions(alloc: Global, store: u32, key: &[u8], count: u64) -> Result<Lineage, Fail> {
+    let mut lineage = Lineage::root(alloc);
+    for version in 1..=count {
+        let id = id(store, key, version)?;
+        lineage.append(id).ok().ok_or("no lineage")?;
+    }
+    Ok(lineage)
+}
+
+/// These keys with their versions, each from 1 on, of the store 0.
+pub fn lineage(alloc: Global, ids: &[(&[u8], u64)]) -> Result<Lineage, Fail> {
+    let mut lineage = Lineage::root(alloc);
+    for (key, version) in ids {
+        if *version == 0 {
+            return Err("no version".into());
+        }
+        let id = id(0, key, *version)?;
+        lineage.append(id).ok().ok_or("no lineage")?;
+    }
+    Ok(lineage)
+}
+
+/// A message to the handler `work`, whose value is a letter.
+pub fn message(alloc: Global, kind: MessageKind, to: u32, letter: u8) -> Result<Message, Fail>
+    ensures { IfOk result (λ m. m.kind ≡ kind) }
+{
+    let handler = name(b"work")?;
+    let value = value(alloc, &[letter])?;
+    Ok(Message {
+        kind,
+        to,
+        depth: 0,
+        handler,
+        value,
+        baggage: Bytes::new(alloc),
+    })
+}

@@ -1,0 +1,193 @@
+// What an object is asked, one call after another, and what it answers.
+
+use crate::made::{lineage, message, name, value};
+use anti_ids::{Lineage, NoMemory};
+use anti_kind::{Actor, Asking, Call, Machine, MessageKind, Recorded, Reply, Row};
+use std::alloc::Global;
+use std::test::Fail;
+
+/// A key and its version.
+pub type Version<'a> = (&'a [u8], u64);
+
+/// What is asked.
+#[derive(Clone, Copy)]
+pub enum Asked<'a> {
+    /// To write a value to a key, with these versions of the store 0 as its lineage.
+    Write(&'a [u8], &'a [u8], &'a [Version<'a>]),
+    /// To read a key, in region 0.
+    Read(&'a [u8]),
+    /// To read the keys that begin with a prefix, in region 0.
+    Scan(&'a [u8]),
+    /// To look for these versions of the store 0, in region 0.
+    Look(&'a [Version<'a>]),
+    /// To bring a part of a version to region 0.
+    Ship(u64, u32),
+    /// To bring it once more.
+    Again(u64, u32),
+    /// To post a message, with the call that it answers and the letter that is its value.
+    Post(MessageKind, u32, u8),
+    /// To take the nth free delivery.
+    Take(u32),
+    /// To deliver a message once more.
+    Repost(u32),
+    /// To take the reply to a call.
+    TakeReply(u32),
+    /// To say that version 1 is done.
+    Ack,
+}
+
+/// What is told.
+#[derive(Clone, Copy)]
+pub enum Told<'a> {
+    /// Nothing, since the call is not ready or does not fit.
+    NotNow,
+    /// The version that was written.
+    Wrote(u64),
+    /// The rows: of each its key, its version and its value.
+    Rows(&'a [(&'a [u8], u64, &'a [u8])]),
+    /// How many ids are missing.
+    Missing(u32),
+    /// That a part was brought.
+    Moved,
+    /// The number of the message that was posted.
+    Posted(u32),
+    /// The number and the letter of the message that was taken.
+    Got(u32, u8),
+    /// That it was done.
+    Done,
+}
+
+/// What is asked, what is told, and the units that are then held and owed.
+#[derive(Clone, Copy)]
+pub struct Step<'a>(pub Asked<'a>, pub Told<'a>, pub u32, pub u32);
+
+/// A write.
+pub fn write(alloc: Global, key: &[u8], text: &[u8], ids: &[Version]) -> Result<Call, Fail> {
+    let key = name(key)?;
+    let value = value(alloc, text)?;
+    let lineage = lineage(alloc, ids)?;
+    Ok(Call::Write {
+        key,
+        value,
+        lineage,
+    })
+}
+
+fn ship(version: u64, part: u32) -> Call {
+    Call::Ship {
+        region: 0,
+        version,
+        part,
+    }
+}
+
+fn again(version: u64, part: u32) -> Call {
+    Call::Again {
+        region: 0,
+        version,
+        part,
+    }
+}
+
+fn look(ids: Lineage) -> Call {
+    Call::Look {
+        region: 0,
+        ids,
+        dry: false,
+    }
+}
+
+fn call_of(alloc: Global, asked: Asked) -> Result<Call, Fail> {
+    match asked {
+        Asked::Write(key, text, ids) => write(alloc, key, text, ids),
+        Asked::Read(key) => {
+            let key = name(key)?;
+            Ok(Call::Read { region: 0, key })
+        }
+        Asked::Scan(prefix) => {
+            let prefix = name(prefix)?;
+            Ok(Call::Scan { region: 0, prefix })
+        }
+        Asked::Look(ids) => {
+            let ids = lineage(alloc, ids)?;
+            Ok(look(ids))
+        }
+        Asked::Ship(version, part) => Ok(ship(version, part)),
+        Asked::Again(version, part) => Ok(again(version, part)),
+        Asked::Post(kind, to, letter) => {
+            let message = message(alloc, kind, to, letter)?;
+            Ok(Call::Post { message })
+        }
+        Asked::Take(nth) => Ok(Call::Take { nth }),
+        Asked::Repost(number) => Ok(Call::Repost { number }),
+        Asked::TakeReply(number) => Ok(Call::TakeReply { number }),
+        Asked::Ack => Ok(Call::Ack { version: 1 }),
+    }
+}
+
+fn are_rows(rows: &[Row], wanted: &[(&[u8], u64, &[u8])]) -> bool {
+    if rows.len() != wanted.len() {
+        return false;
+    }
+    for (row, (key, version, value)) in rows.iter().zip(wanted) {
+        if row.key.bytes() != *key || row.version != *version || row.value.bytes() != *value {
+            return false;
+        }
+    }
+    true
+}
+
+fn is_told(reply: &Option<Reply>, told: Told) -> bool {
+    let Some(reply) = reply else {
+        return matches!(told, Told::NotNow);
+    };
+    match told {
+        Told::NotNow => false,
+        Told::Wrote(wanted) =>
+            matches!(reply, Reply::Written { version, .. } if *version == wanted),
+        Told::Rows(wanted) =>
+            matches!(reply, Reply::Shown(rows) if are_rows(rows.as_slice(), wanted)),
+        Told::Missing(count) =>
+            matches!(reply, Reply::Missing { missing, .. } if missing.len() == count),
+        Told::Moved => matches!(reply, Reply::Moved),
+        Told::Posted(wanted) => matches!(reply, Reply::Posted(number) if *number == wanted),
+        Told::Got(wanted, letter) =>
+            matches!(reply, Reply::Got { number, message } if *number == wanted && message.value.bytes() == [letter].as_slice()),
+        Told::Done => matches!(reply, Reply::Done),
+    }
+}
+
+// Makes a call, where it is ready and fits, as the carrier 0.
+fn make<M: Machine>(object: &mut Recorded<M>, call: Call) -> Result<Option<Reply>, NoMemory> {
+    let asking = Asking {
+        object: 0,
+        actor: Actor::Carrier(0),
+        span: 0,
+        clock: 0,
+        call,
+    };
+    if let Err(_refusal) = object.judge(&asking) {
+        return Ok(None);
+    }
+    let due = object.due(&asking.call)?;
+    let entry = object.entry(0, asking, due);
+    let reply = object.make(entry)?;
+    Ok(Some(reply))
+}
+
+/// How many of these steps, from the first on, go as they say.
+pub fn steps_made<M: Machine>(
+    alloc: Global,
+    object: &mut Recorded<M>,
+    steps: &[Step],
+) -> Result<usize, Fail> {
+    for (place, step) in steps.iter().enumerate() {
+        let call = call_of(alloc, step.0)?;
+        let reply = make(object, call)?;
+        let machine = object.machine();
+        if !is_told(&reply, step.1) || machine.held() != step.2 || machine.owed() != step.3 {
+            return Ok(place);
+        }
+    }
+    Ok(steps.len())
+}
