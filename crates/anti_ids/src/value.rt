@@ -22,18 +22,9 @@ pub enum ValueFault {
     NoMemory,
 }
 
-/// A value: 0 to 256 bytes of UTF-8. A copy and its further copies share their memory.
+/// A value: 0 to 256 bytes of UTF-8. Its copies share its memory.
 pub struct Value {
-    memory: ValueMemory,
-}
-
-// Where the bytes of a value are held.
-#[derive(Drop)]
-pub(crate) enum ValueMemory {
-    // Nobody else holds them.
-    Own(Vec<u8>),
-    // Others may hold the text too.
-    Shared(Text),
+    text: Option<Text>,
 }
 
 impl Model for Value {
@@ -43,16 +34,16 @@ impl Model for Value {
 
     ghost Value = { List ℕ };
 
-    ghost view = { λ v. bytes_of v.memory };
+    ghost view = { λ v. bytes_of v.text };
 
-    ghost invariant = { λ v. IsValue (bytes_of v.memory) };
+    ghost invariant = { λ v. IsValue (bytes_of v.text) };
 }
 
 // By hand, so that no caller sees the fields.
 impl Drop for Value {
     fn drop(self) {
-        let Value { memory } = self;
-        drop(memory);
+        let Value { text } = self;
+        drop(text);
     }
 }
 
@@ -77,21 +68,20 @@ impl Value {
         if !is_text(text) {
             return Err(ValueFault::BadUtf8);
         }
-        match Vec::from_slice(alloc, text) {
-            Ok(bytes) => Ok(Value {
-                memory: ValueMemory::Own(bytes),
-            }),
-            Err(_) => Err(ValueFault::NoMemory),
+        if text.is_empty() {
+            return Ok(Value { text: None });
+        }
+        match Text::copied(alloc, text) {
+            Ok(text) => Ok(Value { text: Some(text) }),
+            Err(NoMemory) => Err(ValueFault::NoMemory),
         }
     }
 
     /// The value of no bytes. It takes no memory.
-    pub fn empty(alloc: Global) -> Value
+    pub fn empty(_alloc: Global) -> Value
         ensures { result ≡ [] }
     {
-        Value {
-            memory: ValueMemory::Own(Vec::new(alloc)),
-        }
+        Value { text: None }
     }
 
     /// The bytes of the value.
@@ -99,20 +89,20 @@ impl Value {
         ensures bytes { result.now ≡ self.now }
         ensures value { IsValue self.now }
     {
-        match &self.memory {
-            ValueMemory::Own(bytes) => bytes.as_slice(),
-            ValueMemory::Shared(text) => text.bytes(),
+        match &self.text {
+            Some(text) => text.bytes(),
+            None => &[],
         }
     }
 }
 
 impl Copies for Value {
-    fn copy(&self, alloc: Global) -> Result<Value, NoMemory> {
-        let memory = match &self.memory {
-            ValueMemory::Own(bytes) if bytes.is_empty() => ValueMemory::Own(Vec::new(alloc)),
-            ValueMemory::Own(bytes) => ValueMemory::Shared(Text::copied(alloc, bytes.as_slice())?),
-            ValueMemory::Shared(text) => ValueMemory::Shared(text.share()?),
-        };
-        Ok(Value { memory })
+    fn copy(&self, _alloc: Global) -> Result<Value, NoMemory> {
+        match &self.text {
+            Some(text) => Ok(Value {
+                text: Some(text.share()?),
+            }),
+            None => Ok(Value { text: None }),
+        }
     }
 }

@@ -1,9 +1,7 @@
--- How memory stands for the bytes of a value.
-use Rattle.std.specs.Prelude.{ℕ, List}
-use Rattle.anti_ids.specs.declared.value.ValueMemory.{ValueMemory}
-use Rattle.anti_ids.specs.declared.value.ValueMemory.TheVariants.{Own, Shared}
+-- How shared text stands for bytes.
+use Rattle.std.specs.Prelude.{ℕ, List, [], Option, None, Some}
 
--- the bytes that are held
-abbrev pub bytes_of : ValueMemory → List ℕ
-bytes_of (Own bytes) = bytes.items
-bytes_of (Shared text) = text
+-- the bytes of a text; no text stands for none
+abbrev pub bytes_of : Option (List ℕ) → List ℕ
+bytes_of None = []
+bytes_of (Some text) = text
