@@ -15,6 +15,7 @@ mod service;
 mod store;
 mod sub;
 
+pub use anti_kind::StoreKind;
 pub use anti_rules::{Part, Place};
 pub use app::{
     App, AppFault, Choice, Choices, HandlerDef, Handlers, Names, Numbers, RequestDef, Requests,

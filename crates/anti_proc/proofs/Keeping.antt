@@ -161,7 +161,7 @@ key_named input variables (keys.Plain key) = named_if (is_plain key) key refl
 
 -- ---- the ids of the looks
 
-abbrev ItsIds : List WriteId → PlannedLook → Type 0
+abbrev pub ItsIds : List WriteId → PlannedLook → Type 0
 ItsIds lineage look = look.ids ≡ ids_of look.store lineage
 
 its_ids_with : (lineage : List WriteId) (store : ℕ) (ids : List WriteId) (further : List PlannedLook) → ids ≡ ids_of store lineage → Each (ItsIds lineage) further
@@ -170,7 +170,7 @@ its_ids_with lineage store [] further its each = each
 its_ids_with lineage store (i ∷ is) further its each = (its, each)
 
 -- each look asks for the ids of its store in the lineage
-looks_for_its_ids : (stores : List ℕ) (lineage : List WriteId) → Each (ItsIds lineage) (plan stores lineage)
+pub looks_for_its_ids : (stores : List ℕ) (lineage : List WriteId) → Each (ItsIds lineage) (plan stores lineage)
 looks_for_its_ids [] lineage = tt
 looks_for_its_ids (store ∷ stores) lineage = its_ids_with lineage store (ids_of store lineage) (plan stores lineage) refl (looks_for_its_ids stores lineage)
 

@@ -1,11 +1,14 @@
 pub mod Bringing
+pub mod Carrying
 pub mod Decimals
+pub mod EachCall
 pub mod InARow
 pub mod Keeping
 pub mod Knowing
 pub mod KnownCalls
 pub mod Lineages
 pub mod Looking
+pub mod Placed
 pub mod Plans
 pub mod ProcessCalls
 pub mod Running

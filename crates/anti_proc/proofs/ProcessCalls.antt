@@ -41,10 +41,10 @@ module _ (app : App) (Store : ℕ → Type 0) (Inbox : ℕ → List ℕ → Type
 
 -- ---- the law that asks nothing of what is carried
 
-abbrev Anything : Unit {0} → ℕ → List WriteId → Type 0
+abbrev pub Anything : Unit {0} → ℕ → List WriteId → Type 0
 Anything h n ids = Unit {0}
 
-keeps_nothing : (app : App) → Keeps app (Unit {0}) Anything Anything nothing_more AnyReply
+pub keeps_nothing : (app : App) → Keeps app (Unit {0}) Anything Anything nothing_more AnyReply
 keeps_nothing app = record {
   none_carried = λ h n. tt;
   none_brought = λ h n. tt;

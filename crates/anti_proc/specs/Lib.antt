@@ -3,6 +3,7 @@ pub mod Barriers
 pub mod Births
 pub mod Brought
 pub mod Calls
+pub mod Carrying
 pub mod Foreign
 pub mod Known
 pub mod Local

@@ -1,13 +1,15 @@
-ghost use Rattle.std.specs.Prelude.{ℕ, ◌≤◌, List, true, false, length, IsTrue};
+ghost use Rattle.std.specs.Prelude.{ℕ, ◌<◌, ◌≤◌, List, true, false, length, IsTrue};
 ghost use Rattle.anti_ids.specs.Ids.{IsLineage};
 ghost use Rattle.anti_ids.specs.declared.id.WriteId.{WriteId};
 ghost use Rattle.anti_kind.specs.declared.entry.Entry.{Entry};
+ghost use Rattle.anti_app.specs.Objects.{object_count, region_of, service_at};
 ghost use Rattle.anti_app.specs.Sound.{is_sound};
 ghost use Rattle.anti_app.specs.declared.app.App.{App};
 ghost use Rattle.anti_lang.specs.Program.{Block, Barrier, DryRun};
 ghost use Rattle.anti_proc.specs.Barriers.{AllLookInARow, AsksFor, BeginsItsLooks, GoesOver, LooksOnceAt};
 ghost use Rattle.anti_proc.specs.Brought.{CarriesLineages, CarriesWhatCame, came_first};
 ghost use Rattle.anti_proc.specs.Calls.{AllOfProcess};
+ghost use Rattle.anti_proc.specs.Carrying.{HandsOnWhatIsCarried, HasItsObject, IsAtHome, OfEachCall};
 ghost use Rattle.anti_proc.specs.Known.{AllKnown, IsReplyAt};
 ghost use Rattle.anti_proc.specs.Local.{Local, Setting};
 ghost use Rattle.anti_proc.specs.Meaning.{begun, step_tree, tree_of};
@@ -52,4 +54,31 @@ pub fn carries_lineages()
 pub fn calls_are_known()
     ensures { (app : App) (birth : Entry) → IsTrue (is_sound app) → length app.stores.items ≤ birth.object
         → IsReplyAt app birth.object birth.reply → AllKnown app (tree_of app birth) }
+{}
+
+/// A write stores just the lineage that the process carries then, a look asks for just those of the carried ids that are of the store
+/// looked at, and a message has just the text of what is carried, for every body, every value and every list of replies. It does nothing.
+pub fn calls_hand_on_what_is_carried()
+    ensures bodies { (body : Block) (s : Setting) (ids : List WriteId)
+        → OfEachCall (HandsOnWhatIsCarried s.app) (begun body s ids) }
+    ensures processes { (app : App) (birth : Entry)
+        → OfEachCall (HandsOnWhatIsCarried app) (tree_of app birth) }
+{}
+
+/// A process reads, scans, polls and looks in the region of the service whose inbox its message came to, and in no other, for every body,
+/// every value and every list of replies. It does nothing.
+pub fn calls_are_made_at_home()
+    ensures bodies { (body : Block) (s : Setting) (ids : List WriteId)
+        → OfEachCall (IsAtHome s.region) (begun body s ids) }
+    ensures processes { (app : App) (birth : Entry)
+        → OfEachCall (IsAtHome (region_of app (service_at app birth.object))) (tree_of app birth) }
+{}
+
+/// Each call of a process of a sound application, whose message came to one of its inboxes, is made at an object that is there: a write, a
+/// read, a scan, a poll or a look at a store, a post or the taking of a reply at an inbox. The process makes no other call, whatever the
+/// message, its values and the replies are. It does nothing.
+pub fn calls_have_their_objects()
+    ensures { (app : App) (birth : Entry) → IsTrue (is_sound app)
+        → length app.stores.items ≤ birth.object → birth.object < object_count app
+        → OfEachCall (HasItsObject app) (tree_of app birth) }
 {}

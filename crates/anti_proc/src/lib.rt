@@ -18,7 +18,8 @@ mod want;
 mod words;
 
 pub use laws::{
-    barriers_look_in_a_row, calls_are_known, carries_lineages, carries_what_came, laws_of_processes,
+    barriers_look_in_a_row, calls_are_known, calls_are_made_at_home, calls_hand_on_what_is_carried,
+    calls_have_their_objects, carries_lineages, carries_what_came, laws_of_processes,
 };
 pub use process::Process;
 pub use want::{End, ProcFault, Want};
