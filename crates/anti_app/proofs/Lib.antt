@@ -6,6 +6,7 @@ mod SoundRegions
 mod SoundStores
 mod Served
 mod SoundBodies
+mod ParsedBodies
 mod SoundServices
 mod SoundChoices
 mod Soundness

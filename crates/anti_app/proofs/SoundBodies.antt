@@ -1,7 +1,6 @@
 -- What a document without a breach says of the bodies of its handlers.
 use Rattle.std.proofs.Common.{◌≡◌, ℕ, suc, ◌+◌, ◌≤◌, codes, List, [], ◌∷◌, Bool, true, false, ◌||◌, nat_le, length, Option, None, Some, is_none, Result, Ok, Err, if◌then◌else◌, refl, sym, ap, ◌∙◌, arith}
 use Rattle.std.specs.List.{list_all}
-use Rattle.std.specs.Option.{option_map_or}
 use Rattle.std.specs.Str.{bytes_eq}
 use Rattle.std.proofs.lemmas.Bool.{and_from, leb-true, le-leb}
 use Rattle.anti_ids.specs.declared.limits.TheConstants.{MOST_LINES}
@@ -17,21 +16,20 @@ use Rattle.anti_lang.specs.Faults.{block_fault, variable_fault}
 use Rattle.anti_lang.specs.Parsing.{parsed, parsed_or, body_or, lines_from, read_or}
 use Rattle.anti_lang.proofs.BodyLaws.{lines_stated as lines_read, few_spans}
 use Rattle.anti_lang.proofs.PlainLemmas.{block_again}
-use Rattle.toml.specs.Data.{Data, Members, get_member, as_table}
+use Rattle.toml.specs.Data.{Data, Members}
 use Rattle.anti_rules.specs.StoreWords.{kind_of}
-use Rattle.anti_rules.specs.Trees.{text_of, things_at, is_one_of}
-use Rattle.anti_rules.specs.Keys.{keys_of, all_fit, has_count}
+use Rattle.anti_rules.specs.Trees.{text_of, is_one_of}
 use Rattle.anti_rules.specs.Statements.{body_in as lines_stated, store_fits, handler_exists}
-use Rattle.anti_rules.specs.Rules.{table_line}
 use Rattle.anti_rules.specs.Order.{first_breach}
-use Rattle.anti_rules.specs.declared.rule.Rule.TheVariants.{Typed, Counted, Statements, Blocks, Variables, StatementStores, StatementHandlers}
+use Rattle.anti_rules.specs.declared.rule.Rule.TheVariants.{Statements, Blocks, Variables, StatementStores, StatementHandlers}
 use Rattle.anti_rules.specs.declared.place.Part.TheVariants.{Handler}
-use Rattle.anti_rules.proofs.Holds.{wanted, tabled, few_things, states_block, lines_pass}
+use Rattle.anti_rules.proofs.AllParse.{few_lines}
+use Rattle.anti_rules.proofs.Holds.{states_block, lines_pass}
 use Rattle.anti_app.specs.Parts.{number_or_0, regions_of, region_number, stores_of, services_of, body_in, body_or_empty, lines_in}
 use Rattle.anti_kind.specs.Store.{has_keys, is_table, is_topic}
 use Rattle.anti_app.specs.Sound.{fits_stores, fits_services, is_sound_body}
 use Rattle.anti_app.proofs.Lookups.{same_text}
-use Rattle.anti_app.proofs.Kept.{FailsNone, each_true, counts_at, table_kept, length_made, each_passes}
+use Rattle.anti_app.proofs.Kept.{FailsNone, length_made, each_passes}
 use Rattle.anti_app.proofs.SoundStores.{stored_is, read_near}
 use Rattle.anti_app.proofs.Served.{line_served}
 
@@ -98,19 +96,11 @@ module _ (doc : Members) (fine : first_breach doc ≡ None) (home : List ℕ) wh
   line_fits (Does (Poll store key variable)) fits = read_near doc fine home store (codes "topic" ∷ []) is_topic polled_kinds fits
   line_fits line fits = refl
 
-  few_lines : (earlier : List Data) (d : Data) → FailsNone doc home Handler earlier d → nat_le (length (lines_stated d)) MOST_LINES ≡ true
-  few_lines earlier d none =
-      let table = tabled (table_line Typed Handler) (as_table d) (none Typed) in
-      let ms : Members = table.0 in
-      let counts = each_true (counts_at ms) (keys_of Handler) (wanted (all_fit has_count (keys_of Handler) ms) (table_kept (table_line Counted Handler) (as_table d) ms table.1 (none Counted))) in
-      ap (λ (o : Option Members). nat_le (length (option_map_or (λ found. things_at (codes "body") found) o [])) MOST_LINES) table.1
-      ∙ few_things 0 MOST_LINES (get_member (codes "body") ms) counts.1.0
-
   -- the body of a handler is sound
   pub body_sound : (earlier : List Data) (d : Data) → FailsNone doc home Handler earlier d → is_sound_body (stores_of doc) (services_of doc) region (block_of (body_in (lines_in d))) ≡ true
   unfolding is_sound_body
   body_sound earlier d none =
-      let few = few_lines earlier d none in
+      let few = few_lines doc home earlier d none in
       let stated = states_block d few (none Statements) (none Blocks) (none Variables) in
       let block : Block = stated.0 in
       let texts : List (List ℕ) = lines_in d in

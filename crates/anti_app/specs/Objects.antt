@@ -1,10 +1,11 @@
 -- The numbers of objects and handlers. The stores come first, in the order of the application, and then the inboxes of its
 -- services.
-use Rattle.std.specs.Prelude.{ℕ, ◌+◌, suc, ◌==◌, Bool, true, false, List, [], ◌∷◌, Option, Some, None, length, map, nat_lt, slice_get, ◌-◌, if◌then◌else◌}
+use Rattle.std.specs.Prelude.{ℕ, ◌<◌, ◌≤◌, ◌+◌, suc, ◌==◌, Bool, true, false, List, [], ◌∷◌, Option, Some, None, length, map, nat_lt, slice_get, ◌-◌, if◌then◌else◌}
 use Rattle.std.specs.List.{list_any}
 use Rattle.std.specs.Option.{option_map_or}
 use Rattle.anti_app.specs.Sound.{has_named}
 use Rattle.std.specs.Str.{bytes_eq}
+use Rattle.anti_kind.specs.Store.{is_queue}
 use Rattle.anti_lang.specs.Bodies.{block_of, step_of}
 use Rattle.anti_lang.specs.Program.{Block, Step, End}
 use Rattle.anti_lang.specs.declared.statement.Statement.{Statement}
@@ -50,6 +51,17 @@ abbrev pub object_at : App → ℕ → Option ObjectAt
 object_at app number =
     if nat_lt number (length app.stores.items) then Some (Store number)
     else inbox_at (length app.services.items) (number - length app.stores.items)
+
+-- whether a number is that of a store
+abbrev pub is_store : App → ℕ → Bool
+is_store app number = nat_lt number (length app.stores.items)
+
+-- the number of a store, and that of an inbox
+abbrev pub IsStore : App → ℕ → Type 0
+IsStore app number = number < length app.stores.items
+
+abbrev pub IsInbox : App → ℕ → Type 0
+IsInbox app number = (length app.stores.items ≤ number) × (number < object_count app)
 
 -- the number of the inbox of a service
 abbrev pub inbox_number : App → ℕ → ℕ
@@ -98,6 +110,14 @@ region_in (Some s) = s.region
 
 abbrev pub region_of : App → ℕ → ℕ
 region_of app service = region_in (slice_get app.services.items service)
+
+-- whether the store of a number is a queue
+abbrev pub queue_in : Option StoreDef → Bool
+queue_in None = false
+queue_in (Some s) = is_queue s.kind
+
+abbrev pub is_queue_at : App → ℕ → Bool
+is_queue_at app store = queue_in (slice_get app.stores.items store)
 
 -- whether a store has a replica in a region
 abbrev pub is_here : ℕ → StoreDef → Bool

@@ -1,7 +1,7 @@
 -- The subscriptions of an application have two numbers: one in the document, and their position among those of their store.
 use Rattle.std.specs.Prelude.{ℕ, Bool, List, false, length, map, take, filter, ◌==◌, Option, slice_get}
 use Rattle.std.specs.List.{range_with_len}
-use Rattle.std.specs.Option.{option_map_or}
+use Rattle.std.specs.Option.{option_and_then, option_map_or}
 use Rattle.anti_kind.specs.declared.store_kind.Sub.{Sub}
 use Rattle.anti_app.specs.declared.app.App.{App}
 use Rattle.anti_app.specs.declared.app.SubDef.{SubDef}
@@ -31,3 +31,7 @@ is_number_on app store number = option_map_or (is_on store) (slice_get app.subs.
 -- the number in the document of the subscription at a position among those of the store
 abbrev pub number_on : App → ℕ → ℕ → Option ℕ
 number_on app store position = slice_get (filter (is_number_on app store) (range_with_len 0 (length app.subs.items))) position
+
+-- that subscription
+abbrev pub sub_on : App → ℕ → ℕ → Option SubDef
+sub_on app store position = option_and_then (λ number. slice_get app.subs.items number) (number_on app store position)

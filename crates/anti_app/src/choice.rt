@@ -215,7 +215,8 @@ pub fn choices_of(
     app: &App,
     values: &[Value],
 ) -> Result<Result<Choices, u32>, NoMemory>
-    ensures { IfOk result (λ found. found ≡ if_chosen plain (choices_from app.now 0 (map view values.now))) }
+    ensures { IfOk result (λ found. found
+        ≡ if_chosen plain (choices_from app.now 0 (map view values.now))) }
 {
     let mut choices = List::new(alloc);
     let mut number: u32 = 0;

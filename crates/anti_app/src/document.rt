@@ -4,6 +4,7 @@ ghost use Rattle.toml.specs.Parse.{parse_document};
 ghost use Rattle.toml.specs.View.{table_view};
 ghost use Rattle.anti_ids.specs.Answers.{AnswersBut};
 ghost use Rattle.anti_rules.specs.Order.{first_breach};
+ghost use Rattle.anti_rules.specs.inner.Parses.{all_bodies};
 ghost use Rattle.anti_app.specs.Sound.{is_sound};
 ghost use Rattle.anti_app.specs.Parts.{seed_of, workers_of};
 ghost use Rattle.anti_app.specs.Chosen.{app_with, choices_of, if_chosen};
@@ -19,20 +20,21 @@ use crate::service::services_of;
 use crate::store::stores_of;
 use crate::sub::subs_of;
 use anti_ids::{List, MOST_WORKERS, NoMemory};
-use anti_rules::{first_breach, things_at};
+use anti_rules::{Bodies, first_breach, things_at};
 use std::alloc::Global;
 use toml::Table;
 
 // How many workers a run has where the document says nothing.
 const WORKERS: u32 = 2;
 
-// The application of a document, without its choices.
-fn parts_of(alloc: Global, doc: &Table) -> Result<App, NoMemory>
+// The application of a document, without its choices. Its bodies are parsed.
+fn parts_of(alloc: Global, doc: &Table, bodies: Bodies) -> Result<App, NoMemory>
+    requires { bodies ≡ all_bodies (table_view doc.now) }
     ensures { IfOk result (λ app. app ≡ app_with (table_view doc.now) []) }
 {
     let regions = regions_of(alloc, things_at(doc, "regions"))?;
     let stores = stores_of(alloc, regions.as_slice(), things_at(doc, "store"))?;
-    let services = services_of(alloc, regions.as_slice(), things_at(doc, "service"))?;
+    let services = services_of(alloc, regions.as_slice(), things_at(doc, "service"), bodies)?;
     let subs = subs_of(
         alloc,
         stores.as_slice(),
@@ -54,7 +56,8 @@ fn parts_of(alloc: Global, doc: &Table) -> Result<App, NoMemory>
 
 // The text of bytes that are UTF-8.
 fn text_of(bytes: &[u8]) -> Option<&str>
-    ensures { MatchOption result (is_utf8 bytes.now ≡ false) (λ text. (is_utf8 bytes.now ≡ true) × (text.now ≡ bytes.now)) }
+    ensures { MatchOption result (is_utf8 bytes.now ≡ false)
+        (λ text. (is_utf8 bytes.now ≡ true) × (text.now ≡ bytes.now)) }
 {
     match std::str::from_utf8(bytes) {
         Ok(text) => Some(text),
@@ -74,10 +77,12 @@ fn table_in(alloc: Global, text: &str) -> Result<Option<Table>, NoMemory>
 }
 
 // The application of a document that fails no rule, or the number, counted from 1, of its first choice that is none.
-fn chosen(alloc: Global, doc: &Table) -> Result<Result<App, u32>, NoMemory>
-    ensures { IfOk result (λ app. app ≡ if_chosen (app_with (table_view doc.now)) (choices_of (table_view doc.now))) }
+fn chosen(alloc: Global, doc: &Table, bodies: Bodies) -> Result<Result<App, u32>, NoMemory>
+    requires { bodies ≡ all_bodies (table_view doc.now) }
+    ensures { IfOk result (λ app. app ≡
+        if_chosen (app_with (table_view doc.now)) (choices_of (table_view doc.now))) }
 {
-    let mut app = parts_of(alloc, doc)?;
+    let mut app = parts_of(alloc, doc, bodies)?;
     match choices_of(alloc, &app, things_at(doc, "choices"))? {
         Ok(choices) => {
             app.choices = choices;
@@ -89,18 +94,19 @@ fn chosen(alloc: Global, doc: &Table) -> Result<Result<App, u32>, NoMemory>
 
 // The application of a document.
 fn app_in(alloc: Global, doc: &Table) -> Result<App, AppFault>
-    ensures { AnswersBut faults.NoMemory result (app_unless (table_view doc.now) (first_breach (table_view doc.now))) }
+    ensures { AnswersBut faults.NoMemory result
+        (app_unless (table_view doc.now) (first_breach (table_view doc.now))) }
 {
-    match first_breach(alloc, doc)? {
-        Some(breach) => {
+    let bodies = match first_breach(alloc, doc)? {
+        Ok(bodies) => bodies,
+        Err(breach) => {
             return Err(AppFault::Bad {
                 rule: breach.rule,
                 place: breach.place,
             });
         }
-        None => {}
-    }
-    match chosen(alloc, doc)? {
+    };
+    match chosen(alloc, doc, bodies)? {
         Ok(app) => Ok(app),
         Err(number) => Err(AppFault::BadChoice { number }),
     }

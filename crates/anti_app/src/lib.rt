@@ -14,6 +14,7 @@ mod request;
 mod service;
 mod store;
 mod sub;
+mod turning;
 
 pub use anti_kind::StoreKind;
 pub use anti_rules::{Part, Place};
@@ -23,7 +24,7 @@ pub use app::{
 };
 pub use document::read_app;
 pub use objects::{
-    ObjectAt, body_of, handler_number, has_handler, inbox_number, inbox_of, object_at,
-    object_count, region_of, service_at, store_names, store_number, stores_here,
+    ObjectAt, body_of, handler_number, has_handler, inbox_number, inbox_of, is_queue_at, is_store,
+    object_at, object_count, region_of, service_at, store_names, store_number, stores_here,
 };
-pub use positions::number_on;
+pub use positions::{number_on, sub_on};

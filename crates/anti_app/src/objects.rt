@@ -3,10 +3,11 @@ ghost use Rattle.anti_lang.specs.Bodies.{list_of};
 ghost use Rattle.anti_app.specs.Sound.{has_named};
 ghost use Rattle.anti_app.specs.Running.{CanRun};
 ghost use Rattle.anti_app.specs.Objects.{steps_of};
-ghost use Rattle.anti_app.specs.Objects.{body_among, body_of, handler_among, handler_number, has_handler, inbox_number, inbox_of, is_here, object_at, object_count, region_of, service_among, service_at, store_among, store_names, store_number, stores_here};
+ghost use Rattle.anti_app.specs.Objects.{body_among, body_of, handler_among, handler_number, has_handler, inbox_number, inbox_of, is_here, is_queue_at, is_store, object_at, object_count, region_of, service_among, service_at, store_among, store_names, store_number, stores_here};
 
 use crate::app::{App, HandlerDef, ServiceDef, StoreDef};
 use anti_ids::{Name, NoMemory};
+use anti_kind::StoreKind;
 use anti_lang::Statement;
 use std::alloc::Global;
 
@@ -31,7 +32,8 @@ pub fn object_count(app: &App) -> u32
 /// the last of them there is none.
 pub fn object_at(app: &App, number: u32) -> Option<ObjectAt>
     ensures at { result ≡ object_at app.now number }
-    ensures store { (store : ℕ) → result ≡ Some (ObjectAt.Store store) → store < length app.now.stores.items }
+    ensures store { (store : ℕ) → result ≡ Some (ObjectAt.Store store)
+        → store < length app.now.stores.items }
     ensures inbox { (service : ℕ) → result ≡ Some (ObjectAt.Inbox service)
         → service < length app.now.services.items }
 {
@@ -44,6 +46,23 @@ pub fn object_at(app: &App, number: u32) -> Option<ObjectAt>
         Some(ObjectAt::Inbox(service as u32))
     } else {
         None
+    }
+}
+
+/// Whether a number is that of a store.
+pub fn is_store(app: &App, number: u32) -> bool
+    ensures { result ≡ is_store app.now number }
+{
+    (number as usize) < app.stores.len()
+}
+
+/// Whether the store of a number is a queue.
+pub fn is_queue_at(app: &App, store: u32) -> bool
+    ensures { result ≡ is_queue_at app.now store }
+{
+    match app.stores.as_slice().get(store as usize) {
+        Some(store) => store.kind == StoreKind::Queue,
+        None => false,
     }
 }
 

@@ -1,7 +1,7 @@
-ghost use Rattle.std.specs.Prelude.{◌≡◌};
-ghost use Rattle.anti_app.specs.Subs.{is_number_on, number_on};
+ghost use Rattle.std.specs.Prelude.{◌≡◌, option_map};
+ghost use Rattle.anti_app.specs.Subs.{is_number_on, number_on, sub_on};
 
-use crate::app::App;
+use crate::app::{App, SubDef};
 
 // Whether the subscription with a number in the document is on a store.
 fn is_number_on(app: &App, store: u32, number: usize) -> bool
@@ -27,4 +27,12 @@ pub fn number_on(app: &App, store: u32, position: usize) -> Option<usize>
         }
     }
     None
+}
+
+/// The subscription at a position among those of a store.
+pub fn sub_on(app: &App, store: u32, position: usize) -> Option<&SubDef>
+    ensures { option_map (λ sub. sub.now) result ≡ sub_on app.now store position }
+{
+    let number = number_on(app, store, position)?;
+    app.subs.as_slice().get(number)
 }

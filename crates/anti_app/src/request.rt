@@ -42,7 +42,8 @@ pub fn requests_of(
     services: &[ServiceDef],
     values: &[Value],
 ) -> Result<Requests, NoMemory>
-    ensures { IfOk result (λ requests. requests ≡ plain (map (request_of services.now) (map view values.now))) }
+    ensures { IfOk result (λ requests. requests
+        ≡ plain (map (request_of services.now) (map view values.now))) }
 {
     let mut requests = List::new(alloc);
     for value in values {

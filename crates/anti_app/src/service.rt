@@ -1,73 +1,60 @@
-ghost use Rattle.std.specs.Prelude.{◌≡◌, ◌≤◌, length, map, IfOk, position};
+ghost use Rattle.std.specs.Prelude.{◌≡◌, map, IfOk, position};
 ghost use Rattle.std.specs.Str.{bytes_eq};
 ghost use Rattle.anti_ids.specs.List.{plain};
-ghost use Rattle.anti_lang.specs.Parsing.{parsed, texts_of};
 ghost use Rattle.toml.specs.View.{view};
-ghost use Rattle.anti_app.specs.Parts.{body_or_empty, body_in, lines_in, handler_of, service_of, service_place, service_number, handler_number, handler_in, service_at, handler_at};
+ghost use Rattle.anti_rules.specs.inner.Parses.{handler_body, service_bodies};
+ghost use Rattle.anti_app.specs.Parts.{handler_of, service_of, service_place, service_number, handler_number, handler_in, service_at, handler_at};
 
 use crate::app::{HandlerDef, Handlers, ServiceDef, Services};
 use crate::reading::{name_at, small};
 use crate::region::region_number;
-use anti_ids::{List, MOST_LINES, Name, NoMemory};
-use anti_lang::{Body, LangFault, Lines, parse};
-use anti_rules::{text_at, texts_in, things_in};
+use crate::turning::turned;
+use anti_ids::{List, Name, NoMemory};
+use anti_lang::Body;
+use anti_rules::{Bodies, text_at, things_in};
 use std::alloc::Global;
 use toml::Value;
 
-// The body that at most `MOST_LINES` lines state, or the empty one where they state none.
-fn parsed_body(alloc: Global, lines: &Lines) -> Result<Body, NoMemory>
-    requires { length lines.now.items ≤ MOST_LINES }
-    ensures { IfOk result (λ body. body ≡ body_or_empty (parsed (texts_of lines.now))) }
+// A handler, of which the body is parsed.
+#[tactic(auto, unfolding(crate::specs::Parts::handler_of), using(crate::proofs::ParsedBodies::same_body))]
+fn handler_of(value: &Value, body: Body) -> HandlerDef
+    requires { body ≡ handler_body (view value.now) }
+    ensures { result ≡ handler_of (view value.now) }
 {
-    match parse(alloc, lines) {
-        Ok(body) => Ok(body),
-        Err(LangFault::Line { line: _, code: _ }) => Ok(List::new(alloc)),
-        Err(LangFault::NoMemory) => Err(NoMemory),
-    }
-}
-
-// The body that lines state, or the empty one where they are more than `MOST_LINES` or state none.
-fn body_in(alloc: Global, lines: &Lines) -> Result<Body, NoMemory>
-    ensures { IfOk result (λ body. body ≡ body_in (texts_of lines.now)) }
-{
-    if lines.len() <= MOST_LINES {
-        parsed_body(alloc, lines)
-    } else {
-        Ok(List::new(alloc))
-    }
-}
-
-// A handler.
-#[tactic(auto, unfolding(crate::specs::Parts::handler_of))]
-fn handler_of(alloc: Global, value: &Value) -> Result<HandlerDef, NoMemory>
-    ensures { IfOk result (λ handler. handler ≡ handler_of (view value.now)) }
-{
-    let lines = texts_in(alloc, things_in(value, "body"))?;
-    let body = body_in(alloc, &lines)?;
-    Ok(HandlerDef {
+    HandlerDef {
         name: name_at(value, "name"),
         body,
-    })
+    }
 }
 
-// Some handlers.
-fn handlers_of(alloc: Global, values: &[Value]) -> Result<Handlers, NoMemory>
+// Some handlers, of which the bodies are parsed.
+fn handlers_of(alloc: Global, values: &[Value], bodies: List<Body>) -> Result<Handlers, NoMemory>
+    requires { bodies.items ≡ map handler_body (map view values.now) }
     ensures { IfOk result (λ handlers. handlers ≡ plain (map handler_of (map view values.now))) }
 {
     let mut handlers = List::new(alloc);
+    let mut bodies_left = turned(alloc, bodies)?;
     for value in values {
-        let handler = handler_of(alloc, value)?;
-        handlers.add(handler)?;
+        let Some(body) = bodies_left.pop() else {
+            unreachable!()
+        };
+        handlers.add(handler_of(value, body))?;
     }
     Ok(handlers)
 }
 
-// A service.
+// A service, of which the bodies are parsed.
 #[tactic(auto, unfolding(crate::specs::Parts::service_of))]
-fn service_of(alloc: Global, regions: &[Name], value: &Value) -> Result<ServiceDef, NoMemory>
+fn service_of(
+    alloc: Global,
+    regions: &[Name],
+    value: &Value,
+    bodies: List<Body>,
+) -> Result<ServiceDef, NoMemory>
+    requires { bodies ≡ service_bodies (view value.now) }
     ensures { IfOk result (λ service. service ≡ service_of regions.now (view value.now)) }
 {
-    let handlers = handlers_of(alloc, things_in(value, "handler"))?;
+    let handlers = handlers_of(alloc, things_in(value, "handler"), bodies)?;
     Ok(ServiceDef {
         name: name_at(value, "name"),
         region: region_number(regions, text_at(value, "region").as_bytes()).unwrap_or(0),
@@ -75,14 +62,24 @@ fn service_of(alloc: Global, regions: &[Name], value: &Value) -> Result<ServiceD
     })
 }
 
-/// Some services.
-pub fn services_of(alloc: Global, regions: &[Name], values: &[Value]) -> Result<Services, NoMemory>
-    ensures { IfOk result (λ services. services ≡ plain (map (service_of regions.now) (map view values.now))) }
+/// Some services, of which the bodies are parsed: each body is moved to its handler.
+pub fn services_of(
+    alloc: Global,
+    regions: &[Name],
+    values: &[Value],
+    bodies: Bodies,
+) -> Result<Services, NoMemory>
+    requires { bodies.items ≡ map service_bodies (map view values.now) }
+    ensures { IfOk result (λ services. services ≡
+        plain (map (service_of regions.now) (map view values.now))) }
 {
     let mut services = List::new(alloc);
+    let mut left = turned(alloc, bodies)?;
     for value in values {
-        let service = service_of(alloc, regions, value)?;
-        services.add(service)?;
+        let Some(bodies) = left.pop() else {
+            unreachable!()
+        };
+        services.add(service_of(alloc, regions, value, bodies)?)?;
     }
     Ok(services)
 }

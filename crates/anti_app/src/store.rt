@@ -24,7 +24,8 @@ fn replica_of(regions: &[Name], value: &Value) -> u32
 
 // The regions of some replicas.
 fn replicas_of(alloc: Global, regions: &[Name], values: &[Value]) -> Result<Numbers, NoMemory>
-    ensures { IfOk result (λ replicas. replicas ≡ plain (map (replica_of regions.now) (map view values.now))) }
+    ensures { IfOk result (λ replicas. replicas
+        ≡ plain (map (replica_of regions.now) (map view values.now))) }
 {
     let mut replicas = List::new(alloc);
     for value in values {
@@ -49,7 +50,8 @@ fn store_of(alloc: Global, regions: &[Name], value: &Value) -> Result<StoreDef, 
 
 /// Some stores.
 pub fn stores_of(alloc: Global, regions: &[Name], values: &[Value]) -> Result<Stores, NoMemory>
-    ensures { IfOk result (λ stores. stores ≡ plain (map (store_of regions.now) (map view values.now))) }
+    ensures { IfOk result (λ stores. stores
+        ≡ plain (map (store_of regions.now) (map view values.now))) }
 {
     let mut stores = List::new(alloc);
     for value in values {

@@ -34,7 +34,8 @@ pub fn subs_of(
     services: &[ServiceDef],
     values: &[Value],
 ) -> Result<SubDefs, NoMemory>
-    ensures { IfOk result (λ subs. subs ≡ plain (map (sub_of stores.now services.now) (map view values.now))) }
+    ensures { IfOk result (λ subs. subs
+        ≡ plain (map (sub_of stores.now services.now) (map view values.now))) }
 {
     let mut subs = List::new(alloc);
     for value in values {

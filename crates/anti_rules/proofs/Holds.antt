@@ -194,7 +194,7 @@ apart_more : (same : Data → Data → Bool) (d : Data) (ds earlier : List Data)
 apart_more same d ds [] none rest = refl
 apart_more same d ds (e ∷ earlier) none rest = apart_step (same e d) (list_any (same e) ds) _ _ _ (apart_more same d ds earlier) none rest
 
-pub all_of_none : (earlier : List Data) → list_all (λ (e : Data). true) earlier ≡ true
+all_of_none : (earlier : List Data) → list_all (λ (e : Data). true) earlier ≡ true
 all_of_none [] = refl
 all_of_none (e ∷ earlier) = all_of_none earlier
 

@@ -1,6 +1,5 @@
-ghost use Rattle.std.specs.Prelude.{◌≡◌, ◌≤◌, [], map, length, true, IfOk, OnOk, option_map};
+ghost use Rattle.std.specs.Prelude.{◌≡◌, ◌≤◌, [], map, length, true, IfOk};
 ghost use Rattle.std.specs.Option.{option_map_or};
-ghost use Rattle.anti_ids.specs.List.{pushed};
 ghost use Rattle.toml.specs.View.{view, table_view};
 ghost use Rattle.anti_lang.specs.Words.{words};
 ghost use Rattle.anti_lang.specs.Lines.{read_line};
@@ -8,11 +7,10 @@ ghost use Rattle.anti_lang.specs.Stated.{stated};
 ghost use Rattle.anti_lang.specs.Parsing.{parsed, texts_of};
 ghost use Rattle.anti_rules.specs.Trees.{text_of};
 ghost use Rattle.anti_rules.specs.Statements.{next, body_in, fault_of, body_fault, first_line, bad_line, line_fits};
-ghost use Rattle.anti_rules.specs.inner.Parses.{bodies_parse, services_parse, all_parse};
 
 use crate::rule::Rule;
 use crate::statement::line_fits;
-use crate::tree::{services_in, text_of, things_in};
+use crate::tree::{text_of, things_in};
 use anti_ids::{Bytes, List, MOST_LINES, NoMemory};
 use anti_lang::{LangFault, Lines, parse, read_line};
 use std::alloc::Global;
@@ -25,8 +23,8 @@ pub fn next(number: u32) -> u32
     number.saturating_add(1)
 }
 
-// The lines of a handler's body.
-fn body_in(value: &Value) -> &[Value]
+/// The lines of a handler's body.
+pub fn body_in(value: &Value) -> &[Value]
     ensures { map view result.now ≡ body_in (view value.now) }
 {
     things_in(value, "body")
@@ -78,30 +76,6 @@ pub fn body_fault(alloc: Global, value: &Value) -> Result<Option<LangFault>, NoM
     }
 }
 
-// Whether the body of each of some handlers has no fault.
-fn bodies_parse(alloc: Global, handlers: &[Value]) -> Result<bool, NoMemory>
-    ensures { IfOk result (λ parse. parse ≡ bodies_parse (map view handlers.now)) }
-{
-    for handler in handlers {
-        if body_fault(alloc, handler)?.is_some() {
-            return Ok(false);
-        }
-    }
-    Ok(true)
-}
-
-/// Whether no body of a document has a fault.
-pub fn all_parse(alloc: Global, doc: &Table) -> Result<bool, NoMemory>
-    ensures { IfOk result (λ parse. parse ≡ all_parse (table_view doc.now)) }
-{
-    for service in services_in(doc) {
-        if !bodies_parse(alloc, things_in(service, "handler"))? {
-            return Ok(false);
-        }
-    }
-    Ok(true)
-}
-
 // Whether a line passes a rule's test; one that states nothing does.
 fn text_fits(
     alloc: Global,
@@ -110,7 +84,9 @@ fn text_fits(
     home: &str,
     text: &str,
 ) -> Result<bool, NoMemory>
-    ensures { IfOk result (λ fits. fits ≡ option_map_or (line_fits rule (table_view doc.now) home.now) (read_line (words text.now)) true) }
+    ensures { IfOk result (λ fits. fits ≡
+        option_map_or (line_fits rule (table_view doc.now) home.now)
+        (read_line (words text.now)) true) }
 {
     match read_line(alloc, text.as_bytes())? {
         Some(line) => Ok(line_fits(rule, doc, home, &line)),
@@ -126,7 +102,8 @@ fn first_line(
     home: &str,
     values: &[Value],
 ) -> Result<Option<u32>, NoMemory>
-    ensures { IfOk result (λ line. line ≡ first_line (line_fits rule (table_view doc.now) home.now) 0 (map view values.now)) }
+    ensures { IfOk result (λ line. line ≡
+        first_line (line_fits rule (table_view doc.now) home.now) 0 (map view values.now)) }
 {
     let mut line = 0;
     for value in values {
@@ -146,7 +123,8 @@ pub fn bad_line(
     home: &str,
     value: &Value,
 ) -> Result<Option<u32>, NoMemory>
-    ensures { IfOk result (λ line. line ≡ bad_line (line_fits rule (table_view doc.now) home.now) (view value.now)) }
+    ensures { IfOk result (λ line. line ≡
+        bad_line (line_fits rule (table_view doc.now) home.now) (view value.now)) }
 {
     first_line(alloc, rule, doc, home, body_in(value))
 }

@@ -1,9 +1,9 @@
 ghost use Rattle.std.specs.Prelude.{◌≡◌, ◌≤◌, length, IfOk};
 ghost use Rattle.toml.specs.View.{table_view};
 ghost use Rattle.anti_rules.specs.Order.{rules, told, first_told, breach_from, first_breach};
-ghost use Rattle.anti_rules.specs.inner.Parses.{all_parse};
+ghost use Rattle.anti_rules.specs.inner.Parses.{parsed_bodies, all_bodies, is_shown, breach_in};
 
-use crate::body::all_parse;
+use crate::parsed::{Bodies, parsed_bodies, services_fit};
 use crate::place::{Part, Place};
 use crate::rule::Rule;
 use crate::walk::first_place;
@@ -71,18 +71,35 @@ fn told(rule: Rule, place: Place) -> Place
     }
 }
 
-// The first place that is told of a rule. Where all bodies parse, the rules on parsing hold, and no body is parsed again for them.
+// Whether the parsed bodies of a document show that it keeps a rule, so that no line is read again for it.
+fn is_shown(rule: Rule, doc: &Table, bodies: &Bodies) -> bool
+    requires { bodies.now ≡ all_bodies (table_view doc.now) }
+    ensures { result ≡ is_shown rule (table_view doc.now) }
+{
+    match rule {
+        Rule::Statements => true,
+        Rule::Blocks => true,
+        Rule::Variables => true,
+        Rule::StatementStores => services_fit(rule, doc, bodies),
+        Rule::StatementHandlers => services_fit(rule, doc, bodies),
+        _ => false,
+    }
+}
+
+// The first place that is told of a rule. The bodies are those of the document, where all parse.
 fn first_told(
     alloc: Global,
     rule: Rule,
     doc: &Table,
-    parse: bool,
+    bodies: &Option<Bodies>,
 ) -> Result<Option<Place>, NoMemory>
-    requires { parse ≡ all_parse (table_view doc.now) }
+    requires { bodies.now ≡ parsed_bodies (table_view doc.now) }
     ensures { IfOk result (λ place. place ≡ first_told rule (table_view doc.now)) }
 {
-    if parse && rule.is_of_parsing() {
-        return Ok(None);
+    if let Some(bodies) = bodies {
+        if is_shown(rule, doc, bodies) {
+            return Ok(None);
+        }
     }
     match first_place(alloc, rule, doc)? {
         Some(place) => Ok(Some(told(rule, place))),
@@ -90,14 +107,19 @@ fn first_told(
     }
 }
 
-// The first of some rules that a document fails. There are few rules. Whether all bodies parse is found once, as three rules rest on it.
-fn breach_from(alloc: Global, doc: &Table, tried: &[Rule]) -> Result<Option<Breach>, NoMemory>
-    requires { length tried.now ≤ 25 }
+// The first of some rules that a document fails. There are few rules.
+fn breach_from(
+    alloc: Global,
+    doc: &Table,
+    bodies: &Option<Bodies>,
+    tried: &[Rule],
+) -> Result<Option<Breach>, NoMemory>
+    requires few { length tried.now ≤ 25 }
+    requires bodies { bodies.now ≡ parsed_bodies (table_view doc.now) }
     ensures { IfOk result (λ breach. breach ≡ breach_from (table_view doc.now) 0 tried.now) }
 {
-    let parse = all_parse(alloc, doc)?;
     for (index, rule) in tried.iter().enumerate() {
-        if let Some(place) = first_told(alloc, *rule, doc, parse)? {
+        if let Some(place) = first_told(alloc, *rule, doc, bodies)? {
             return Ok(Some(Breach {
                 rule: index as u32 + 1,
                 place,
@@ -107,10 +129,20 @@ fn breach_from(alloc: Global, doc: &Table, tried: &[Rule]) -> Result<Option<Brea
     Ok(None)
 }
 
-/// The first rule of the format that a document fails, with the first place at which it does. Only want of memory is another answer.
+/// The first rule of the format that a document fails, with the first place at which it does, or the parsed bodies of a document that
+/// fails none. Where all bodies parse, no line is read twice. Only want of memory is another answer.
 #[tactic(auto, unfolding(crate::specs::Order::first_breach))]
-pub fn first_breach(alloc: Global, doc: &Table) -> Result<Option<Breach>, NoMemory>
-    ensures { IfOk result (λ breach. breach ≡ first_breach (table_view doc.now)) }
+pub fn first_breach(alloc: Global, doc: &Table) -> Result<Result<Bodies, Breach>, NoMemory>
+    ensures breach { IfOk result (λ found. breach_in found ≡ first_breach (table_view doc.now)) }
+    ensures bodies { IfOk result (λ found. IfOk found (λ bodies.
+        bodies ≡ all_bodies (table_view doc.now))) }
 {
-    breach_from(alloc, doc, rules())
+    let bodies = parsed_bodies(alloc, doc)?;
+    if let Some(breach) = breach_from(alloc, doc, &bodies, rules())? {
+        return Ok(Err(breach));
+    }
+    match bodies {
+        Some(bodies) => Ok(Ok(bodies)),
+        None => unreachable!(),
+    }
 }

@@ -4,6 +4,7 @@
 mod body;
 mod breach;
 mod keys;
+mod parsed;
 mod place;
 mod rule;
 mod rules;
@@ -13,8 +14,8 @@ mod table;
 mod tree;
 mod walk;
 
-pub use body::texts_in;
 pub use breach::{Breach, first_breach};
+pub use parsed::Bodies;
 pub use place::{Part, Place};
 pub use store_word::kind_of;
 pub use tree::{has_text, member, member_in, text_at, text_of, things_at, things_in};

@@ -1,6 +1,3 @@
-ghost use Rattle.std.specs.Prelude.{◌≡◌};
-ghost use Rattle.anti_rules.specs.inner.Parses.{is_of_parsing};
-
 /// A rule of the format, in the order in which the rules are tried.
 #[derive(Clone, Copy)]
 pub enum Rule {
@@ -54,13 +51,4 @@ pub enum Rule {
     StatementHandlers,
     /// Nothing that is not built yet is needed.
     Built,
-}
-
-impl Rule {
-    /// Whether it is one of the three on how bodies parse, which hold wherever all of them do.
-    pub fn is_of_parsing(self) -> bool
-        ensures { result ≡ is_of_parsing self }
-    {
-        matches!(self, Rule::Statements | Rule::Blocks | Rule::Variables)
-    }
 }

@@ -362,7 +362,8 @@ fn rule_23(
     part: Part,
     value: &Value,
 ) -> Result<Option<u32>, NoMemory>
-    ensures { IfOk result (λ line. line ≡ rule_23 (table_view doc.now) home.now part (view value.now)) }
+    ensures { IfOk result (λ line. line
+        ≡ rule_23 (table_view doc.now) home.now part (view value.now)) }
 {
     match part {
         Part::Handler => bad_line(alloc, Rule::StatementStores, doc, home, value),
@@ -417,7 +418,8 @@ fn typed_line(rule: Rule, fits: bool) -> Option<u32>
 
 // A rule on a thing that should be a table of a part.
 fn item_line(rule: Rule, part: Part, value: &Value) -> Option<u32>
-    ensures { result ≡ option_map_or (table_line rule part) (as_table (view value.now)) (typed_line rule false) }
+    ensures { result ≡ option_map_or (table_line rule part) (as_table (view value.now))
+        (typed_line rule false) }
 {
     match value.as_table() {
         Some(table) => table_line(rule, part, table),
@@ -447,7 +449,9 @@ pub fn rule_line(
     earlier: &[Value],
     value: &Value,
 ) -> Result<Option<u32>, NoMemory>
-    ensures { IfOk result (λ line. line ≡ rule_line rule (table_view doc.now) home.now part (map view earlier.now) (view value.now)) }
+    ensures { IfOk result (λ line. line
+        ≡ rule_line rule (table_view doc.now) home.now part (map view earlier.now)
+        (view value.now)) }
 {
     match rule {
         Rule::Listed => Ok(shape_line(rule, part, value)),

@@ -4,6 +4,7 @@ ghost use Rattle.anti_lang.specs.Lines.{Does};
 ghost use Rattle.anti_lang.specs.Bodies.{step_of};
 ghost use Rattle.anti_lang.specs.Stated.{stated};
 ghost use Rattle.anti_rules.specs.Statements.{is_read_at, is_read, store_fits, has_handler, handler_exists, line_fits};
+ghost use Rattle.anti_rules.specs.inner.Parses.{body_fits};
 
 use crate::rule::Rule;
 use crate::tree::{
@@ -22,7 +23,8 @@ fn is_read_at(home: &str, kinds: &[&str], store: &Value) -> bool
 
 // Whether there is a store of this name, of one of these kinds, with a replica in this region.
 fn is_read(doc: &Table, home: &str, kinds: &[&str], name: &Name) -> bool
-    ensures { result ≡ is_read (table_view doc.now) home.now (map (λ kind. kind.now) kinds.now) name.now }
+    ensures { result ≡
+        is_read (table_view doc.now) home.now (map (λ kind. kind.now) kinds.now) name.now }
 {
     match named(name.bytes(), stores_in(doc)) {
         Some(store) => is_read_at(home, kinds, store),
@@ -93,13 +95,41 @@ fn handler_exists(doc: &Table, statement: &Statement) -> bool
 
 // The test that a rule makes of a statement.
 fn statement_fits(rule: Rule, doc: &Table, home: &str, statement: &Statement) -> bool
-    ensures { result ≡ line_fits rule (table_view doc.now) home.now (Does (step_of statement.now)) }
+    ensures { result ≡
+        line_fits rule (table_view doc.now) home.now (Does (step_of statement.now)) }
 {
     match rule {
         Rule::StatementStores => store_fits(doc, home, statement),
         Rule::StatementHandlers => handler_exists(doc, statement),
         _ => true,
     }
+}
+
+/// Whether each of some statements, with those of its block, passes the test that a rule makes of it.
+#[tactic(auto, using(crate::proofs::FittingLines::then_fits, crate::proofs::FittingLines::repeat_fits, crate::proofs::FittingLines::if_fits))]
+pub fn body_fits(rule: Rule, doc: &Table, home: &str, statements: &[Statement]) -> bool
+    ensures { result ≡ body_fits rule (table_view doc.now) home.now statements.now }
+{
+    for statement in statements {
+        match statement {
+            Statement::Repeat { count: _, body } => {
+                if !body_fits(rule, doc, home, body.as_slice()) {
+                    return false;
+                }
+            }
+            Statement::IfAbsent { variable: _, body } => {
+                if !body_fits(rule, doc, home, body.as_slice()) {
+                    return false;
+                }
+            }
+            _ => {
+                if !statement_fits(rule, doc, home, statement) {
+                    return false;
+                }
+            }
+        }
+    }
+    true
 }
 
 /// The test that a rule makes of each line of a body.

@@ -32,7 +32,9 @@ fn first_from(
     before: u32,
     values: &[Value],
 ) -> Result<Option<Place>, NoMemory>
-    ensures { IfOk result (λ place. place ≡ first_from (rule_line rule (table_view doc.now) home.now part) part before [] (map view values.now)) }
+    ensures { IfOk result (λ place. place
+        ≡ first_from (rule_line rule (table_view doc.now) home.now part) part before []
+        (map view values.now)) }
 {
     let mut item = before;
     for (index, value) in values.iter().enumerate() {
@@ -64,7 +66,8 @@ fn first_handler(
     doc: &Table,
     services: &[Value],
 ) -> Result<Option<Place>, NoMemory>
-    ensures { IfOk result (λ place. place ≡ first_handler rule (table_view doc.now) 0 (map view services.now)) }
+    ensures { IfOk result (λ place. place
+        ≡ first_handler rule (table_view doc.now) 0 (map view services.now)) }
 {
     let mut before = 0;
     for service in services {
