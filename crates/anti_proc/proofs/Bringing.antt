@@ -1,23 +1,24 @@
--- What a process carries into a call came to the call's span before.
+-- What a process carries into a call came to the call's span before, or came first.
 use Rattle.std.proofs.Common.{◌≡◌, ℕ, ◌==◌, ◌||◌, Bool, true, false, not, eq-eqb, List, [], ◌∷◌, ◌++◌, refl, sym, ap, ◌∙◌, subst, inl, inr}
-use Rattle.std.specs.Prelude.{Some, if◌then◌else◌}
+use Rattle.std.specs.Prelude.{Option, Some, unwrap_or, if◌then◌else◌}
+use Rattle.std.specs.Option.{option_map_or}
 use Rattle.std.proofs.lemmas.Bool.{or_cases, or_left, or_right}
 use Rattle.anti_ids.specs.Ids.{has_id, is_id}
 use Rattle.anti_ids.specs.declared.id.WriteId.{WriteId}
 use Rattle.anti_ids.proofs.IdLemmas.{among_filter, has_id-with_ids}
 use Rattle.anti_kind.specs.declared.entry.Entry.{Entry}
 use Rattle.anti_kind.specs.declared.call.Reply.{Reply}
-use Rattle.anti_kind.specs.declared.call.Reply.TheVariants as replies
 use Rattle.anti_lang.specs.Program.{Block}
 use Rattle.anti_app.specs.declared.app.App.{App}
-use Rattle.anti_proc.specs.declared.want.End.{End}
-use Rattle.anti_proc.specs.declared.want.End.TheVariants.{Fine}
-use Rattle.anti_proc.specs.Brought.{CarriesWhatCame, ask_of, brought_by, came, came_first, made}
+use Rattle.anti_proc.specs.declared.end.BodyEnd.{BodyEnd}
+use Rattle.anti_proc.specs.declared.task.Task.{Task}
+use Rattle.anti_proc.specs.Brought.{CarriesWhatCame, brought_by, came, came_first, made}
 use Rattle.anti_proc.specs.Local.{Setting}
-use Rattle.anti_proc.specs.Meaning.{begun, setting_at, started, stated_in, tree_of}
-use Rattle.anti_app.specs.Objects.{body_of, handler_number, service_at}
-use Rattle.anti_proc.specs.Trees.{Tree, Ask, Asks, Ends, after}
-use Rattle.anti_proc.proofs.Keeping.{AnyInbox, AnyReply, AnyStore, Good, Keeps, any_fits, begun_good}
+use Rattle.anti_proc.specs.Meaning.{begun, setting_of, tree_of}
+use Rattle.anti_proc.specs.Tasks.{task_of}
+use Rattle.anti_proc.specs.Trees.{Tree, Ask, Asks, Ends, after, ask_of}
+use Rattle.anti_proc.proofs.Keeping.{AnyInbox, AnyReply, AnyStore, Good, Keeps, any_duty, any_fits, begun_good}
+use Rattle.anti_proc.proofs.Started.{its_body, started_each}
 
 -- which ids came to which span
 abbrev Came : Type 0
@@ -83,20 +84,27 @@ module _ (app : App) where
 abbrev first_came : List WriteId → Came
 first_came first n i = has_id i (if n == 1 then first else [])
 
-pub body_carries : (body : Block) (s : Setting) (ids : List WriteId) → CarriesWhatCame s.app ids (begun body s ids)
+pub body_carries : (body : Block) (s : Setting) (ids : List WriteId) → CarriesWhatCame s.app ids (begun body s (Some ids))
 body_carries body s ids rs ask is i has =
-    has_append i (if ask.span == 1 then ids else []) (brought_by s.app ask.span (made (begun body s ids) rs))
-    ∙ reached s.app (first_came ids) (begun body s ids) rs ask
-    (begun_good s AnyStore AnyInbox Came AllCame AllCame (more_came s.app) AnyReply (keeps_came s.app) tt body (any_fits s.app body) ids (first_came ids) (λ short k here. here)) is i has
+    has_append i (if ask.span == 1 then ids else []) (brought_by s.app ask.span (made (begun body s (Some ids)) rs))
+    ∙ reached s.app (first_came ids) (begun body s (Some ids)) rs ask
+    (begun_good s AnyStore AnyInbox Came AllCame AllCame (more_came s.app) AnyReply (keeps_came s.app) (any_duty s.app s.duty) body (any_fits s.app body) ids
+    (first_came ids) (λ k here. here)) is i has
 
-ended_carries : (app : App) (first : List WriteId) (end : End) → CarriesWhatCame app first (Ends end)
+ended_carries : (app : App) (first : List WriteId) (end : BodyEnd) → CarriesWhatCame app first (Ends end)
 ended_carries app first end [] ask is i has = absurd (cc)
 ended_carries app first end (r ∷ rs) ask is i has = ended_carries app first end rs ask is i has
 
-started_carries : (app : App) (inbox : ℕ) (reply : Reply) → CarriesWhatCame app (came_first app reply) (started app inbox reply)
-started_carries app inbox (replies.Got number m) =
-    body_carries (body_of app (service_at app inbox) (handler_number app (service_at app inbox) m.handler)) (setting_at app inbox number m) (stated_in app m)
-started_carries app inbox _ = ended_carries app [] Fine
+-- what comes first is what the task carries
+its_first : (app : App) (birth : Entry) (task : Task) (ids : List WriteId) → task_of app birth ≡ Some task → task.carried ≡ Some ids
+    → came_first app birth ≡ ids
+its_first app birth task ids is has =
+    ap (λ (found : Option Task). option_map_or (λ (t : Task). unwrap_or t.carried []) found []) is
+    ∙ ap (λ (carried : Option (List WriteId)). unwrap_or carried []) has
 
-pub process_carries : (app : App) (birth : Entry) → CarriesWhatCame app (came_first app birth.reply) (tree_of app birth)
-process_carries app birth = started_carries app birth.object birth.reply
+pub process_carries : (app : App) (birth : Entry) → CarriesWhatCame app (came_first app birth) (tree_of app birth)
+process_carries app birth =
+    started_each (CarriesWhatCame app (came_first app birth)) app birth (ended_carries app (came_first app birth))
+    (λ task ids is has.
+    subst (λ (first : List WriteId). CarriesWhatCame app first (begun (its_body app task) (setting_of app task) (Some ids)))
+    (sym (its_first app birth task ids is has)) (body_carries (its_body app task) (setting_of app task) ids))

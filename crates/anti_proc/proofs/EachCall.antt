@@ -1,6 +1,6 @@
 -- What is so of each form of call is so of each call that a process makes.
 use Rattle.std.proofs.Common.{◌≡◌, ℕ, zero, suc, Bool, true, false, cond, List, [], ◌∷◌, length, Option, Some, None}
-use Rattle.std.specs.Prelude.{nat_lt}
+use Rattle.std.specs.Prelude.{nat_lt, if◌then◌else◌}
 use Rattle.anti_ids.specs.Each.{Each}
 use Rattle.anti_ids.specs.Ids.{ids_of}
 use Rattle.anti_ids.specs.declared.id.WriteId.{WriteId}
@@ -15,15 +15,15 @@ use Rattle.anti_lang.specs.Program.{Step, Block}
 use Rattle.anti_lang.specs.Texts.{plain_name}
 use Rattle.anti_shim.specs.declared.looks.PlannedLook.{PlannedLook}
 use Rattle.anti_app.specs.Objects.{inbox_of, store_number, stores_here}
-use Rattle.anti_proc.specs.declared.given.Duty.{Duty}
-use Rattle.anti_proc.specs.declared.given.Duty.TheVariants as duties
+use Rattle.anti_proc.specs.declared.task.Duty.{Duty}
+use Rattle.anti_proc.specs.declared.task.Duty.TheVariants as duties
 use Rattle.anti_proc.specs.declared.variables.Held.{Held}
 use Rattle.anti_proc.specs.declared.variables.Held.TheVariants.{Wrote, Saw, Heard}
-use Rattle.anti_proc.specs.declared.want.End.{End}
-use Rattle.anti_proc.specs.declared.want.End.TheVariants.{BadKey, Depth, Fine, LineageFull}
+use Rattle.anti_proc.specs.declared.end.BodyEnd.{BodyEnd}
+use Rattle.anti_proc.specs.declared.end.BodyEnd.TheVariants.{BadKey, Depth, Fine, LineageFull}
 use Rattle.anti_proc.specs.Carrying.{OfEachCall}
 use Rattle.anti_proc.specs.Local.{Setting, Local, any_name, first_local, held, is_absent, key_of, new_span, removed, rooted, set, set_or, text_of}
-use Rattle.anti_proc.specs.Meaning.{Go, after_post, after_read, after_reply, after_write, answer, begun, block_tree, body_tree, carry, if_deep, kind_of, leave, leave_by, look_at, looks, message, planned, post_call, read_call, step_tree, turns, with_key, write_call, wrote}
+use Rattle.anti_proc.specs.Meaning.{Go, after_post, after_read, after_reply, after_write, answer, begun, block_tree, carry, if_deep, kind_of, leave, leave_by, look_at, looks, message, planned, post_call, read_call, step_tree, turns, with_key, write_call, wrote}
 use Rattle.anti_proc.specs.Trees.{Tree, Ask, Ends}
 use Rattle.anti_proc.proofs.Keeping.{ItsIds, looks_for_its_ids}
 
@@ -41,7 +41,9 @@ pub record OfEachForm (s : Setting) (Is : Ask → Type 0) : Type 0 where
       → Is (look_at s.region dry planned later l)
   pub post : (inbox : ℕ) (kind : MessageKind) (handler value : List ℕ) (l : Local)
       → Is (asked inbox (calls.Post (message kind s l handler value)) l)
-  pub reply : (number : ℕ) (l : Local) → Is (asked s.inbox (calls.Post (answer s l number)) l)
+  pub reply : (inbox number : ℕ) (handler : List ℕ) (l : Local) → Is (asked inbox (calls.Post (answer s l number handler)) l)
+  pub ack : (store version : ℕ) (l : Local) → Is (asked store (calls.Ack version) l)
+  pub nack : (store version : ℕ) (l : Local) → Is (asked store (calls.Nack version) l)
   pub take : (inbox number : ℕ) (l : Local) → Is (asked inbox (calls.TakeReply number) l)
 
 module _ (Is : Ask → Type 0) where
@@ -100,13 +102,18 @@ module _ (Is : Ask → Type 0) where
     planned_asked : (dry : Bool) (l : Local) (go : Go) → GoesOn go → OfEachCall Is (looks s.region dry (planned s l) l go)
     planned_asked dry l go goes = looks_asked dry (planned s l) l go (looks_for_its_ids (stores_here s.app s.region) l.carried) goes
 
-    left_by : (duty : Duty) (end : End) (l : Local) → OfEachCall Is (leave_by duty s end l)
-    left_by duties.Free end l = tt
-    left_by (duties.Answers number) end l = (each.reply number l, λ reply. tt)
+    worked : (good : Bool) (store version : ℕ) (l : Local) → Is (asked store (if good then calls.Ack version else calls.Nack version) l)
+    worked true store version l = each.ack store version l
+    worked false store version l = each.nack store version l
+
+    left_by : (duty : Duty) (good : Bool) (end : BodyEnd) (l : Local) → OfEachCall Is (leave_by duty good s end l)
+    left_by duties.Free good end l = tt
+    left_by (duties.Answers inbox number handler) good end l = (each.reply inbox number handler l, λ reply. tt)
+    left_by (duties.Works store version) good end l = (worked good store version l, λ reply. tt)
 
     keyed : (l : Local) (key : Option (List ℕ)) (go : List ℕ → Tree) → ((k : List ℕ) → OfEachCall Is (go k))
         → OfEachCall Is (with_key s l key go)
-    keyed l None go goes = left_by s.duty BadKey l
+    keyed l None go goes = left_by s.duty false BadKey l
     keyed l (Some k) go goes = goes k
 
     heard : (variable : List ℕ) (l : Local) (go : Go) → GoesOn go → (reply : Reply) → OfEachCall Is (after_reply s variable l go reply)
@@ -123,8 +130,8 @@ module _ (Is : Ask → Type 0) where
         → OfEachCall Is (if_deep s l (post_call (inbox_of s.app service) handler value variable s l go))
     post_asked service handler value variable l go goes =
         let inbox : ℕ = inbox_of s.app service in
-        either (nat_lt s.depth MOST_DEPTH) (post_call inbox handler value variable s l go) (leave s Depth l)
-        (each.post inbox (kind_of variable) handler value l, posted inbox variable l go goes) (left_by s.duty Depth l)
+        either (nat_lt s.depth MOST_DEPTH) (post_call inbox handler value variable s l go) (leave false s Depth l)
+        (each.post inbox (kind_of variable) handler value l, posted inbox variable l go goes) (left_by s.duty false Depth l)
 
     -- ---- statements and blocks
 
@@ -155,7 +162,7 @@ module _ (Is : Ask → Type 0) where
       step_good (program.Send service handler value) l go goes =
           post_asked service handler (text_of s.input l.variables value) None l go goes
       step_good (program.Reply value) l go goes = goes (record l { reply = text_of s.input l.variables value })
-      step_good program.Nack l go goes = left_by s.duty Fine l
+      step_good program.Nack l go goes = left_by s.duty false Fine l
       step_good program.Root l go goes = goes (rooted l.stopped l)
       step_good program.Stop l go goes = goes (new_span true l)
       step_good (program.Repeat count block) l go goes = turns_good count (block_tree block s) (block_good block) l go goes
@@ -167,5 +174,5 @@ module _ (Is : Ask → Type 0) where
       block_good (program.Then first rest) l go goes =
           step_good first l (λ l. block_tree rest s l go) (λ l. block_good rest l go goes)
 
-    pub each_begun : (body : Block) (ids : List WriteId) → OfEachCall Is (begun body s ids)
-    each_begun body ids = carried_on ids first_local (body_tree body s) (λ l. block_good body l (leave s Fine) (left_by s.duty Fine))
+    pub each_begun : (body : Block) (ids : List WriteId) → OfEachCall Is (begun body s (Some ids))
+    each_begun body ids = block_good body (record first_local { carried = ids }) (leave true s Fine) (left_by s.duty true Fine)

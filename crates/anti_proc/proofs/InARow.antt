@@ -1,6 +1,6 @@
 -- The looks of a barrier follow one another.
 use Rattle.std.proofs.Common.{◌≡◌, ℕ, zero, suc, Bool, true, false, cond, List, [], ◌∷◌, Option, Some, None, refl, ap}
-use Rattle.std.specs.Prelude.{nat_lt, length}
+use Rattle.std.specs.Prelude.{nat_lt, length, if◌then◌else◌}
 use Rattle.anti_ids.specs.declared.id.WriteId.{WriteId}
 use Rattle.anti_ids.specs.declared.limits.TheConstants.{MOST_DEPTH, MOST_IDS}
 use Rattle.anti_kind.specs.declared.call.Call.{Call}
@@ -13,18 +13,18 @@ use Rattle.anti_lang.specs.Program.{Step, Block}
 use Rattle.anti_lang.specs.Texts.{plain_name}
 use Rattle.anti_shim.specs.declared.looks.PlannedLook.{PlannedLook}
 use Rattle.anti_app.specs.declared.app.App.{App}
-use Rattle.anti_app.specs.Objects.{body_of, handler_number, inbox_of, service_at, store_number}
-use Rattle.anti_proc.specs.declared.given.Duty.{Duty}
-use Rattle.anti_proc.specs.declared.given.Duty.TheVariants as duties
+use Rattle.anti_app.specs.Objects.{inbox_of, store_number}
+use Rattle.anti_proc.specs.declared.task.Duty.{Duty}
+use Rattle.anti_proc.specs.declared.task.Duty.TheVariants as duties
 use Rattle.anti_proc.specs.declared.variables.Held.{Held}
 use Rattle.anti_proc.specs.declared.variables.Held.TheVariants.{Wrote, Saw, Heard}
-use Rattle.anti_proc.specs.declared.want.End.{End}
-use Rattle.anti_proc.specs.declared.want.End.TheVariants.{BadKey, Depth, Fine, LineageFull}
+use Rattle.anti_proc.specs.declared.end.BodyEnd.{BodyEnd}
+use Rattle.anti_proc.specs.declared.end.BodyEnd.TheVariants.{BadKey, Depth, Fine, LineageFull}
 use Rattle.anti_proc.specs.Barriers.{AllLookInARow, BeginsItsLooks, is_look, next_look}
-use Rattle.anti_proc.specs.Brought.{ask_of}
 use Rattle.anti_proc.specs.Local.{Setting, Local, any_name, first_local, held, is_absent, key_of, new_span, removed, rooted, set, set_or, text_of}
-use Rattle.anti_proc.specs.Meaning.{Go, after_post, after_read, after_reply, after_write, asks, begun, block_tree, body_tree, carry, if_deep, kind_of, leave, leave_by, look_at, looks, message, planned, post_call, read_call, setting_at, started, stated_in, step_tree, tree_of, turns, with_key, write_call, wrote}
-use Rattle.anti_proc.specs.Trees.{Tree, Ends}
+use Rattle.anti_proc.specs.Meaning.{Go, after_post, after_read, after_reply, after_write, answer, asks, begun, block_tree, carry, if_deep, kind_of, leave, leave_by, look_at, looks, message, planned, post_call, read_call, setting_of, step_tree, tree_of, turns, with_key, write_call, wrote}
+use Rattle.anti_proc.specs.Trees.{Tree, Ends, ask_of}
+use Rattle.anti_proc.proofs.Started.{its_body, started_each}
 
 -- it is so of what comes next, whatever the process knows
 abbrev GoesOn : Go → Type 0
@@ -92,13 +92,20 @@ read_asked store call variable l go key other goes =
     asked store (call key) l (after_read store variable l go) other (shown store variable l go goes)
 
 module _ (s : Setting) where
-  left_by : (duty : Duty) (end : End) (l : Local) → AllLookInARow (leave_by duty s end l)
-  left_by duties.Free end l = tt
-  left_by (duties.Answers number) end l = (record { look = refl; next = λ first later left reply. absurd (cc) }, λ reply. tt)
+  worked : (good : Bool) (store version : ℕ) (l : Local) (end : BodyEnd)
+      → AllLookInARow (asks store (if good then calls.Ack version else calls.Nack version) l (λ reply. Ends end))
+  worked true store version l end = asked store (calls.Ack version) l (λ reply. Ends end) refl (λ reply. tt)
+  worked false store version l end = asked store (calls.Nack version) l (λ reply. Ends end) refl (λ reply. tt)
+
+  left_by : (duty : Duty) (good : Bool) (end : BodyEnd) (l : Local) → AllLookInARow (leave_by duty good s end l)
+  left_by duties.Free good end l = tt
+  left_by (duties.Answers inbox number handler) good end l =
+      asked inbox (calls.Post (answer s l number handler)) l (λ reply. Ends end) refl (λ reply. tt)
+  left_by (duties.Works store version) good end l = worked good store version l end
 
   keyed : (l : Local) (key : Option (List ℕ)) (go : List ℕ → Tree) → ((k : List ℕ) → AllLookInARow (go k))
       → AllLookInARow (with_key s l key go)
-  keyed l None go goes = left_by s.duty BadKey l
+  keyed l None go goes = left_by s.duty false BadKey l
   keyed l (Some k) go goes = goes k
 
   heard : (variable : List ℕ) (l : Local) (go : Go) → GoesOn go → (reply : Reply) → AllLookInARow (after_reply s variable l go reply)
@@ -117,8 +124,8 @@ module _ (s : Setting) where
   post_asked service handler value variable l go goes =
       let inbox : ℕ = inbox_of s.app service in
       let call : Call = calls.Post (message (kind_of variable) s l handler value) in
-      either (nat_lt s.depth MOST_DEPTH) (post_call inbox handler value variable s l go) (leave s Depth l)
-      (asked inbox call l (after_post inbox variable s l go) refl (posted inbox variable l go goes)) (left_by s.duty Depth l)
+      either (nat_lt s.depth MOST_DEPTH) (post_call inbox handler value variable s l go) (leave false s Depth l)
+      (asked inbox call l (after_post inbox variable s l go) refl (posted inbox variable l go goes)) (left_by s.duty false Depth l)
 
   -- ---- statements and blocks
 
@@ -150,7 +157,7 @@ module _ (s : Setting) where
     step_good (program.Send service handler value) l go goes =
         post_asked service handler (text_of s.input l.variables value) None l go goes
     step_good (program.Reply value) l go goes = goes (record l { reply = text_of s.input l.variables value })
-    step_good program.Nack l go goes = left_by s.duty Fine l
+    step_good program.Nack l go goes = left_by s.duty false Fine l
     step_good program.Root l go goes = goes (rooted l.stopped l)
     step_good program.Stop l go goes = goes (new_span true l)
     step_good (program.Repeat count block) l go goes = turns_good count (block_tree block s) (block_good block) l go goes
@@ -161,14 +168,8 @@ module _ (s : Setting) where
     block_good program.End l go goes = goes l
     block_good (program.Then first rest) l go goes = step_good first l (λ l. block_tree rest s l go) (λ l. block_good rest l go goes)
 
-pub body_looks : (body : Block) (s : Setting) (ids : List WriteId) → AllLookInARow (begun body s ids)
-body_looks body s ids = carried_on ids first_local (body_tree body s) (λ l. block_good s body l (leave s Fine) (left_by s s.duty Fine))
-
-started_looks : (app : App) (inbox : ℕ) (reply : Reply) → AllLookInARow (started app inbox reply)
-started_looks app inbox (replies.Got number m) =
-    let service : ℕ = service_at app inbox in
-    body_looks (body_of app service (handler_number app service m.handler)) (setting_at app inbox number m) (stated_in app m)
-started_looks app inbox _ = tt
+pub body_looks : (body : Block) (s : Setting) (ids : List WriteId) → AllLookInARow (begun body s (Some ids))
+body_looks body s ids = block_good s body (record first_local { carried = ids }) (leave true s Fine) (left_by s s.duty true Fine)
 
 pub process_looks : (app : App) (birth : Entry) → AllLookInARow (tree_of app birth)
-process_looks app birth = started_looks app birth.object birth.reply
+process_looks app birth = started_each AllLookInARow app birth (λ end. tt) (λ task ids is has. body_looks (its_body app task) (setting_of app task) ids)

@@ -1,6 +1,6 @@
 -- What all calls of a process keep, whatever they are answered.
 use Rattle.std.proofs.Common.{◌≡◌, ℕ, zero, suc, ◌+◌, ◌≤◌, Bool, true, false, cond, List, [], ◌∷◌, length, IfSome, refl, sym, ◌∙◌, subst, arith}
-use Rattle.std.specs.Prelude.{Option, Some, None, nat_le, nat_lt, ◌&&◌, ◌==◌}
+use Rattle.std.specs.Prelude.{Option, Some, None, nat_le, nat_lt, ◌&&◌, ◌==◌, if◌then◌else◌}
 use Rattle.std.specs.Bool.{then_some}
 use Rattle.std.specs.List.{list_all}
 use Rattle.std.specs.Str.{bytes_eq}
@@ -26,17 +26,17 @@ use Rattle.anti_baggage.specs.Texts.{lineage_text}
 use Rattle.anti_app.specs.declared.app.App.{App}
 use Rattle.anti_shim.specs.Plans.{plan, with_look}
 use Rattle.anti_shim.specs.declared.looks.PlannedLook.{PlannedLook}
-use Rattle.anti_proc.specs.declared.given.Duty.{Duty}
-use Rattle.anti_proc.specs.declared.given.Duty.TheVariants as duties
+use Rattle.anti_proc.specs.declared.task.Duty.{Duty}
+use Rattle.anti_proc.specs.declared.task.Duty.TheVariants as duties
 use Rattle.anti_proc.specs.declared.variables.Held.{Held}
 use Rattle.anti_proc.specs.declared.variables.Held.TheVariants.{Wrote, Saw, Heard}
 use Rattle.anti_proc.specs.declared.variables.Variable.{Variable}
-use Rattle.anti_proc.specs.declared.want.End.{End}
-use Rattle.anti_proc.specs.declared.want.End.TheVariants.{BadKey, Depth, Fine, LineageFull}
+use Rattle.anti_proc.specs.declared.end.BodyEnd.{BodyEnd}
+use Rattle.anti_proc.specs.declared.end.BodyEnd.TheVariants.{BadKey, Depth, Fine, LineageFull}
 use Rattle.anti_proc.specs.Brought.{came}
 use Rattle.anti_proc.specs.Calls.{LooksWhereItMay}
 use Rattle.anti_proc.specs.Local.{Setting, Local, any_name, first_local, held, held_ids, held_in, held_text, ids_in, is_absent, key_of, new_span, removed, rooted, rows_ids, set, set_or, text_of, with_held}
-use Rattle.anti_proc.specs.Meaning.{Go, add, after_post, after_read, after_reply, after_write, begun, block_tree, body_tree, carry, hear_call, if_deep, kind_of, leave, leave_by, look_at, looks, message, planned, post_call, read_call, stated_in, step_tree, turns, with_key, write_call, wrote}
+use Rattle.anti_proc.specs.Meaning.{Go, add, after_post, after_read, after_reply, after_write, begun, block_tree, carry, hear_call, if_deep, kind_of, leave, leave_by, look_at, looks, message, planned, post_call, read_call, stated_in, step_tree, turns, with_key, write_call, wrote}
 use Rattle.anti_app.specs.Objects.{inbox_of, is_store_here, store_names, store_number, stores_here}
 use Rattle.anti_proc.specs.Trees.{Tree, Ask, Asks, Ends}
 use Rattle.anti_proc.proofs.Plans.{IsLookAt, among_here, looks_are_at}
@@ -62,6 +62,12 @@ module _ (app : App) (Store : ℕ → Type 0) (Inbox : ℕ → List ℕ → Type
     BlockFits program.End = Unit {0}
     BlockFits (program.Then first rest) = StepFits first × BlockFits rest
 
+  -- so it is of what is owed at the end
+  abbrev pub DutyFits : Duty → Type 0
+  DutyFits duties.Free = Unit {0}
+  DutyFits (duties.Answers inbox number handler) = Inbox inbox handler
+  DutyFits (duties.Works store version) = Store store
+
   -- A call that a process makes while it carries these ids. What it writes has a name for its key, and it writes, posts and looks for what it
   -- carries.
   abbrev pub IsMade : ℕ → List WriteId → Call → Type 0
@@ -69,6 +75,8 @@ module _ (app : App) (Store : ℕ → Type 0) (Inbox : ℕ → List ℕ → Type
   IsMade o carried (calls.Read region key) = Store o
   IsMade o carried (calls.Scan region prefix) = Store o
   IsMade o carried (calls.Poll region key) = Store o
+  IsMade o carried (calls.Ack version) = Store o
+  IsMade o carried (calls.Nack version) = Store o
   IsMade o carried (calls.Look region ids dry) = LooksWhereItMay app o (calls.Look region ids dry) × (ids ≡ ids_of o carried)
   IsMade o carried (calls.Post m) = Inbox o m.handler × (m.depth ≤ MOST_DEPTH) × (m.baggage.items ≡ lineage_text (store_names app) carried)
   IsMade o carried (calls.TakeReply number) = (handler : List ℕ) × Inbox o handler
@@ -119,6 +127,11 @@ AnyInbox o handler = Unit {0}
 -- then any body fits
 pub any_fits : (app : App) (block : Block) → BlockFits app AnyStore AnyInbox block
 any_fits app block = block_fits app AnyStore AnyInbox (λ name. tt) (λ service handler. tt) block
+
+pub any_duty : (app : App) (duty : Duty) → DutyFits app AnyStore AnyInbox duty
+any_duty app duties.Free = tt
+any_duty app (duties.Answers inbox number handler) = tt
+any_duty app (duties.Works store version) = tt
 
 module _ (app : App) (Store : ℕ → Type 0) (Inbox : ℕ → List ℕ → Type 0) (H : Type 0) (Carries : H → ℕ → List WriteId → Type 0) (more : H → Ask → Reply → H)
     (Fair : ℕ → Reply → Type 0) where
@@ -346,20 +359,30 @@ module _ (s : Setting) (Store : ℕ → Type 0) (Inbox : ℕ → List ℕ → Ty
     turns_good zero block good h l go sound goes = goes h l sound
     turns_good (suc n) block good h l go sound goes = good h l (λ l. turns n block l go) sound (λ h l sound. turns_good n block good h l go sound goes)
 
-    module _ (own : Inbox s.inbox s.handler) where
-      -- ---- the end
+    -- ---- the end
 
-      leave_good : (duty : Duty) (h : H) (end : End) (l : Local) → Sound h l → IsGood h (leave_by duty s end l)
-      leave_good duties.Free h end l sound = tt
-      leave_good (duties.Answers number) h end l sound = ((sound.0, (own, omega arith, refl), sound.1), λ r fair. tt)
+    worked : (good : Bool) (store version : ℕ) (carried : List WriteId) → Store store
+        → IsMade s.app Store Inbox store carried (if good then calls.Ack version else calls.Nack version)
+    worked true store version carried known = known
+    worked false store version carried known = known
+
+    left_by : (duty : Duty) (good : Bool) (h : H) (end : BodyEnd) (l : Local) → DutyFits s.app Store Inbox duty → Sound h l
+        → IsGood h (leave_by duty good s end l)
+    left_by duties.Free good h end l own sound = tt
+    left_by (duties.Answers inbox number handler) good h end l own sound = ((sound.0, (own, omega arith, refl), sound.1), λ r fair. tt)
+    left_by (duties.Works store version) good h end l own sound = ((sound.0, worked good store version l.carried own, sound.1), λ r fair. tt)
+
+    module _ (own : DutyFits s.app Store Inbox s.duty) where
+      leave_good : (good : Bool) (h : H) (end : BodyEnd) (l : Local) → Sound h l → IsGood h (leave good s end l)
+      leave_good good h end l sound = left_by s.duty good h end l own sound
 
       key_good : (h : H) (l : Local) (key : Option (List ℕ)) (go : List ℕ → Tree) → Sound h l → ((k : List ℕ) → IsGood h (go k)) → IsGood h (with_key s l key go)
-      key_good h l None go sound goes = leave_good s.duty h BadKey l sound
+      key_good h l None go sound goes = leave_good false h BadKey l sound
       key_good h l (Some k) go sound goes = goes k
 
       named_good : (h : H) (l : Local) (key : Option (List ℕ)) (go : List ℕ → Tree) → IfSome key IsNamed → Sound h l → ((k : List ℕ) → IsNamed k → IsGood h (go k))
           → IsGood h (with_key s l key go)
-      named_good h l None go named sound goes = leave_good s.duty h BadKey l sound
+      named_good h l None go named sound goes = leave_good false h BadKey l sound
       named_good h l (Some k) go named sound goes = goes k named
 
       -- ---- messages
@@ -391,9 +414,9 @@ module _ (s : Setting) (Store : ℕ → Type 0) (Inbox : ℕ → List ℕ → Ty
           ((sound.0, (known, deep, refl), sound.1), λ r fair. was_posted h inbox handler x (calls.Post (message (kind_of x) s l handler value)) l go known sound goes r)
 
       deep_or : (deep : Bool) (h : H) (tree : Tree) (l : Local) → deep ≡ nat_lt s.depth MOST_DEPTH → (s.depth + 1 ≤ MOST_DEPTH → IsGood h tree) → Sound h l
-          → IsGood h (cond deep tree (leave s Depth l))
+          → IsGood h (cond deep tree (leave false s Depth l))
       deep_or true h tree l deep good sound = let less : s.depth + 1 ≤ MOST_DEPTH = grind (arith, nat_tests) in good less
-      deep_or false h tree l deep good sound = leave_good s.duty h Depth l sound
+      deep_or false h tree l deep good sound = leave_good false h Depth l sound
 
       posts_good : (h : H) (service handler value : List ℕ) (x : Option (List ℕ)) (l : Local) (go : Go) → Inbox (inbox_of s.app service) handler → Sound h l → GoesOn go
           → IsGood h (if_deep s l (post_call (inbox_of s.app service) handler value x s l go))
@@ -426,7 +449,7 @@ module _ (s : Setting) (Store : ℕ → Type 0) (Inbox : ℕ → List ℕ → Ty
             posts_good h service handler (text_of s.input l.variables value) (Some variable) l go fits sound goes
         step_good (program.Send service handler value) fits h l go sound goes = posts_good h service handler (text_of s.input l.variables value) None l go fits sound goes
         step_good (program.Reply value) fits h l go sound goes = goes h (record l { reply = text_of s.input l.variables value }) sound
-        step_good program.Nack fits h l go sound goes = leave_good s.duty h Fine l sound
+        step_good program.Nack fits h l go sound goes = leave_good false h Fine l sound
         step_good program.Root fits h l go sound goes = goes h (rooted l.stopped l) (sound_rooted h l.stopped l sound)
         step_good program.Stop fits h l go sound goes = goes h (new_span true l) (fresh h true l)
         step_good (program.Repeat count block) fits h l go sound goes = turns_good count (block_tree block s) (block_good block fits) h l go sound goes
@@ -439,7 +462,7 @@ module _ (s : Setting) (Store : ℕ → Type 0) (Inbox : ℕ → List ℕ → Ty
             step_good first fits.0 h l (λ l. block_tree rest s l go) sound (λ h l sound. block_good rest fits.1 h l go sound goes)
 
       -- a process that begins with ids that may be carried
-      pub begun_good : (body : Block) → BlockFits s.app Store Inbox body → (ids : List WriteId) (h : H) → (length ids ≤ MOST_IDS → Carries h 1 ids) → IsGood h (begun body s ids)
+      pub begun_good : (body : Block) → BlockFits s.app Store Inbox body → (ids : List WriteId) (h : H) → Carries h 1 ids → IsGood h (begun body s (Some ids))
       begun_good body fits ids h carries =
-          carry_good h ids first_local (body_tree body s) carries (omega arith, keeps.none_carried h 1, tt)
-          (λ h l sound. block_good body fits h l (leave s Fine) sound (λ h l sound. leave_good s.duty h Fine l sound))
+          block_good body fits h (record first_local { carried = ids }) (leave true s Fine) (omega arith, carries, tt)
+          (λ h l sound. leave_good true h Fine l sound)

@@ -1,25 +1,35 @@
--- What is of the application is not foreign, and what is left of a process stays known.
-use Rattle.std.proofs.Common.{◌≡◌, ℕ, ◌<◌, true, false, not, ◌&&◌, List, [], ◌∷◌, length, refl, ap, arith}
-use Rattle.std.specs.Prelude.{nat_lt, nat_le}
+-- What is of the application is not foreign and starts the handler that it is for, and what is left of a process stays known.
+use Rattle.std.proofs.Common.{◌≡◌, ℕ, ◌<◌, Bool, true, false, not, List, [], ◌∷◌, length, Option, Some, None, if◌then◌else◌, option_map, option_and_then, refl, ap, ◌∙◌, arith}
+use Rattle.std.specs.Prelude.{is_some, nat_lt, nat_le}
 use Rattle.std.specs.List.{list_all}
-use Rattle.std.proofs.lemmas.Bool.{and_from, lt-ltb, le-leb}
+use Rattle.std.proofs.lemmas.Bool.{and_from, lt-ltb, le-leb, le-ltb}
 use Rattle.std.proofs.lemmas.List.{length-map}
 use Rattle.anti_ids.specs.Each.{Each}
+use Rattle.anti_ids.specs.Ids.{with_ids}
 use Rattle.anti_ids.specs.declared.id.WriteId.{WriteId}
+use Rattle.anti_ids.specs.declared.limits.TheConstants.{MOST_DEPTH}
 use Rattle.anti_kind.specs.declared.call.Call.{Call}
-use Rattle.anti_kind.specs.declared.message.Message.{Message}
+use Rattle.anti_kind.specs.declared.call.Call.TheVariants as calls
 use Rattle.anti_kind.specs.declared.call.Reply.{Reply}
 use Rattle.anti_kind.specs.declared.call.Reply.TheVariants as replies
+use Rattle.anti_kind.specs.declared.entry.Entry.{Entry}
+use Rattle.anti_kind.specs.declared.message.Message.{Message}
 use Rattle.anti_kind.specs.declared.row.Row.{Row}
 use Rattle.anti_app.specs.declared.app.App.{App}
 use Rattle.anti_app.specs.declared.app.StoreDef.{StoreDef}
-use Rattle.anti_ids.specs.declared.limits.TheConstants.{MOST_DEPTH}
-use Rattle.anti_proc.specs.declared.want.Want.TheVariants.{Make}
+use Rattle.anti_app.specs.declared.app.SubDef.{SubDef}
+use Rattle.anti_app.specs.declared.objects.ObjectAt.{ObjectAt}
+use Rattle.anti_app.specs.declared.objects.ObjectAt.TheVariants.{Store, Inbox}
+use Rattle.anti_app.specs.Objects.{IsInbox, IsStore, has_handler, inbox_at, object_at, service_at, store_names}
+use Rattle.anti_app.specs.Subs.{sub_on}
+use Rattle.anti_proc.specs.declared.task.Role.{Role}
+use Rattle.anti_proc.specs.declared.task.Task.{Task}
 use Rattle.anti_proc.specs.Calls.{IsOfProcess}
-use Rattle.anti_proc.specs.Foreign.{has_baggage, has_stores, is_foreign, is_foreign_birth, is_foreign_to}
+use Rattle.anti_proc.specs.Foreign.{has_stores, is_foreign, stated_lineage}
 use Rattle.anti_proc.specs.Known.{AllKnown, AreIdsOf, IsCallAt, IsMessageTo, IsReplyAt, IsRowOf}
-use Rattle.anti_app.specs.Objects.{has_handler, service_at, store_names}
-use Rattle.anti_proc.specs.Trees.{Tree, Asks, Ends, IsAskedAt, want_of}
+use Rattle.anti_proc.specs.Local.{row_ids}
+use Rattle.anti_proc.specs.Tasks.{is_for, role_at, role_at_inbox, role_at_store, role_in, role_of, role_on, role_pulled, role_taken, task_for, task_of, task_with}
+use Rattle.anti_proc.specs.Trees.{Tree, Asks, Ends, IsAskedAt, Make, want_of}
 pub use Rattle.anti_proc.proofs.KnownCalls.{process_known, tree_known}
 
 -- ---- known messages and replies are not foreign
@@ -37,11 +47,6 @@ rows_known app o [] known = refl
 rows_known app o (r ∷ rs) known =
     and_from (has_stores app r.lineage) (list_all (λ row. has_stores app row.lineage) rs) (ids_known app r.lineage known.0.lineage.each) (rows_known app o rs known.1)
 
-message_known : (app : App) (o : ℕ) (m : Message) → IsMessageTo app o m → is_foreign_to app o m ≡ false
-message_known app o m known =
-    ap not (and_from (has_handler app (service_at app o) m.handler) (nat_le m.depth MOST_DEPTH && has_baggage app m) known.handler
-    (and_from (nat_le m.depth MOST_DEPTH) (has_baggage app m) (le-leb m.depth MOST_DEPTH known.depth) known.baggage))
-
 -- a reply of the application is not foreign
 pub reply_known : (app : App) (o : ℕ) (r : Reply) → IsReplyAt app o r → is_foreign app r ≡ false
 reply_known app o (replies.Shown rows) known = ap not (rows_known app o rows.items known)
@@ -54,16 +59,100 @@ reply_known app o replies.Moved known = refl
 reply_known app o (replies.Posted number) known = refl
 reply_known app o replies.Done known = refl
 
--- and starts a process
-pub birth_known : (app : App) (o : ℕ) (r : Reply) → IsReplyAt app o r → is_foreign_birth app o r ≡ false
-birth_known app o (replies.Got number m) known = message_known app o m known
-birth_known app o (replies.Shown rows) known = reply_known app o (replies.Shown rows) known
-birth_known app o (replies.Missing missing unwritten) known = reply_known app o (replies.Missing missing unwritten) known
-birth_known app o (replies.Pulled row) known = reply_known app o (replies.Pulled row) known
-birth_known app o (replies.Written key version) known = refl
-birth_known app o replies.Moved known = refl
-birth_known app o (replies.Posted number) known = refl
-birth_known app o replies.Done known = refl
+-- ---- known messages and rows start a process
+
+-- a known message is for a handler of its service, and not too deep
+is_for_known : (app : App) (o : ℕ) (m : Message) → IsMessageTo app o m → is_for app (service_at app o) m ≡ true
+is_for_known app o m known =
+    and_from (has_handler app (service_at app o) m.handler) (nat_le m.depth MOST_DEPTH) known.handler (le-leb m.depth MOST_DEPTH known.depth)
+
+-- the object of a store, and that of an inbox
+store_found : (app : App) (o : ℕ) → IsStore app o → object_at app o ≡ Some (Store o)
+store_found app o at =
+    ap (λ (here : Bool). if here then Some (Store o) else inbox_at (length app.services.items) (service_at app o)) (lt-ltb o (length app.stores.items) at)
+
+inbox_found : (app : App) (o : ℕ) → IsInbox app o → object_at app o ≡ Some (Inbox (service_at app o))
+inbox_found app o at =
+    let within : service_at app o < length app.services.items = omega (arith, at.0, at.1) in
+    ap (λ (here : Bool). if here then Some (Store o) else inbox_at (length app.services.items) (service_at app o)) (le-ltb o (length app.stores.items) at.0)
+    ∙ ap (λ (here : Bool). if here then Some (Inbox (service_at app o)) else None) (lt-ltb (service_at app o) (length app.services.items) within)
+
+-- what a call on an inbox or a store starts
+role_by_inbox : (app : App) (e : Entry) → IsInbox app e.object → role_of app e ≡ role_at_inbox app e.object (service_at app e.object) e.call e.reply
+role_by_inbox app e at =
+    ap (λ (found : Option ObjectAt). option_and_then (λ (at : ObjectAt). role_at app e.object at e.call e.reply) found) (inbox_found app e.object at)
+
+role_by_store : (app : App) (e : Entry) → IsStore app e.object → role_of app e ≡ role_at_store app e.object e.call e.reply
+role_by_store app e at =
+    ap (λ (found : Option ObjectAt). option_and_then (λ (at : ObjectAt). role_at app e.object at e.call e.reply) found) (store_found app e.object at)
+
+-- a known message that was taken is for the handler that it names
+pub taken_known : (app : App) (e : Entry) (nth number : ℕ) (m : Message) → IsInbox app e.object → e.call ≡ calls.Take nth
+    → e.reply ≡ replies.Got number m → IsMessageTo app e.object m
+    → role_of app e ≡ Some (role_in app e.object (service_at app e.object) number m)
+taken_known app e nth number m at call reply known =
+    role_by_inbox app e at
+    ∙ ap (λ (c : Call). role_at_inbox app e.object (service_at app e.object) c e.reply) call
+    ∙ ap (λ (r : Reply). role_taken app e.object (service_at app e.object) r) reply
+    ∙ ap (λ (good : Bool). if good then Some (role_in app e.object (service_at app e.object) number m) else None) (is_for_known app e.object m known)
+
+-- a row that was pulled is for the handler of its subscription
+pub pulled_known : (app : App) (e : Entry) (position : ℕ) (row : Row) (sub : SubDef) → IsStore app e.object → e.call ≡ calls.Pull position
+    → e.reply ≡ replies.Pulled row → sub_on app e.object position ≡ Some sub
+    → role_of app e ≡ Some (role_on app e.object row.version sub)
+pulled_known app e position row sub at call reply found =
+    role_by_store app e at
+    ∙ ap (λ (c : Call). role_at_store app e.object c e.reply) call
+    ∙ ap (λ (r : Reply). role_pulled app e.object position r) reply
+    ∙ ap (λ (sub : Option SubDef). option_map (role_on app e.object row.version) sub) found
+
+pub repulled_known : (app : App) (e : Entry) (position version : ℕ) (row : Row) (sub : SubDef) → IsStore app e.object
+    → e.call ≡ calls.Repull position version → e.reply ≡ replies.Pulled row → sub_on app e.object position ≡ Some sub
+    → role_of app e ≡ Some (role_on app e.object row.version sub)
+repulled_known app e position version row sub at call reply found =
+    role_by_store app e at
+    ∙ ap (λ (c : Call). role_at_store app e.object c e.reply) call
+    ∙ ap (λ (r : Reply). role_pulled app e.object position r) reply
+    ∙ ap (λ (sub : Option SubDef). option_map (role_on app e.object row.version) sub) found
+
+-- ---- the task of a known message or row
+
+module _ (app : App) where
+  -- what starts in a role
+  abbrev Begins : ℕ → Reply → Role → Type 0
+  Begins o r role = (task : Task) × (task_for app o r role ≡ Some task)
+
+  stated_begins : (role : Role) (m : Message) (found : Option (List WriteId)) → is_some found ≡ true
+      → (task : Task) × (option_map (task_with role m.value) found ≡ Some task)
+  stated_begins role m None some = absurd (cc)
+  stated_begins role m (Some ids) some = (task_with role m.value ids, refl)
+
+  row_begins : (o : ℕ) (row : Row) (role : Role) → IsRowOf app o row → Begins o (replies.Pulled row) role
+  row_begins o row role known =
+      let task : Task = task_with role row.value (with_ids (row_ids o row) []) in
+      (task, ap (λ (over : Bool). if over then Some task else None) (ids_known app row.lineage known.lineage.each))
+
+  by_call : (o : ℕ) (at : ObjectAt) (call : Call) (r : Reply) (role : Role) → role_at app o at call r ≡ Some role → IsReplyAt app o r → Begins o r role
+  by_call o (Inbox service) (calls.Take nth) (replies.Got number m) role starts known = stated_begins role m (stated_lineage app m) known.baggage
+  by_call o (Inbox service) (calls.Take nth) r role starts known = absurd (cc)
+  by_call o (Inbox service) call r role starts known = absurd (cc)
+  by_call o (Store store) (calls.Pull position) (replies.Pulled row) role starts known = row_begins o row role known
+  by_call o (Store store) (calls.Pull position) r role starts known = absurd (cc)
+  by_call o (Store store) (calls.Repull position version) (replies.Pulled row) role starts known = row_begins o row role known
+  by_call o (Store store) (calls.Repull position version) r role starts known = absurd (cc)
+  by_call o (Store store) call r role starts known = absurd (cc)
+
+  by_object : (e : Entry) (found : Option ObjectAt) (role : Role) → option_and_then (λ at. role_at app e.object at e.call e.reply) found ≡ Some role
+      → IsReplyAt app e.object e.reply → Begins e.object e.reply role
+  by_object e None role starts known = absurd (cc)
+  by_object e (Some at) role starts known = by_call e.object at e.call e.reply role starts known
+
+  -- What is known starts the handler that it is for.
+  pub birth_known : (e : Entry) (role : Role) → role_of app e ≡ Some role → IsReplyAt app e.object e.reply
+      → (task : Task) × (task_of app e ≡ Some task)
+  birth_known e role starts known =
+      let begins : Begins e.object e.reply role = by_object e (object_at app e.object) role starts known in
+      (begins.0, ap (λ (found : Option Role). option_and_then (task_for app e.object e.reply) found) starts ∙ begins.1)
 
 -- the next call of a known process
 pub next_known : (app : App) (tree : Tree) (object span : ℕ) (call : Call) → AllKnown app tree → want_of tree ≡ Make object span call

@@ -1,6 +1,6 @@
 -- Each call of a process of a sound application is known, where its message and its replies are.
 use Rattle.std.proofs.Common.{◌≡◌, ℕ, ◌≤◌, true, List, ◌&&◌, cond, false, Bool, [], ◌∷◌, length, IsTrue, refl, sym, ap, ◌∙◌, subst, arith, ◌<◌, map}
-use Rattle.std.specs.Prelude.{All, ◌==◌, nat_lt}
+use Rattle.std.specs.Prelude.{All, ◌==◌, Result, Some, is_some, nat_lt}
 use Rattle.std.proofs.lemmas.Bool.{and_from, and_parts, lt-ltb, ltb-true}
 use Rattle.std.proofs.lemmas.List.{length-map}
 use Rattle.std.proofs.lemmas.List.Elements.{All-head, All-tail}
@@ -16,7 +16,7 @@ use Rattle.anti_kind.specs.declared.message.Message.{Message}
 use Rattle.anti_kind.specs.declared.call.Reply.{Reply}
 use Rattle.anti_kind.specs.declared.call.Reply.TheVariants as replies
 use Rattle.anti_kind.specs.declared.row.Row.{Row}
-use Rattle.anti_lang.specs.Program.{Block}
+use Rattle.anti_baggage.specs.declared.fault.BaggageFault.{BaggageFault}
 use Rattle.anti_baggage.specs.Over.{IsIdOver}
 use Rattle.anti_baggage.specs.Reading.{read_lineage}
 use Rattle.anti_baggage.specs.Texts.{lineage_text}
@@ -27,16 +27,20 @@ use Rattle.anti_app.specs.Sound.{is_sound}
 use Rattle.anti_app.proofs.SoundLemmas.{SoundApp, app_known}
 use Rattle.anti_proc.specs.Brought.{came}
 use Rattle.anti_proc.specs.Calls.{IsOfProcess}
-use Rattle.anti_proc.specs.Foreign.{has_baggage, states}
+use Rattle.anti_proc.specs.declared.task.Task.{Task}
+use Rattle.anti_proc.specs.Foreign.{has_baggage, read_well}
 use Rattle.anti_proc.specs.Known.{AllKnown, IsEntryOf, AreIdsOf, IsCallAt, IsOverApp, IsReplyAt, IsRowOf}
-use Rattle.anti_proc.specs.Local.{Setting, id_at, row_ids, rows_ids}
-use Rattle.anti_proc.specs.Meaning.{begun, setting_at, started, stated_in, tree_of, process_after, reply_of}
-use Rattle.anti_app.specs.Objects.{body_of, handler_number, service_at, store_names}
+use Rattle.anti_proc.specs.Local.{id_at, row_ids, rows_ids}
+use Rattle.anti_proc.specs.Meaning.{begun, setting_of, tree_of, process_after, reply_of}
+use Rattle.anti_proc.specs.Tasks.{fitting, task_of}
+use Rattle.anti_app.specs.Objects.{IsStore, store_names}
 use Rattle.anti_proc.specs.Trees.{Tree, Asks, Ends, Ask, after}
 use Rattle.anti_proc.proofs.Keeping.{Good, IsMade, Keeps, begun_good}
-use Rattle.anti_proc.proofs.Lineages.{Written, each_append, none_lineage, stated_over, written_at}
-use Rattle.anti_proc.proofs.ProcessCalls.{of_process}
-use Rattle.anti_proc.proofs.Served.{HasInbox, HasStore, body_there, stores_named}
+use Rattle.anti_proc.proofs.Lineages.{Written, all_fit, each_append, first_stated, none_lineage, stated_over, written_at}
+use Rattle.anti_proc.proofs.Owed.{owed_there}
+use Rattle.anti_proc.proofs.Placed.{of_process}
+use Rattle.anti_proc.proofs.Served.{HasInbox, body_there, stores_named}
+use Rattle.anti_proc.proofs.Started.{each_task, its_body, started_each}
 
 -- ---- what is carried and held is over the stores
 
@@ -126,9 +130,10 @@ KnownAnyway app (Ends end) = Unit {0}
 module _ (app : App) (known : SoundApp app) where
   text_read : (m : Message) (ids : List WriteId) → m.baggage.items ≡ lineage_text (store_names app) ids → IsOverApp app ids → has_baggage app m ≡ true
   text_read m ids is over =
-      ap (λ (text : List ℕ). states (read_lineage (store_names app) text)) is ∙ ap states (states_its_lineage (store_names app) ids (stores_named app known) over)
+      ap (λ (text : List ℕ). is_some (read_well (read_lineage (store_names app) text))) is
+      ∙ ap (λ (found : Result (List WriteId) BaggageFault). is_some (read_well found)) (states_its_lineage (store_names app) ids (stores_named app known) over)
 
-  call_known : (o : ℕ) (carried : List WriteId) (call : Call) → IsMade app (HasStore app) (HasInbox app) o carried call → IsOverApp app carried → IsCallAt app o call
+  call_known : (o : ℕ) (carried : List WriteId) (call : Call) → IsMade app (IsStore app) (HasInbox app) o carried call → IsOverApp app carried → IsCallAt app o call
   call_known o carried (calls.Write key value lineage) made over = (made.1, subst (λ (ids : List WriteId). IsOverApp app ids) (sym made.2) over)
   call_known o carried (calls.Look region ids dry) made over =
       subst (λ (is : List WriteId). IsOverApp app is) (sym made.1)
@@ -136,16 +141,16 @@ module _ (app : App) (known : SoundApp app) where
   call_known o carried (calls.Post m) made over = record { handler = made.0.1; depth = made.1; baggage = text_read m carried made.2 over }
   call_known o carried _ made over = tt
 
-  its_place : (o : ℕ) (carried : List WriteId) (call : Call) → IsMade app (HasStore app) (HasInbox app) o carried call → is_placed app o call ≡ true
+  its_place : (o : ℕ) (carried : List WriteId) (call : Call) → IsMade app (IsStore app) (HasInbox app) o carried call → is_placed app o call ≡ true
   its_place o carried (calls.Write key value lineage) made = lt-ltb o (length app.stores.items) made.0
   its_place o carried (calls.Read region key) made = lt-ltb o (length app.stores.items) made
   its_place o carried (calls.Scan region prefix) made = lt-ltb o (length app.stores.items) made
   its_place o carried (calls.Poll region key) made = lt-ltb o (length app.stores.items) made
   its_place o carried _ made = refl
 
-  all_known : (placed : Bool) (tree : Tree) → placed ≡ true → Good app (HasStore app) (HasInbox app) Bool (Carries app) (were_placed app) (Fair app) placed tree → KnownAnyway app tree
+  all_known : (placed : Bool) (tree : Tree) → placed ≡ true → Good app (IsStore app) (HasInbox app) Bool (Carries app) (were_placed app) (Fair app) placed tree → KnownAnyway app tree
   all_known placed (Asks ask go) on good = (
-    of_process app (HasStore app) (HasInbox app) (λ o there. omega arith) (λ o handler there. there.0) ask.object ask.span ask.carried ask.call good.0.0 good.0.1,
+    of_process app ask.object ask.span ask.carried ask.call good.0.0 good.0.1,
     call_known ask.object ask.carried ask.call good.0.1 (good.0.2 on),
     good.0.2 on,
     λ from reply fair.
@@ -154,28 +159,48 @@ module _ (app : App) (known : SoundApp app) where
   )
   all_known placed (Ends end) on good = tt
 
-  started_known : (inbox : ℕ) (reply : Reply) → length app.stores.items ≤ inbox → IsReplyAt app inbox reply → KnownAnyway app (started app inbox reply)
-  started_known inbox (replies.Got number m) at message =
-      let s : Setting = setting_at app inbox number m in
-      let body : Block = body_of app (service_at app inbox) (handler_number app (service_at app inbox) m.handler) in
-      all_known true (begun body s (stated_in app m)) refl
-      (begun_good s (HasStore app) (HasInbox app) Bool (Carries app) (Brings app) (were_placed app) (Fair app) (keeps_known app) (at, message.handler) body
-      (body_there app known (service_at app inbox) (handler_number app (service_at app inbox) m.handler)) (stated_in app m) true (λ short on. stated_over app m))
-  started_known inbox _ at message = tt
+  -- ---- what comes first
 
--- Each call of a process is known, which a known message in an inbox started, also where its replies come from other objects than it asked.
-pub tree_known_anyway : (app : App) (birth : Entry) → IsTrue (is_sound app) → length app.stores.items ≤ birth.object
-    → IsReplyAt app birth.object birth.reply → KnownAnyway app (tree_of app birth)
-tree_known_anyway app birth sound at message = started_known app (app_known app sound) birth.object birth.reply at message
+  row_over : (store : ℕ) (row : Row) (ids : List WriteId) → IsRowOf app store row → fitting (with_ids (row_ids store row) []) ≡ Some ids → IsOverApp app ids
+  row_over store row ids is fits =
+      let its : List WriteId = with_ids (row_ids store row) [] in
+      let fit = all_fit (nat_lt MOST_IDS (length its)) its ids refl fits in
+      let stores : AreIdsOf app (row_ids store row) =
+      each_append (IsIdOver (store_names app)) (id_at store row.key row.version) row.lineage is.id is.lineage.each in
+      let written : Written (row_ids store row) =
+      each_append (λ i. 1 ≤ i.version) (id_at store row.key row.version) row.lineage (written_at store row.key row.version) is.lineage.lineage.written in
+      subst (λ (ids : List WriteId). IsOverApp app ids) fit.1 (more_over app (row_ids store row) [] (stores, written) (none_over app) fit.0)
+
+  first_over : (birth : Entry) (task : Task) → IsReplyAt app birth.object birth.reply → task_of app birth ≡ Some task
+      → (ids : List WriteId) → task.carried ≡ Some ids → IsOverApp app ids
+  first_over birth task reply starts =
+      each_task app birth (λ task. (ids : List WriteId) → task.carried ≡ Some ids → IsOverApp app ids)
+      (λ number m found is at good states ids fits.
+      subst (λ (ids : List WriteId). IsOverApp app ids) (all_fit (nat_lt MOST_IDS (length found)) found ids refl fits).1 (first_stated app m found states))
+      (λ row sub is at ids fits. row_over birth.object row ids (subst (λ (r : Reply). IsReplyAt app birth.object r) is reply) fits)
+      task starts
+
+  started_known : (birth : Entry) → IsReplyAt app birth.object birth.reply → KnownAnyway app (tree_of app birth)
+  started_known birth reply =
+      started_each (KnownAnyway app) app birth (λ end. tt)
+      (λ task ids is has.
+      all_known true (begun (its_body app task) (setting_of app task) (Some ids)) refl
+      (begun_good (setting_of app task) (IsStore app) (HasInbox app) Bool (Carries app) (Brings app) (were_placed app) (Fair app) (keeps_known app)
+      (owed_there app birth task is) (its_body app task) (body_there app known task.role.service task.role.handler) ids true
+      (λ on. first_over birth task reply is ids has)))
+
+-- Each call of a process is known, which a known message or row started, also where its replies come from other objects than it asked.
+pub tree_known_anyway : (app : App) (birth : Entry) → IsTrue (is_sound app) → IsReplyAt app birth.object birth.reply
+    → KnownAnyway app (tree_of app birth)
+tree_known_anyway app birth sound reply = started_known app (app_known app sound) birth reply
 
 known_anyway : (app : App) (tree : Tree) → KnownAnyway app tree → AllKnown app tree
 known_anyway app (Asks ask go) known = (known.0, known.1, known.2, λ reply fair. known_anyway app (go reply) (known.3 ask.object reply fair))
 known_anyway app (Ends end) known = tt
 
 -- so also where they come from those
-pub tree_known : (app : App) (birth : Entry) → IsTrue (is_sound app) → length app.stores.items ≤ birth.object
-    → IsReplyAt app birth.object birth.reply → AllKnown app (tree_of app birth)
-tree_known app birth sound at message = known_anyway app (tree_of app birth) (tree_known_anyway app birth sound at message)
+pub tree_known : (app : App) (birth : Entry) → IsTrue (is_sound app) → IsReplyAt app birth.object birth.reply → AllKnown app (tree_of app birth)
+tree_known app birth sound reply = known_anyway app (tree_of app birth) (tree_known_anyway app birth sound reply)
 
 after_anyway : (app : App) (tree : Tree) (entries : List Entry) → All (IsEntryOf app) entries → KnownAnyway app tree → KnownAnyway app (after tree (map reply_of entries))
 after_anyway app tree [] entries known = known
@@ -183,10 +208,10 @@ after_anyway app (Asks ask go) (e ∷ es) entries known =
     after_anyway app (go e.reply) es (All-tail (IsEntryOf app) e es entries) (known.3 e.object e.reply (All-head (IsEntryOf app) e es entries).reply)
 after_anyway app (Ends end) (e ∷ es) entries known = after_anyway app (Ends end) es (All-tail (IsEntryOf app) e es entries) tt
 
--- a process after its entries, of which the first, on an inbox, started it
-pub process_known : (app : App) (birth : Entry) (entries : List Entry) → IsTrue (is_sound app) → length app.stores.items ≤ birth.object → All (IsEntryOf app) (birth ∷ entries)
+-- a process after its entries, of which the first started it
+pub process_known : (app : App) (birth : Entry) (entries : List Entry) → IsTrue (is_sound app) → All (IsEntryOf app) (birth ∷ entries)
     → AllKnown app (process_after app (birth ∷ entries))
-process_known app birth entries sound at all =
+process_known app birth entries sound all =
     known_anyway app (process_after app (birth ∷ entries))
     (after_anyway app (tree_of app birth) entries (All-tail (IsEntryOf app) birth entries all)
-    (tree_known_anyway app birth sound at (All-head (IsEntryOf app) birth entries all).reply))
+    (tree_known_anyway app birth sound (All-head (IsEntryOf app) birth entries all).reply))

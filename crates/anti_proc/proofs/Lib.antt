@@ -1,5 +1,6 @@
 pub mod Bringing
 pub mod Carrying
+pub mod Cursors
 pub mod Decimals
 pub mod EachCall
 pub mod InARow
@@ -8,14 +9,14 @@ pub mod Knowing
 pub mod KnownCalls
 pub mod Lineages
 pub mod Looking
+pub mod Owed
 pub mod Placed
 pub mod Plans
-pub mod ProcessCalls
 pub mod Running
 pub mod Runs
 pub mod Served
 pub mod Setting
 pub mod Settling
+pub mod Started
 pub mod Unions
 pub mod Worked
-pub mod Placing

@@ -1,9 +1,10 @@
 -- What a process carries is a lineage.
 use Rattle.std.proofs.Common.{◌≡◌, ℕ, ◌≤◌, Bool, true, false, cond, List, [], ◌∷◌, ◌++◌, refl, subst, arith}
-use Rattle.std.specs.Prelude.{Some, Result, Ok, Err, nat_lt}
+use Rattle.std.specs.Prelude.{Option, Some, None, Result, Ok, Err, length, nat_lt, unwrap_or, if◌then◌else◌}
 use Rattle.std.proofs.lemmas.Bool.Decides.{nat_tests}
 use Rattle.anti_ids.specs.Each.{Each}
-use Rattle.anti_ids.specs.Ids.{IsLineage}
+use Rattle.anti_ids.specs.Ids.{IsLineage, with_ids}
+use Rattle.anti_ids.specs.declared.limits.TheConstants.{MOST_IDS}
 use Rattle.anti_ids.specs.declared.id.WriteId.{WriteId}
 use Rattle.anti_ids.proofs.IdLemmas.{lineage_with_ids, lineage_without}
 use Rattle.anti_kind.specs.declared.call.Call.{Call}
@@ -19,15 +20,18 @@ use Rattle.anti_baggage.specs.Over.{IsOver}
 use Rattle.anti_baggage.specs.Reading.{read_lineage}
 use Rattle.anti_baggage.proofs.TextLaws.{is_its_text}
 use Rattle.anti_app.specs.declared.app.App.{App}
-use Rattle.anti_proc.specs.declared.want.End.{End}
-use Rattle.anti_proc.specs.declared.want.End.TheVariants.{Fine}
-use Rattle.anti_proc.specs.Brought.{CarriesLineages, HasLineages, ask_of, came}
+use Rattle.anti_proc.specs.declared.end.BodyEnd.{BodyEnd}
+use Rattle.anti_proc.specs.declared.task.Task.{Task}
+use Rattle.anti_proc.specs.Brought.{CarriesLineages, HasLineages, came}
+use Rattle.anti_proc.specs.Foreign.{read_well, stated_lineage}
 use Rattle.anti_proc.specs.Known.{IsOverApp}
 use Rattle.anti_proc.specs.Local.{Setting, id_at, row_ids, rows_ids}
-use Rattle.anti_proc.specs.Meaning.{begun, setting_at, started, stated, stated_in, tree_of}
-use Rattle.anti_app.specs.Objects.{body_of, handler_number, service_at, store_names}
-use Rattle.anti_proc.specs.Trees.{Tree, Ask, Asks, Ends, after}
-use Rattle.anti_proc.proofs.Keeping.{AnyInbox, AnyStore, Good, Keeps, any_fits, begun_good, nothing_more}
+use Rattle.anti_proc.specs.Meaning.{begun, setting_of, stated_in, tree_of}
+use Rattle.anti_proc.specs.Tasks.{fitting, task_of}
+use Rattle.anti_app.specs.Objects.{store_names}
+use Rattle.anti_proc.specs.Trees.{Tree, Ask, Asks, Ends, after, ask_of}
+use Rattle.anti_proc.proofs.Started.{each_task, its_body, started_each}
+use Rattle.anti_proc.proofs.Keeping.{AnyInbox, AnyStore, Good, Keeps, any_duty, any_fits, begun_good, nothing_more}
 
 -- ---- ids of writes
 
@@ -74,17 +78,22 @@ reached app (Asks first go) (r ∷ rs) ask good each is = reached app (go r) rs 
 reached app (Ends end) [] ask good each is = absurd (cc)
 reached app (Ends end) (r ∷ rs) ask good each is = reached app (Ends end) rs ask good each.1 is
 
-ended_lineages : (end : End) → CarriesLineages (Ends end)
+ended_lineages : (end : BodyEnd) → CarriesLineages (Ends end)
 ended_lineages end [] ask each is = absurd (cc)
 ended_lineages end (r ∷ rs) ask each is = ended_lineages end rs ask each.1 is
 
-over_found : (stores : List (List ℕ)) (text : List ℕ) (found : Result (List WriteId) BaggageFault) → read_lineage stores text ≡ found → IsOver stores (stated found)
+over_found : (stores : List (List ℕ)) (text : List ℕ) (found : Result (List WriteId) BaggageFault) → read_lineage stores text ≡ found
+    → IsOver stores (unwrap_or (read_well found) [])
 over_found stores text (Ok ids) is = (is_its_text stores text ids is).0
 over_found stores text (Err fault) is = record { lineage = none_lineage; each = tt }
 
 -- what a text states is over the stores
 pub stated_over : (app : App) (m : Message) → IsOverApp app (stated_in app m)
 stated_over app m = over_found (store_names app) m.baggage.items (read_lineage (store_names app) m.baggage.items) refl
+
+pub first_stated : (app : App) (m : Message) (ids : List WriteId) → stated_lineage app m ≡ Some ids → IsOverApp app ids
+first_stated app m ids states =
+    subst (λ (found : Option (List WriteId)). IsOverApp app (unwrap_or found [])) states (stated_over app m)
 
 came_written : (app : App) (o : ℕ) (call : Call) (r : Reply) → HasLineages r → Written (came app o call r)
 came_written app o (calls.Write key value lineage) (replies.Written written version) has = written_at o written version
@@ -105,16 +114,41 @@ keeps_lineages app = record {
   comes = λ h ask r fair. came_written app ask.object ask.call r fair;
 }
 
-pub body_lineages : (body : Block) (s : Setting) (ids : List WriteId) → IsLineage ids → CarriesLineages (begun body s ids)
+pub body_lineages : (body : Block) (s : Setting) (ids : List WriteId) → IsLineage ids → CarriesLineages (begun body s (Some ids))
 body_lineages body s ids lineage rs ask each is =
-    reached s.app (begun body s ids) rs ask
-    (begun_good s AnyStore AnyInbox (Unit {0}) Carries Brings nothing_more Fair (keeps_lineages s.app) tt body (any_fits s.app body) ids tt (λ short. lineage)) each is
+    reached s.app (begun body s (Some ids)) rs ask
+    (begun_good s AnyStore AnyInbox (Unit {0}) Carries Brings nothing_more Fair (keeps_lineages s.app) (any_duty s.app s.duty) body (any_fits s.app body) ids tt
+    lineage) each is
 
-started_lineages : (app : App) (inbox : ℕ) (reply : Reply) → CarriesLineages (started app inbox reply)
-started_lineages app inbox (replies.Got number m) =
-    body_lineages (body_of app (service_at app inbox) (handler_number app (service_at app inbox) m.handler)) (setting_at app inbox number m) (stated_in app m)
-    (stated_over app m).lineage
-started_lineages app inbox _ = ended_lineages Fine
+-- ---- what comes first
 
-pub process_lineages : (app : App) (birth : Entry) → CarriesLineages (tree_of app birth)
-process_lineages app birth = started_lineages app birth.object birth.reply
+-- ids that fit are as many as a lineage may have
+pub all_fit : (full : Bool) (ids fits : List WriteId) → full ≡ nat_lt MOST_IDS (length ids) → (if full then None else Some ids) ≡ Some fits
+    → (length ids ≤ MOST_IDS) × (ids ≡ fits)
+all_fit true ids fits full is = absurd (cc)
+all_fit false ids fits full is =
+    let short : length ids ≤ MOST_IDS = grind (arith, nat_tests) in
+    let same : ids ≡ fits = cc in
+    (short, same)
+
+row_lineage : (store : ℕ) (row : Row) (ids : List WriteId) → IsLineage row.lineage → fitting (with_ids (row_ids store row) []) ≡ Some ids → IsLineage ids
+row_lineage store row ids lineage fits =
+    let its : List WriteId = with_ids (row_ids store row) [] in
+    let fit = all_fit (nat_lt MOST_IDS (length its)) its ids refl fits in
+    let written : Written (row_ids store row) =
+    each_append (λ i. 1 ≤ i.version) (id_at store row.key row.version) row.lineage (written_at store row.key row.version) lineage.written in
+    subst IsLineage fit.1 (lineage_with_ids (row_ids store row) [] its written none_lineage refl fit.0)
+
+first_lineage : (app : App) (birth : Entry) (task : Task) → HasLineages birth.reply → task_of app birth ≡ Some task
+    → (ids : List WriteId) → task.carried ≡ Some ids → IsLineage ids
+first_lineage app birth task lineages starts =
+    each_task app birth (λ task. (ids : List WriteId) → task.carried ≡ Some ids → IsLineage ids)
+    (λ number m found is at good states ids fits.
+    subst IsLineage (all_fit (nat_lt MOST_IDS (length found)) found ids refl fits).1 (first_stated app m found states).lineage)
+    (λ row sub is at ids fits. row_lineage birth.object row ids (subst HasLineages is lineages) fits)
+    task starts
+
+pub process_lineages : (app : App) (birth : Entry) → HasLineages birth.reply → CarriesLineages (tree_of app birth)
+process_lineages app birth lineages =
+    started_each CarriesLineages app birth ended_lineages
+    (λ task ids is has. body_lineages (its_body app task) (setting_of app task) ids (first_lineage app birth task lineages is ids has))

@@ -6,12 +6,11 @@ use Rattle.anti_ids.specs.declared.id.WriteId.{WriteId}
 use Rattle.anti_kind.specs.declared.call.Call.TheVariants as calls
 use Rattle.anti_kind.specs.declared.call.Reply.{Reply}
 use Rattle.anti_shim.specs.declared.looks.PlannedLook.{PlannedLook}
-use Rattle.anti_proc.specs.declared.want.Want.TheVariants.{Make}
 use Rattle.anti_proc.specs.Barriers.{LooksOnceAt, AsksFor, GoesOver}
 use Rattle.anti_proc.specs.Local.{Setting, Local}
 use Rattle.anti_proc.specs.Meaning.{Go, looks, planned}
 use Rattle.anti_app.specs.Objects.{stores_here}
-use Rattle.anti_proc.specs.Trees.{after, next_of}
+use Rattle.anti_proc.specs.Trees.{Make, after, next_of}
 use Rattle.anti_proc.proofs.Plans.{among_here, its_look, one_look, asked_of}
 
 -- after so many replies it makes the look of that number

@@ -6,7 +6,7 @@ use Rattle.anti_lang.specs.Program.{Step, Block, End, Then}
 use Rattle.anti_lang.specs.Spans.{spans_of}
 use Rattle.anti_proc.specs.Local.{Setting, Local}
 use Rattle.anti_proc.specs.Meaning.{Go, block_tree, step_tree, turns}
-use Rattle.anti_proc.specs.inner.Places.{again, block_weight, step_weight, weight}
+use Rattle.anti_proc.specs.inner.Cursors.{again, block_weight, step_weight, weight}
 use Rattle.anti_app.proofs.Blocks.{block_again}
 
 -- what statements do, and then what follows them

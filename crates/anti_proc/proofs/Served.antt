@@ -21,7 +21,7 @@ use Rattle.anti_app.specs.declared.app.StoreDef.{StoreDef}
 use Rattle.anti_kind.specs.Store.{has_keys, is_table, is_topic}
 use Rattle.anti_app.specs.Sound.{fits_services, fits_stores, has_named, is_near, is_served, is_stored, serves}
 use Rattle.anti_app.proofs.SoundLemmas.{SoundApp, SoundBody, SoundHandler, SoundService, SoundStore}
-use Rattle.anti_app.specs.Objects.{body_among, body_in, body_of, has_handler, inbox_of, service_among, service_at, store_among, store_names, store_number}
+use Rattle.anti_app.specs.Objects.{IsStore, body_among, body_in, body_of, has_handler, inbox_of, service_among, service_at, store_among, store_names, store_number}
 use Rattle.anti_proc.proofs.Keeping.{BlockFits, StepFits, plain_is_name}
 use Rattle.anti_app.proofs.Runnable.{found_in}
 
@@ -112,10 +112,6 @@ served_at (s ∷ ss) service handler differ served =
 -- ---- bodies
 
 module _ (app : App) where
-  -- a store that is there
-  abbrev pub HasStore : ℕ → Type 0
-  HasStore o = o < length app.stores.items
-
   -- the inbox of a service that is there and has the handler
   abbrev pub HasInbox : ℕ → List ℕ → Type 0
   HasInbox o handler = (length app.stores.items ≤ o) × (has_handler app (service_at app o) handler ≡ true)
@@ -131,7 +127,7 @@ module _ (app : App) where
           (served_at app.services.items service handler differ served),
     )
 
-    store_there : (store : List ℕ) → is_stored app.stores.items store ≡ true → HasStore (store_number app store)
+    store_there : (store : List ℕ) → is_stored app.stores.items store ≡ true → IsStore app (store_number app store)
     store_there store stored = stored_below app.stores.items store stored
 
     abbrev Fits : List Line → Type 0
@@ -149,7 +145,7 @@ module _ (app : App) where
     mutual
       unfolding fits_stores fits_services
 
-      step_fit : (step : Step) → Fits (step_lines step) → StepFits app HasStore HasInbox step
+      step_fit : (step : Step) → Fits (step_lines step) → StepFits app (IsStore app) HasInbox step
       step_fit (program.Write store key value variable untracked) fits = store_there store (and_parts (is_stored app.stores.items store) true fits.0).0
       step_fit (program.Read store key variable) fits =
           store_there store (near_stored has_keys app.stores.items store region (and_parts (is_near has_keys app.stores.items store region) true fits.0).0)
@@ -166,14 +162,14 @@ module _ (app : App) where
           block_fit block (fits_apart (lines_of block) (Close ∷ []) (fits_behind (OpenIf variable) (lines_of block ++ Close ∷ []) fits)).0
       step_fit _ fits = tt
 
-      block_fit : (block : Block) → Fits (lines_of block) → BlockFits app HasStore HasInbox block
+      block_fit : (block : Block) → Fits (lines_of block) → BlockFits app (IsStore app) HasInbox block
       block_fit program.End fits = tt
       block_fit (program.Then first rest) fits =
           let apart = fits_apart (step_lines first) (lines_of rest) fits in (step_fit first apart.0, block_fit rest apart.1)
 
 module _ (app : App) (known : SoundApp app) where
   abbrev There : Block → Type 0
-  There block = BlockFits app (HasStore app) (HasInbox app) block
+  There block = BlockFits app (IsStore app) (HasInbox app) block
 
   sound_body : (region : ℕ) (body : Block) → SoundBody app.stores.items app.services.items region body → There body
   sound_body region body sound =

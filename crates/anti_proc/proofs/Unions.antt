@@ -7,7 +7,7 @@ use Rattle.anti_ids.specs.declared.limits.TheConstants.{MOST_IDS}
 use Rattle.anti_ids.specs.declared.lineage.LineageRefused.{LineageRefused}
 use Rattle.anti_ids.specs.declared.lineage.LineageRefused.TheVariants.{Full, NoMemory}
 use Rattle.anti_kind.specs.declared.row.Row.{Row}
-use Rattle.anti_proc.specs.Adding.{Adds}
+use Rattle.anti_proc.specs.inner.Adding.{Adds}
 use Rattle.anti_proc.specs.Local.{row_ids, rows_ids}
 use Rattle.anti_ids.proofs.IdLemmas.{le-length-with_ids}
 

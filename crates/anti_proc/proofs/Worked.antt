@@ -1,6 +1,6 @@
 -- Worked runs: a store `s` and a service `w` in the region `eu`, and a process there with the body of each run. Its calls come one by one.
-use Rattle.std.proofs.Common.{◌≡◌, ℕ, zero, suc, Bool, true, false, List, [], ◌∷◌, refl}
-use Rattle.std.specs.Prelude.{None, Some, Ok, codes, length, nat_lt}
+use Rattle.std.proofs.Common.{◌≡◌, ℕ, zero, suc, Bool, true, false, List, [], ◌∷◌, refl, ap}
+use Rattle.std.specs.Prelude.{Option, None, Some, Ok, codes, is_none, is_some, length, nat_lt, option_and_then, option_map}
 use Rattle.std.specs.Fmt.{digits}
 use Rattle.anti_ids.specs.Ids.{with_ids}
 use Rattle.anti_ids.specs.List.{plain}
@@ -15,9 +15,11 @@ use Rattle.anti_kind.specs.declared.message.MessageKind.TheVariants as kinds
 use Rattle.anti_kind.specs.declared.call.Reply.{Reply}
 use Rattle.anti_kind.specs.declared.call.Reply.TheVariants as replies
 use Rattle.anti_kind.specs.declared.row.Row.{Row}
-use Rattle.anti_kind.specs.declared.store_kind.StoreKind.TheVariants.{Kv}
+use Rattle.anti_kind.specs.declared.store_kind.StoreKind.{StoreKind}
+use Rattle.anti_kind.specs.declared.store_kind.StoreKind.TheVariants.{Kv, Queue, Topic}
 use Rattle.anti_baggage.specs.Reading.{read_lineage}
-use Rattle.anti_lang.specs.Bodies.{block_from}
+use Rattle.anti_lang.specs.Bodies.{block_from, body_of}
+use Rattle.anti_lang.proofs.PlainLemmas.{step_again}
 use Rattle.anti_lang.specs.Program as statements
 use Rattle.anti_lang.specs.Program.{Step}
 use Rattle.anti_lang.specs.declared.statement.KeyWord.TheVariants as keys
@@ -25,17 +27,19 @@ use Rattle.anti_lang.specs.declared.statement.ValueWord.TheVariants.{Input, Lite
 use Rattle.anti_app.specs.declared.app.App.{App}
 use Rattle.anti_app.specs.declared.app.HandlerDef.{HandlerDef}
 use Rattle.anti_app.specs.declared.app.StoreDef.{StoreDef}
-use Rattle.anti_proc.specs.declared.given.Duty.{Duty}
-use Rattle.anti_proc.specs.declared.given.Duty.TheVariants.{Free, Answers}
-use Rattle.anti_proc.specs.declared.want.End.TheVariants.{Fine, Depth, BadKey, LineageFull}
-use Rattle.anti_proc.specs.declared.want.Want.{Want}
-use Rattle.anti_proc.specs.declared.want.Want.TheVariants.{Make, Over}
+use Rattle.anti_app.specs.declared.app.SubDef.{SubDef}
+use Rattle.anti_proc.specs.declared.task.Duty.{Duty}
+use Rattle.anti_proc.specs.declared.task.Duty.TheVariants.{Free, Answers}
+use Rattle.anti_proc.specs.declared.task.Task.{Task}
+use Rattle.anti_proc.specs.declared.end.BodyEnd.TheVariants as body_ends
+use Rattle.anti_proc.specs.declared.end.End.TheVariants.{Fine, Depth, BadKey, LineageFull}
 use Rattle.anti_proc.specs.Brought.{brought, made}
-use Rattle.anti_proc.specs.Foreign.{is_foreign, is_foreign_birth}
-use Rattle.anti_proc.specs.Local.{Setting, first_local}
-use Rattle.anti_proc.specs.Meaning.{begun, body_tree, hear_call, setting_at, stated_in, tree_of}
+use Rattle.anti_proc.specs.Foreign.{is_foreign, stated_lineage}
+use Rattle.anti_proc.specs.Local.{Setting, first_local, row_ids}
+use Rattle.anti_proc.specs.Meaning.{begun, body_tree, hear_call, setting_of, tree_of}
+use Rattle.anti_proc.specs.Tasks.{fitting, role_in, role_on, task_of, task_with}
 use Rattle.anti_app.specs.Objects.{stores_here}
-use Rattle.anti_proc.specs.Trees.{Ends, next_of}
+use Rattle.anti_proc.specs.Trees.{Want, Make, Over, Ends, next_of}
 
 abbrev key : List ℕ
 key = codes "k"
@@ -101,7 +105,11 @@ taken_at handler value = taken_with (message_of kinds.Request 0 0 handler value 
 
 -- what a handler in `eu`, which owes something at its end, does next on a value of this depth, after these replies
 abbrev setting_in : App → Duty → ℕ → List ℕ → Setting
-setting_in app duty depth value = record { app = app; inbox = 1; handler = codes "here"; region = 0; depth = depth; duty = duty; input = value }
+setting_in app duty depth value = record { app = app; region = 0; depth = depth; duty = duty; input = value }
+
+-- the reply of the handler `here` to the call 3 is owed
+abbrev reply_owed : Duty
+reply_owed = Answers 1 3 (codes "here")
 
 abbrev owing : Duty → ℕ → List Step → List ℕ → List Reply → Want
 owing duty depth body value rs = next_of (body_tree (block_from body) (setting_in one_store duty depth value) first_local) rs
@@ -349,7 +357,7 @@ brought_back baggage states = rw states refl
 
 -- Where a reply brings too many ids, the process ends.
 full_by_reply : (baggage : List ℕ) (ids carried : List WriteId) → States baggage ids → nat_lt MOST_IDS (length (with_ids ids carried)) ≡ true
-    → next_of (hear_call 1 7 x (setting_in one_store (Answers 3) 1 []) (record first_local { carried = carried }) (λ l. Ends Fine)) (heard (codes "v") baggage ∷ [])
+    → next_of (hear_call 1 7 x (setting_in one_store reply_owed 1 []) (record first_local { carried = carried }) (λ l. Ends body_ends.Fine)) (heard (codes "v") baggage ∷ [])
     ≡ Over LineageFull
 full_by_reply baggage ids carried states many = rw (states, many) refl
 
@@ -368,39 +376,39 @@ goes_on = refl
 
 -- ---- what a process owes
 
--- the reply of the handler `here` to the call 3
+-- the reply of the handler `here`
 abbrev answers : ℕ → List ℕ → List ℕ → Want
 answers span value baggage = Make 1 span (calls.Post (message_of kinds.Reply 3 0 (codes "here") value baggage))
 
-answered : owing (Answers 3) 1 (write ∷ statements.Reply (Literal (codes "done")) ∷ []) [] (replies.Written key 4 ∷ []) ≡ answers 1 (codes "done") (codes "1;s/k@4")
+answered : owing reply_owed 1 (write ∷ statements.Reply (Literal (codes "done")) ∷ []) [] (replies.Written key 4 ∷ []) ≡ answers 1 (codes "done") (codes "1;s/k@4")
 unfolding digits
 answered = refl
 
-then_over : owing (Answers 3) 1 (statements.Reply Input ∷ []) [] (replies.Posted 9 ∷ []) ≡ Over Fine
+then_over : owing reply_owed 1 (statements.Reply Input ∷ []) [] (replies.Posted 9 ∷ []) ≡ Over Fine
 then_over = refl
 
-nacked : owing (Answers 3) 1 (statements.Nack ∷ read ∷ []) [] [] ≡ answers 1 [] (codes "1;")
+nacked : owing reply_owed 1 (statements.Nack ∷ read ∷ []) [] [] ≡ answers 1 [] (codes "1;")
 nacked = refl
 
 -- Behind `root` the reply carries what came to the new span.
-rooted_reply : owing (Answers 3) 1 (write ∷ statements.Root ∷ statements.Reply Input ∷ []) (codes "v") (replies.Written key 4 ∷ []) ≡ answers 2 (codes "v") (codes "1;")
+rooted_reply : owing reply_owed 1 (write ∷ statements.Root ∷ statements.Reply Input ∷ []) (codes "v") (replies.Written key 4 ∷ []) ≡ answers 2 (codes "v") (codes "1;")
 rooted_reply = refl
 
-bad_key_answers : owing (Answers 3) 1 (statements.Reply (Literal (codes "set")) ∷ statements.Read (codes "s") keys.Input x ∷ []) [] [] ≡ answers 1 (codes "set") (codes "1;")
+bad_key_answers : owing reply_owed 1 (statements.Reply (Literal (codes "set")) ∷ statements.Read (codes "s") keys.Input x ∷ []) [] [] ≡ answers 1 (codes "set") (codes "1;")
 bad_key_answers = refl
 
-bad_key_then : owing (Answers 3) 1 (statements.Reply (Literal (codes "set")) ∷ statements.Read (codes "s") keys.Input x ∷ []) [] (replies.Posted 9 ∷ []) ≡ Over BadKey
+bad_key_then : owing reply_owed 1 (statements.Reply (Literal (codes "set")) ∷ statements.Read (codes "s") keys.Input x ∷ []) [] (replies.Posted 9 ∷ []) ≡ Over BadKey
 bad_key_then = refl
 
 -- a message of depth 8 is the deepest
-deepest : owing (Answers 3) 7 (call_x ∷ []) [] [] ≡ posts kinds.Call 8 [] (codes "1;")
+deepest : owing reply_owed 7 (call_x ∷ []) [] [] ≡ posts kinds.Call 8 [] (codes "1;")
 deepest = refl
 
-too_deep : owing (Answers 3) 8 (write ∷ call_x ∷ []) [] (replies.Written key 4 ∷ []) ≡ answers 1 [] (codes "1;s/k@4")
+too_deep : owing reply_owed 8 (write ∷ call_x ∷ []) [] (replies.Written key 4 ∷ []) ≡ answers 1 [] (codes "1;s/k@4")
 unfolding digits
 too_deep = refl
 
-then_deep : owing (Answers 3) 8 (write ∷ call_x ∷ []) [] (replies.Written key 4 ∷ replies.Posted 9 ∷ []) ≡ Over Depth
+then_deep : owing reply_owed 8 (write ∷ call_x ∷ []) [] (replies.Written key 4 ∷ replies.Posted 9 ∷ []) ≡ Over Depth
 then_deep = refl
 
 too_deep_send : owing Free 8 (send ∷ []) [] [] ≡ Over Depth
@@ -416,10 +424,12 @@ at_once : next_of (tree_of one_store (taken_with (message_to kinds.Call 1 (codes
     ≡ Make 1 1 (calls.Post (message_of kinds.Reply 3 0 (codes "h") [] (codes "1;")))
 at_once = refl
 
--- what a body does that is begun with what came with such a message
+-- what a body does that is begun with what came with such a message, which was taken from the inbox of the service `w`
 abbrev begun_by : MessageKind → List Step → List ℕ → List Reply → Want
 begun_by kind body baggage rs =
-    next_of (begun (block_from body) (setting_at one_store 1 3 (message_to kind 1 (codes "h") baggage)) (stated_in one_store (message_to kind 1 (codes "h") baggage))) rs
+    let m : Message = message_to kind 1 (codes "h") baggage in
+    let task : Task = task_with (role_in one_store 1 0 3 m) m.value [] in
+    next_of (begun (block_from body) (setting_of one_store task) (option_and_then fitting (stated_lineage one_store m))) rs
 
 abbrev write_reply : List Step
 write_reply = write ∷ statements.Reply (Literal (codes "ok")) ∷ []
@@ -443,7 +453,7 @@ no_reply_either = refl
 -- ---- what is foreign
 
 abbrev foreign_birth : ℕ → List ℕ → List ℕ → Bool
-foreign_birth depth handler baggage = is_foreign_birth one_store 1 (replies.Got 3 (message_to kinds.Call depth handler baggage))
+foreign_birth depth handler baggage = is_none (task_of one_store (taken_with (message_to kinds.Call depth handler baggage)))
 
 not_foreign : (baggage : List ℕ) → States baggage (its_id 0 2 ∷ []) → foreign_birth 8 (codes "h") baggage ≡ false
 not_foreign baggage states = rw states refl
@@ -462,3 +472,126 @@ foreign_reply = refl
 
 foreign_row : is_foreign one_store (replies.Shown (plain (row_of 1 (its_id 1 2 ∷ []) ∷ []))) ≡ true
 foreign_row = refl
+
+-- ---- births by rows
+
+-- An application with a queue `q`, a topic `t` and a store `s`, and with a service `w` that writes, refuses and does nothing: it writes and
+-- refuses messages of the queue, and does nothing with those of the topic. Its second subscription is the first one of the topic.
+abbrev store_of_kind : List ℕ → StoreKind → StoreDef
+store_of_kind name kind = record { name = name; kind = kind; replicas = plain (0 ∷ []); tries = 3 }
+
+abbrev handler_with : List ℕ → List Step → HandlerDef
+handler_with name steps = record { name = name; body = body_of (block_from steps) }
+
+abbrev sub_to : List ℕ → ℕ → ℕ → SubDef
+sub_to name store handler = record { name = name; store = store; channel = codes "c"; service = 0; handler = handler }
+
+abbrev writing : SubDef
+writing = sub_to (codes "writes") 0 0
+
+abbrev doing_nothing : SubDef
+doing_nothing = sub_to (codes "does_nothing") 1 2
+
+abbrev refusing : SubDef
+refusing = sub_to (codes "refuses") 0 1
+
+abbrev subscribed : App
+subscribed = record {
+  regions = plain (codes "eu" ∷ []);
+  stores = plain (store_of_kind (codes "q") Queue ∷ store_of_kind (codes "t") Topic ∷ store_of_kind (codes "s") Kv ∷ []);
+  services = plain (record {
+    name = codes "w";
+    region = 0;
+    handlers = plain (handler_with (codes "write") (write ∷ []) ∷ handler_with (codes "refuse") (statements.Nack ∷ []) ∷ empty_handler (codes "none") ∷ []);
+  } ∷ []);
+  subs = plain (writing ∷ doing_nothing ∷ refusing ∷ []);
+  requests = plain [];
+  choices = plain [];
+  seed = 1;
+  workers = 1;
+}
+
+-- a row is pulled for the subscription at a position among those of its store
+abbrev pulled_with : ℕ → ℕ → Row → Entry
+pulled_with store position row = record {
+  stamp = 1;
+  object = store;
+  place = 1;
+  seat = 0;
+  actor = actors.Process (record { object = store; place = 1 });
+  span = 1;
+  call = calls.Pull position;
+  reply = replies.Pulled row;
+}
+
+-- version 5 of the key, with an id of the store `s` beside it
+abbrev fifth : Row
+fifth = row_of 5 (its_id 2 1 ∷ [])
+
+-- what a process does next that such a row starts, after these replies
+abbrev does_pulled : ℕ → ℕ → List Reply → Want
+does_pulled store position rs = next_of (tree_of subscribed (pulled_with store position fifth)) rs
+
+-- the same of a handler with a body of one statement
+abbrev does_one : SubDef → List Reply → Step → Want
+does_one sub rs step =
+    let task : Task = task_with (role_on subscribed sub.store 5 sub) fifth.value (with_ids (row_ids sub.store fifth) []) in
+    next_of (begun (block_from (step ∷ [])) (setting_of subscribed task) task.carried) rs
+
+-- It carries the row's id and the lineage beside it.
+row_carried : does_pulled 0 0 [] ≡ Make 2 1 (calls.Write key (codes "a") (its_id 0 5 ∷ its_id 2 1 ∷ []))
+row_carried = ap (does_one writing []) (step_again write)
+
+-- At the end of its body it acks the version of the row at the queue.
+acks : does_pulled 0 0 (replies.Written key 2 ∷ []) ≡ Make 0 1 (calls.Ack 5)
+acks = ap (does_one writing (replies.Written key 2 ∷ [])) (step_again write)
+
+acked : does_pulled 0 0 (replies.Written key 2 ∷ replies.Done ∷ []) ≡ Over Fine
+acked = ap (does_one writing (replies.Written key 2 ∷ replies.Done ∷ [])) (step_again write)
+
+-- At `nack` it nacks it.
+nacks : does_pulled 0 1 [] ≡ Make 0 1 (calls.Nack 5)
+nacks = ap (does_one refusing []) (step_again statements.Nack)
+
+then_ends : does_pulled 0 1 (replies.Done ∷ []) ≡ Over Fine
+then_ends = ap (does_one refusing (replies.Done ∷ [])) (step_again statements.Nack)
+
+-- With a cell of the topic it ends, and owes nothing.
+cell_ends : does_pulled 1 0 [] ≡ Over Fine
+cell_ends = refl
+
+-- A row that is pulled once more starts the same.
+repulled : task_of subscribed (record (pulled_with 0 1 fifth) { call = calls.Repull 1 5 }) ≡ task_of subscribed (pulled_with 0 1 fifth)
+repulled = refl
+
+-- There is no further subscription of the topic, and none of the store `s`.
+no_sub : task_of subscribed (pulled_with 1 1 fifth) ≡ None
+no_sub = refl
+
+no_sub_at_all : task_of subscribed (pulled_with 2 0 fifth) ≡ None
+no_sub_at_all = refl
+
+-- a row whose lineage has an id of no store
+no_store : task_of subscribed (pulled_with 0 0 (row_of 5 (its_id 3 1 ∷ []))) ≡ None
+no_store = refl
+
+-- Version 300 of the key, with so many ids beside it. With 256 its own id is one too many: the process ends at once, and makes no call. With
+-- one fewer there is room.
+abbrev ids_to : ℕ → List WriteId
+ids_to zero = []
+ids_to (suc n) = its_id 0 (suc n) ∷ ids_to n
+
+abbrev pulled_beside : ℕ → Entry
+pulled_beside n = pulled_with 0 0 (row_of 300 (ids_to n))
+
+abbrev carried_by : Task → Option (List WriteId)
+carried_by task = task.carried
+
+too_many : option_map carried_by (task_of subscribed (pulled_beside 256)) ≡ Some None
+too_many = refl
+
+ends_at_once : tree_of subscribed (pulled_beside 256) ≡ Ends body_ends.LineageFull
+ends_at_once = refl
+
+just_fits : option_map (λ (task : Task). is_some task.carried) (task_of subscribed (pulled_beside 255)) ≡ Some true
+just_fits = refl

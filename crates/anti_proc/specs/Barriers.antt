@@ -8,12 +8,10 @@ use Rattle.anti_kind.specs.declared.call.Call.TheVariants as calls
 use Rattle.anti_kind.specs.declared.call.Reply.{Reply}
 use Rattle.anti_shim.specs.declared.looks.PlannedLook.{PlannedLook}
 use Rattle.anti_shim.specs.Plans.{with_look}
-use Rattle.anti_proc.specs.declared.want.Want.TheVariants.{Make}
-use Rattle.anti_proc.specs.Brought.{ask_of}
 use Rattle.anti_proc.specs.Local.{Setting, Local}
 use Rattle.anti_proc.specs.Meaning.{Go, planned}
 use Rattle.anti_app.specs.Objects.{is_store_here}
-use Rattle.anti_proc.specs.Trees.{Tree, Ask, Asks, Ends, after, next_of}
+use Rattle.anti_proc.specs.Trees.{Tree, Ask, Asks, Ends, Make, after, ask_of, next_of}
 
 -- those of these looks that are made at a store
 abbrev pub made_at : ℕ → List PlannedLook → List PlannedLook

@@ -1,16 +1,19 @@
 -- What came to the spans of a process by its calls, and what it carries.
-use Rattle.std.specs.Prelude.{ℕ, ◌≡◌, ◌==◌, true, List, [], ◌∷◌, ◌++◌, Option, Some, None, if◌then◌else◌}
+use Rattle.std.specs.Prelude.{ℕ, ◌≡◌, ◌==◌, true, List, [], ◌∷◌, ◌++◌, Some, unwrap_or, if◌then◌else◌}
+use Rattle.std.specs.Option.{option_map_or}
 use Rattle.anti_ids.specs.Each.{Each}
 use Rattle.anti_ids.specs.Ids.{IsLineage, has_id}
 use Rattle.anti_ids.specs.declared.id.WriteId.{WriteId}
 use Rattle.anti_kind.specs.declared.call.Call.{Call}
 use Rattle.anti_kind.specs.declared.call.Call.TheVariants as calls
+use Rattle.anti_kind.specs.declared.entry.Entry.{Entry}
 use Rattle.anti_kind.specs.declared.call.Reply.{Reply}
 use Rattle.anti_kind.specs.declared.call.Reply.TheVariants as replies
 use Rattle.anti_app.specs.declared.app.App.{App}
 use Rattle.anti_proc.specs.Local.{id_at, rows_ids}
 use Rattle.anti_proc.specs.Meaning.{stated_in}
-use Rattle.anti_proc.specs.Trees.{Tree, Ask, Asks, Ends, after}
+use Rattle.anti_proc.specs.Tasks.{task_of}
+use Rattle.anti_proc.specs.Trees.{Tree, Ask, Asks, Ends, after, ask_of}
 
 -- The ids that an answered call brings: a write its id, a read the ids of its rows and the lineages that are stored beside them, a reply its
 -- lineage.
@@ -22,10 +25,9 @@ came app object (calls.Poll region key) (replies.Shown rows) = rows_ids object r
 came app object (calls.TakeReply number) (replies.Got got m) = stated_in app m
 came app object call reply = []
 
--- the ids that came to a process with its message
-abbrev pub came_first : App → Reply → List WriteId
-came_first app (replies.Got number m) = stated_in app m
-came_first app _ = []
+-- the ids that came to a process with its message or its row
+abbrev pub came_first : App → Entry → List WriteId
+came_first app birth = option_map_or (λ task. unwrap_or task.carried []) (task_of app birth) []
 
 -- an answered call
 pub record Made : Type 0 where
@@ -43,14 +45,9 @@ abbrev pub brought_by : App → ℕ → List Made → List WriteId
 brought_by app span [] = []
 brought_by app span (m ∷ ms) = (if m.ask.span == span then came app m.ask.object m.ask.call m.reply else []) ++ brought_by app span ms
 
--- and, to the first span, what came with the message
+-- and, to the first span, what the process was born with
 abbrev pub brought : App → List WriteId → ℕ → List Made → List WriteId
 brought app first span ms = (if span == 1 then first else []) ++ brought_by app span ms
-
--- the next call, where there is one
-abbrev pub ask_of : Tree → Option Ask
-ask_of (Asks ask go) = Some ask
-ask_of (Ends end) = None
 
 -- Each id that the process carries into a call came to the call's span before.
 abbrev pub CarriesWhatCame : App → List WriteId → Tree → Type 0
@@ -61,6 +58,7 @@ CarriesWhatCame app first tree =
 -- The rows of a reply have lineages.
 abbrev pub HasLineages : Reply → Type 0
 HasLineages (replies.Shown rows) = Each (λ row. IsLineage row.lineage) rows.items
+HasLineages (replies.Pulled row) = IsLineage row.lineage
 HasLineages _ = Unit {0}
 
 -- What the process carries into a call is a lineage, where the rows that it was shown have lineages.

@@ -1,5 +1,5 @@
--- Messages and replies that are not of the application.
-use Rattle.std.specs.Prelude.{ℕ, Bool, true, false, not, ◌&&◌, nat_lt, nat_le, length, Result, Ok, Err, List}
+-- Replies that are not of the application.
+use Rattle.std.specs.Prelude.{Bool, false, not, ◌&&◌, is_some, Option, Some, None, Result, Ok, Err, List}
 use Rattle.std.specs.List.{list_all}
 use Rattle.anti_ids.specs.declared.id.WriteId.{WriteId}
 use Rattle.anti_kind.specs.declared.message.Message.{Message}
@@ -8,20 +8,23 @@ use Rattle.anti_kind.specs.declared.call.Reply.TheVariants as replies
 use Rattle.anti_baggage.specs.declared.fault.BaggageFault.{BaggageFault}
 use Rattle.anti_baggage.specs.Reading.{read_lineage}
 use Rattle.anti_app.specs.declared.app.App.{App}
-use Rattle.anti_ids.specs.declared.limits.TheConstants.{MOST_DEPTH}
-use Rattle.anti_app.specs.Objects.{store_names, service_at, has_handler}
+use Rattle.anti_app.specs.Objects.{is_store, store_names}
 
 -- whether each id is of a store of the application
 abbrev pub has_stores : App → List WriteId → Bool
-has_stores app ids = list_all (λ id. nat_lt id.store (length app.stores.items)) ids
+has_stores app ids = list_all (λ id. is_store app id.store) ids
 
--- whether a text states a lineage over the stores
-abbrev pub states : Result (List WriteId) BaggageFault → Bool
-states (Ok ids) = true
-states (Err fault) = false
+-- what was read, where there was no fault
+abbrev pub read_well : Result (List WriteId) BaggageFault → Option (List WriteId)
+read_well (Ok ids) = Some ids
+read_well (Err fault) = None
+
+-- the lineage over the application's stores that the text of a message states, where it states one
+abbrev pub stated_lineage : App → Message → Option (List WriteId)
+stated_lineage app m = read_well (read_lineage (store_names app) m.baggage.items)
 
 abbrev pub has_baggage : App → Message → Bool
-has_baggage app m = states (read_lineage (store_names app) m.baggage.items)
+has_baggage app m = is_some (stated_lineage app m)
 
 -- Whether a reply is foreign: the baggage of its message states no lineage over the stores, or an id in one of its lineages is of no
 -- store of the application.
@@ -31,13 +34,3 @@ is_foreign app (replies.Missing missing unwritten) = not (has_stores app missing
 is_foreign app (replies.Pulled row) = not (has_stores app row.lineage)
 is_foreign app (replies.Got number m) = not (has_baggage app m)
 is_foreign app _ = false
-
--- Whether a message that was taken from the inbox of a service starts nothing: it names no handler of the service, or it is too deep, or
--- its baggage is foreign.
-abbrev pub is_foreign_to : App → ℕ → Message → Bool
-is_foreign_to app inbox m = not (has_handler app (service_at app inbox) m.handler && (nat_le m.depth MOST_DEPTH && has_baggage app m))
-
--- the same of the entry that starts a process
-abbrev pub is_foreign_birth : App → ℕ → Reply → Bool
-is_foreign_birth app inbox (replies.Got number m) = is_foreign_to app inbox m
-is_foreign_birth app inbox reply = is_foreign app reply

@@ -1,4 +1,3 @@
-pub mod Adding
 pub mod Barriers
 pub mod Births
 pub mod Brought
@@ -8,9 +7,6 @@ pub mod Foreign
 pub mod Known
 pub mod Local
 pub mod Meaning
-pub mod Running
-pub mod Standing
-pub mod Statements
+pub mod Tasks
 pub mod Trees
-pub mod Variables
 pub mod inner

@@ -12,17 +12,14 @@ use Rattle.anti_lang.specs.declared.statement.KeyWord.TheVariants as keys
 use Rattle.anti_lang.specs.declared.statement.ValueWord.{ValueWord}
 use Rattle.anti_lang.specs.declared.statement.ValueWord.TheVariants as values
 use Rattle.anti_app.specs.declared.app.App.{App}
-use Rattle.anti_proc.specs.declared.given.Duty.{Duty}
+use Rattle.anti_proc.specs.declared.task.Duty.{Duty}
 use Rattle.anti_proc.specs.declared.variables.Held.{Held}
 use Rattle.anti_proc.specs.declared.variables.Held.TheVariants.{Wrote, Saw, Heard}
 use Rattle.anti_proc.specs.declared.variables.Variable.{Variable}
 
--- what does not change in a process: its application, the inbox that its message came to, the name of its handler, the region of its
--- service, the depth of its message, what it owes at its end, and the value of its message
+-- what does not change in a process: its application, the region of its service, its depth, what it owes at its end, and its input
 pub record Setting : Type 0 where
   pub app : App
-  pub inbox : ℕ
-  pub handler : List ℕ
   pub region : ℕ
   pub depth : ℕ
   pub duty : Duty

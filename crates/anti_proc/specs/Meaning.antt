@@ -1,9 +1,8 @@
 -- What a handler does.
-use Rattle.std.specs.Prelude.{ℕ, zero, suc, ◌+◌, Result, Ok, Err, Bool, true, false, List, [], ◌∷◌, Option, Some, None, length, map, if◌then◌else◌, nat_lt}
+use Rattle.std.specs.Prelude.{ℕ, zero, suc, ◌+◌, unwrap_or, Bool, true, false, List, [], ◌∷◌, Option, Some, None, length, map, if◌then◌else◌, nat_lt}
+use Rattle.std.specs.Option.{option_map_or}
 use Rattle.anti_ids.specs.Ids.{with_ids}
 use Rattle.anti_ids.specs.List.{plain}
-use Rattle.anti_baggage.specs.declared.fault.BaggageFault.{BaggageFault}
-use Rattle.anti_baggage.specs.Reading.{read_lineage}
 use Rattle.anti_baggage.specs.Texts.{lineage_text}
 use Rattle.anti_ids.specs.declared.limits.TheConstants.{MOST_DEPTH, MOST_IDS}
 use Rattle.anti_ids.specs.declared.id.WriteId.{WriteId}
@@ -21,14 +20,17 @@ use Rattle.anti_lang.specs.Texts.{plain_name}
 use Rattle.anti_app.specs.declared.app.App.{App}
 use Rattle.anti_shim.specs.declared.looks.PlannedLook.{PlannedLook}
 use Rattle.anti_shim.specs.Plans.{plan}
-use Rattle.anti_proc.specs.declared.given.Duty.{Duty}
-use Rattle.anti_proc.specs.declared.given.Duty.TheVariants as duties
+use Rattle.anti_proc.specs.declared.task.Duty.{Duty}
+use Rattle.anti_proc.specs.declared.task.Duty.TheVariants as duties
+use Rattle.anti_proc.specs.declared.task.Task.{Task}
 use Rattle.anti_proc.specs.declared.variables.Held.{Held}
 use Rattle.anti_proc.specs.declared.variables.Held.TheVariants.{Wrote, Saw, Heard}
-use Rattle.anti_proc.specs.declared.want.End.{End}
-use Rattle.anti_proc.specs.declared.want.End.TheVariants.{Fine, Depth, BadKey, LineageFull}
+use Rattle.anti_proc.specs.declared.end.BodyEnd.{BodyEnd}
+use Rattle.anti_proc.specs.declared.end.BodyEnd.TheVariants.{Fine, Depth, BadKey, LineageFull}
 use Rattle.anti_proc.specs.Local.{Setting, Local, first_local, new_span, rooted, held, set, set_or, held_ids, removed, is_absent, text_of, any_name, key_of}
-use Rattle.anti_app.specs.Objects.{store_number, store_names, handler_number, service_at, inbox_of, body_of, region_of, stores_here}
+use Rattle.anti_app.specs.Objects.{store_number, store_names, inbox_of, body_of, stores_here}
+use Rattle.anti_proc.specs.Foreign.{stated_lineage}
+use Rattle.anti_proc.specs.Tasks.{task_of}
 use Rattle.anti_proc.specs.Trees.{Tree, Ask, Asks, Ends, after}
 
 -- what comes next
@@ -83,40 +85,37 @@ message kind s l handler value = record {
   baggage = plain (lineage_text (store_names s.app) l.carried);
 }
 
--- The reply to the call of a number, with the value that was set last and what the process carries.
-abbrev pub answer : Setting → Local → ℕ → Message
-answer s l number = record {
+-- The reply to the call of a number by a handler, with the value that was set last and what the process carries.
+abbrev pub answer : Setting → Local → ℕ → List ℕ → Message
+answer s l number handler = record {
   kind = kinds.Reply;
   to = number;
   depth = 0;
-  handler = s.handler;
+  handler = handler;
   value = l.reply;
   baggage = plain (lineage_text (store_names s.app) l.carried);
 }
 
--- The end. A process that answers a call posts the reply first.
-abbrev pub answers : ℕ → Setting → End → Go
-answers number s end l = asks s.inbox (calls.Post (answer s l number)) l (λ reply. Ends end)
+-- The end, which is good behind the last statement of the body and nowhere else. A process that owes something does it first: it posts
+-- the reply to a call, or acks a message of a queue, where the end is good, and else nacks it.
+abbrev pub leave_by : Duty → Bool → Setting → BodyEnd → Go
+leave_by duties.Free good s end l = Ends end
+leave_by (duties.Answers inbox number handler) good s end l =
+    asks inbox (calls.Post (answer s l number handler)) l (λ reply. Ends end)
+leave_by (duties.Works store version) good s end l =
+    asks store (if good then calls.Ack version else calls.Nack version) l (λ reply. Ends end)
 
-abbrev pub leave_by : Duty → Setting → End → Go
-leave_by duties.Free s end l = Ends end
-leave_by (duties.Answers number) s end l = answers number s end l
-
-abbrev pub leave : Setting → End → Go
-leave s end l = leave_by s.duty s end l
+abbrev pub leave : Bool → Setting → BodyEnd → Go
+leave good s end l = leave_by s.duty good s end l
 
 -- goes on with a key, where there is one
 abbrev pub with_key : Setting → Local → Option (List ℕ) → (List ℕ → Tree) → Tree
-with_key s l None go = leave s BadKey l
+with_key s l None go = leave false s BadKey l
 with_key s l (Some key) go = go key
 
--- the lineage that a text states; a text that states none brings nothing
-abbrev pub stated : Result (List WriteId) BaggageFault → List WriteId
-stated (Ok ids) = ids
-stated (Err fault) = []
-
+-- the lineage that a message brings; a text that states none brings nothing
 abbrev pub stated_in : App → Message → List WriteId
-stated_in app m = stated (read_lineage (store_names app) m.baggage.items)
+stated_in app m = unwrap_or (stated_lineage app m) []
 
 -- A reply brings its lineage, and its variable holds its value.
 abbrev pub after_reply : Setting → List ℕ → Local → Go → Reply → Tree
@@ -142,7 +141,7 @@ post_call inbox handler value variable s l go =
 
 -- goes on where the message would not be too deep
 abbrev pub if_deep : Setting → Local → Tree → Tree
-if_deep s l tree = if nat_lt s.depth MOST_DEPTH then tree else leave s Depth l
+if_deep s l tree = if nat_lt s.depth MOST_DEPTH then tree else leave false s Depth l
 
 -- the looks of a barrier: one at each store with a replica in the region of which the process carries ids
 abbrev pub planned : Setting → Local → List PlannedLook
@@ -183,7 +182,7 @@ abbrev mutual
   step_tree (program.Send service handler value) s l go =
       if_deep s l (post_call (inbox_of s.app service) handler (text_of s.input l.variables value) None s l go)
   step_tree (program.Reply value) s l go = go (record l { reply = text_of s.input l.variables value })
-  step_tree program.Nack s l go = leave s Fine l
+  step_tree program.Nack s l go = leave false s Fine l
   step_tree program.Root s l go = go (rooted l.stopped l)
   step_tree program.Stop s l go = go (new_span true l)
   step_tree (program.Repeat count block) s l go = turns count (block_tree block s) l go
@@ -196,42 +195,29 @@ abbrev mutual
 
 -- a body, run to its end
 abbrev pub body_tree : Block → Setting → Go
-body_tree body s l = block_tree body s l (leave s Fine)
+body_tree body s l = block_tree body s l (leave true s Fine)
 
--- A process that takes a call answers it at its end; one that takes another message owes nothing.
-abbrev pub duty_of : MessageKind → ℕ → Duty
-duty_of kinds.Call number = duties.Answers number
-duty_of _ number = duties.Free
-
--- a process whose message, of this number, was taken from the inbox of a service
-abbrev pub setting_at : App → ℕ → ℕ → Message → Setting
-setting_at app inbox number m = record {
+abbrev pub setting_of : App → Task → Setting
+setting_of app task = record {
   app = app;
-  inbox = inbox;
-  handler = m.handler;
-  region = region_of app (service_at app inbox);
-  depth = m.depth;
-  duty = duty_of m.kind number;
-  input = m.value;
+  region = task.role.region;
+  depth = task.role.depth;
+  duty = task.role.duty;
+  input = task.input;
 }
 
--- a body that is begun with a lineage
-abbrev pub begun : Block → Setting → List WriteId → Tree
-begun body s ids = carry ids first_local (body_tree body s)
+-- A body that is begun with a lineage. Where there would be more ids than a lineage may have, the process ends at once.
+abbrev pub begun : Block → Setting → Option (List WriteId) → Tree
+begun body s None = Ends LineageFull
+begun body s (Some ids) = body_tree body s (record first_local { carried = ids })
 
--- the handler that the message names, with the lineage that came with it
-abbrev pub process_tree : App → ℕ → ℕ → Message → Tree
-process_tree app inbox number m =
-    begun (body_of app (service_at app inbox) (handler_number app (service_at app inbox) m.handler)) (setting_at app inbox number m) (stated_in app m)
+-- the handler of a task
+abbrev pub task_tree : App → Task → Tree
+task_tree app task = begun (body_of app task.role.service task.role.handler) (setting_of app task) task.carried
 
--- what the reply to a call on an inbox starts: a message that was got starts the handler that it names
-abbrev pub started : App → ℕ → Reply → Tree
-started app inbox (replies.Got number m) = process_tree app inbox number m
-started app inbox _ = Ends Fine
-
--- the process that an entry starts
+-- the process that an entry starts; one that starts nothing has nothing to do
 abbrev pub tree_of : App → Entry → Tree
-tree_of app e = started app e.object e.reply
+tree_of app e = option_map_or (task_tree app) (task_of app e) (Ends Fine)
 
 abbrev pub reply_of : Entry → Reply
 reply_of e = e.reply

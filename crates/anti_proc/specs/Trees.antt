@@ -4,9 +4,10 @@ use Rattle.anti_ids.specs.declared.id.WriteId.{WriteId}
 use Rattle.anti_kind.specs.declared.call.Call.{Call}
 use Rattle.anti_kind.specs.declared.call.Reply.{Reply}
 use Rattle.anti_shim.specs.declared.looks.PlannedLook.{PlannedLook}
-use Rattle.anti_proc.specs.declared.want.End.{End}
-use Rattle.anti_proc.specs.declared.want.Want.{Want}
-use Rattle.anti_proc.specs.declared.want.Want.TheVariants.{Make, Over}
+use Rattle.anti_proc.specs.declared.end.BodyEnd.{BodyEnd}
+use Rattle.anti_proc.specs.declared.end.BodyEnd.TheVariants as body_ends
+use Rattle.anti_proc.specs.declared.end.End.{End}
+use Rattle.anti_proc.specs.declared.end.End.TheVariants as ends
 
 -- A call at an object, in a span, with the lineage that the process carries as it makes it. A look of a barrier or a dry run has the looks
 -- of the same barrier that are left after it, in their order; a call that is no such look has none.
@@ -19,7 +20,7 @@ pub record Ask : Type 0 where
 
 pub data Tree : Type 0 where
   Asks : (ask : Ask) → (Reply → Tree) → Tree
-  Ends : (end : End) → Tree
+  Ends : (end : BodyEnd) → Tree
 
 -- what follows on a reply; after the end there is nothing more
 abbrev pub branch : Tree → Reply → Tree
@@ -31,10 +32,26 @@ abbrev pub after : Tree → List Reply → Tree
 after tree [] = tree
 after tree (reply ∷ replies) = after (branch tree reply) replies
 
--- the next call, or the end
+-- the next call, where there is one
+abbrev pub ask_of : Tree → Option Ask
+ask_of (Asks ask go) = Some ask
+ask_of (Ends end) = None
+
+-- how a process ends by its body
+abbrev pub end_as : BodyEnd → End
+end_as body_ends.Fine = ends.Fine
+end_as body_ends.Depth = ends.Depth
+end_as body_ends.BadKey = ends.BadKey
+end_as body_ends.LineageFull = ends.LineageFull
+
+-- what a process does next: a call, or it has ended
+pub data Want : Type 0 where
+  Make : (object span : ℕ) (call : Call) → Want
+  Over : (end : End) → Want
+
 abbrev pub want_of : Tree → Want
 want_of (Asks ask go) = Make ask.object ask.span ask.call
-want_of (Ends end) = Over end
+want_of (Ends end) = Over (end_as end)
 
 -- the next call after these replies, or the end
 abbrev pub next_of : Tree → List Reply → Want
@@ -43,7 +60,7 @@ next_of tree replies = want_of (after tree replies)
 -- the end, where there is no further call
 abbrev pub end_of : Tree → Option End
 end_of (Asks ask go) = None
-end_of (Ends end) = Some end
+end_of (Ends end) = Some (end_as end)
 
 -- the next call is one at this object
 abbrev pub IsAskedAt : ℕ → Tree → Type 0

@@ -1,1 +1,6 @@
-pub mod Places
+pub mod Adding
+pub mod Cursors
+pub mod Running
+pub mod Standing
+pub mod Statements
+pub mod Variables

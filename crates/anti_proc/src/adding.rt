@@ -1,14 +1,14 @@
 ghost use Rattle.std.specs.Prelude.{◌≡◌, List, IfOk, option_map};
 ghost use Rattle.anti_ids.specs.Ids.{with_ids};
 ghost use Rattle.anti_ids.specs.declared.id.WriteId.{WriteId};
-ghost use Rattle.anti_proc.specs.Adding.{Adds};
+ghost use Rattle.anti_proc.specs.inner.Adding.{Adds};
 ghost use Rattle.anti_proc.specs.Local.{Setting, Local, all_absent, held_ids, id_at, row_ids, rows_ids};
 ghost use Rattle.anti_proc.specs.Meaning.{Go, add, carry};
-ghost use Rattle.anti_proc.specs.Standing.{next_or};
+ghost use Rattle.anti_proc.specs.inner.Standing.{stage_or};
 
-use crate::next::Next;
+use crate::end::BodyEnd;
+use crate::next::Stage;
 use crate::variables::Held;
-use crate::want::End;
 use anti_ids::{Lineage, LineageRefused, MOST_IDS, NoMemory, WriteId};
 use anti_kind::Row;
 
@@ -22,9 +22,9 @@ fn add_id(carried: &mut Lineage, id: WriteId) -> Result<(), LineageRefused>
     Ok(())
 }
 
-// Adds the ids that a row of a store brings.
+/// Adds the ids that a row of a store brings.
 #[tactic(auto, using(crate::proofs::Unions::more_refused, crate::proofs::Unions::with_ids_append))]
-fn add_row(carried: &mut Lineage, store: u32, row: &Row) -> Result<(), LineageRefused>
+pub fn add_row(carried: &mut Lineage, store: u32, row: &Row) -> Result<(), LineageRefused>
     ensures { Adds (row_ids store row.now) carried.old carried.new result }
 {
     let id = WriteId {
@@ -60,9 +60,14 @@ fn add_held(carried: &mut Lineage, held: Option<&Held>) -> Result<(), LineageRef
 }
 
 // What is next where ids were added to what is carried: nothing, or the end, where they were too many.
-fn next_with(carried: &Lineage, added: Result<(), LineageRefused>) -> Result<Option<Next>, NoMemory>
-    ensures { (ids old : List WriteId) → Adds ids old carried.now added → IfOk result (λ next. (s : Setting) (l : Local) (go : Go)
-        → next_or next s (record l { carried = carried.now }) go ≡ carry (with_ids ids old) l go) }
+fn next_with(
+    carried: &Lineage,
+    added: Result<(), LineageRefused>,
+) -> Result<Option<Stage>, NoMemory>
+    ensures { (ids old : List WriteId) → Adds ids old carried.now added
+        → IfOk result (λ stage. (s : Setting) (l : Local) (go : Go)
+        → stage_or stage s (record l { carried = carried.now }) go
+        ≡ carry (with_ids ids old) l go) }
 {
     match added {
         Ok(()) => {
@@ -71,24 +76,26 @@ fn next_with(carried: &Lineage, added: Result<(), LineageRefused>) -> Result<Opt
             prove!(short);
             Ok(None)
         }
-        Err(LineageRefused::Full) => Ok(Some(Next::Over(End::LineageFull))),
+        Err(LineageRefused::Full) => Ok(Some(Stage::Over(BodyEnd::LineageFull))),
         Err(LineageRefused::NoMemory) => Err(NoMemory),
     }
 }
 
 /// Adds the ids of what a variable holds to a lineage. Where they are too many the process ends, and some may be added.
-pub fn add(carried: &mut Lineage, held: Option<&Held>) -> Result<Option<Next>, NoMemory>
-    ensures { IfOk result (λ next. (s : Setting) (l : Local) (go : Go) → l.carried ≡ carried.old
-        → next_or next s (record l { carried = carried.new }) go ≡ add (option_map (λ h. h.now) held.entry) l go) }
+pub fn add(carried: &mut Lineage, held: Option<&Held>) -> Result<Option<Stage>, NoMemory>
+    ensures { IfOk result (λ stage. (s : Setting) (l : Local) (go : Go) → l.carried ≡ carried.old
+        → stage_or stage s (record l { carried = carried.new }) go
+        ≡ add (option_map (λ h. h.now) held.entry) l go) }
 {
     let added = add_held(carried, held);
     next_with(carried, added)
 }
 
 /// Adds the ids of another lineage to a lineage. Where they are too many the process ends.
-pub fn carry(carried: &mut Lineage, more: &Lineage) -> Result<Option<Next>, NoMemory>
-    ensures { IfOk result (λ next. (s : Setting) (l : Local) (go : Go)
-        → next_or next s (record l { carried = carried.new }) go ≡ carry (with_ids more.now carried.old) l go) }
+pub fn carry(carried: &mut Lineage, more: &Lineage) -> Result<Option<Stage>, NoMemory>
+    ensures { IfOk result (λ stage. (s : Setting) (l : Local) (go : Go)
+        → stage_or stage s (record l { carried = carried.new }) go
+        ≡ carry (with_ids more.now carried.old) l go) }
 {
     let added = carried.transfer(more);
     next_with(carried, added)

@@ -1,26 +1,18 @@
-ghost use Rattle.std.specs.Prelude.{◌≡◌, ◌≤◌, [], length, nat_lt, true, false, Err, IfOk, OnOk};
+ghost use Rattle.std.specs.Prelude.{◌≡◌, [], Some, None, true, false, Err, IfOk, OnOk};
 ghost use Rattle.std.specs.List.{list_all};
-ghost use Rattle.anti_proc.specs.Brought.{came_first};
-ghost use Rattle.anti_proc.specs.Foreign.{has_baggage, has_stores, is_foreign, is_foreign_to};
-ghost use Rattle.anti_proc.specs.Meaning.{stated_in};
 ghost use Rattle.anti_app.specs.Running.{CanRun};
+ghost use Rattle.anti_proc.specs.Foreign.{has_stores, is_foreign, stated_lineage};
+ghost use Rattle.anti_proc.specs.inner.Statements.{came_by};
 
-use crate::want::ProcFault;
-use anti_app::{App, has_handler, service_at, store_names};
+use crate::end::ProcFault;
+use anti_app::{App, is_store, store_names};
 use anti_baggage::{BaggageFault, decode};
-use anti_ids::{Lineage, MOST_DEPTH};
+use anti_ids::Lineage;
 use anti_kind::{Message, Reply, Row};
 use std::alloc::Global;
 
-// Whether the application has the store with a number.
-fn is_store(app: &App, store: u32) -> bool
-    ensures { result ≡ nat_lt store (length app.now.stores.items) }
-{
-    (store as usize) < app.stores.len()
-}
-
-// Whether each id of a lineage is of a store of the application.
-fn has_stores(app: &App, lineage: &Lineage) -> bool
+/// Whether each id of a lineage is of a store of the application.
+pub fn has_stores(app: &App, lineage: &Lineage) -> bool
     ensures { result ≡ has_stores app.now lineage.now }
 {
     for id in lineage.iter() {
@@ -50,13 +42,12 @@ fn none_unless(alloc: Global, is_foreign: bool) -> Result<Lineage, ProcFault>
     Ok(Lineage::root(alloc))
 }
 
-// The lineage that the baggage of a message states. `Foreign` comes exactly where it states none.
+/// The lineage that the baggage of a message states. `Foreign` comes exactly where it states none.
 #[tactic(auto, using(anti_app::proofs::Runnable::names_fit))]
-fn stated(alloc: Global, app: &App, message: &Message) -> Result<Lineage, ProcFault>
+pub fn stated(alloc: Global, app: &App, message: &Message) -> Result<Lineage, ProcFault>
     requires { CanRun app.now }
-    ensures ids { IfOk result (λ ids. ids ≡ stated_in app.now message.now) }
-    ensures known { OnOk result (has_baggage app.now message.now ≡ true) }
-    ensures foreign { result ≡ Err ProcFault.Foreign → has_baggage app.now message.now ≡ false }
+    ensures ids { IfOk result (λ ids. stated_lineage app.now message.now ≡ Some ids) }
+    ensures foreign { result ≡ Err ProcFault.Foreign → stated_lineage app.now message.now ≡ None }
 {
     let names = store_names(alloc, app)?;
     match decode(alloc, names.as_slice(), message.baggage.bytes()) {
@@ -70,7 +61,7 @@ fn stated(alloc: Global, app: &App, message: &Message) -> Result<Lineage, ProcFa
 /// reply is foreign.
 pub fn brought(alloc: Global, app: &App, reply: &Reply) -> Result<Lineage, ProcFault>
     requires { CanRun app.now }
-    ensures ids { IfOk result (λ ids. ids ≡ came_first app.now reply.now) }
+    ensures ids { IfOk result (λ ids. ids ≡ came_by app.now reply.now) }
     ensures known { OnOk result (is_foreign app.now reply.now ≡ false) }
     ensures foreign { result ≡ Err ProcFault.Foreign → is_foreign app.now reply.now ≡ true }
 {
@@ -84,24 +75,4 @@ pub fn brought(alloc: Global, app: &App, reply: &Reply) -> Result<Lineage, ProcF
         Reply::Got { message, .. } => stated(alloc, app, message),
         _ => Ok(Lineage::root(alloc)),
     }
-}
-
-/// The lineage that came with a message that was taken from the inbox of a service. `Foreign` comes exactly where the message starts
-/// nothing.
-pub fn brought_to(
-    alloc: Global,
-    app: &App,
-    inbox: u32,
-    message: &Message,
-) -> Result<Lineage, ProcFault>
-    requires { CanRun app.now }
-    ensures ids { IfOk result (λ ids. ids ≡ stated_in app.now message.now) }
-    ensures depth { OnOk result (message.now.depth ≤ MOST_DEPTH) }
-    ensures known { OnOk result (is_foreign_to app.now inbox message.now ≡ false) }
-    ensures foreign { result ≡ Err ProcFault.Foreign → is_foreign_to app.now inbox message.now ≡ true }
-{
-    if !has_handler(app, service_at(app, inbox), &message.handler) || message.depth > MOST_DEPTH {
-        return Err(ProcFault::Foreign);
-    }
-    stated(alloc, app, message)
 }

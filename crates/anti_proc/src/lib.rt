@@ -2,24 +2,26 @@
 #![tactic(auto)]
 
 mod adding;
-mod calls;
+mod cursor;
+mod end;
 mod foreign;
 mod given;
 mod laws;
 mod messages;
 mod next;
-mod place;
 mod process;
 mod run;
 mod state;
 mod statements;
+mod task;
 mod variables;
-mod want;
 mod words;
 
+pub use end::{BodyEnd, End, ProcFault};
 pub use laws::{
     barriers_look_in_a_row, calls_are_known, calls_are_made_at_home, calls_hand_on_what_is_carried,
     calls_have_their_objects, carries_lineages, carries_what_came, laws_of_processes,
 };
-pub use process::Process;
-pub use want::{End, ProcFault, Want};
+pub use process::{Asked, Process};
+pub use run::Advance;
+pub use task::{Duty, Role, Task, role_of};

@@ -1,166 +1,56 @@
 ghost use Rattle.std.specs.Prelude.{◌≡◌, reverse, IfOk};
 ghost use Rattle.anti_proc.specs.Local.{Setting, Local};
-ghost use Rattle.anti_proc.specs.Meaning.{Go, leave_by, looks};
-ghost use Rattle.anti_proc.specs.Standing.{next_or, next_tree};
+ghost use Rattle.anti_proc.specs.Meaning.{Go, looks};
+ghost use Rattle.anti_proc.specs.inner.Standing.{stage_or};
 
-use crate::given::Duty;
-use crate::want::End;
-use anti_ids::{Copies, List, Name, NoMemory, Value};
+use crate::end::BodyEnd;
+use anti_ids::{List, Name, NoMemory};
+use anti_kind::Call;
 use anti_shim::{Looks, PlannedLook};
 use std::alloc::Global;
 
-/// The call that is next, with all that its reply needs; or the end.
+/// What the reply to a call does.
 #[derive(Drop)]
-pub enum Next {
-    /// Writes a value to a key of a store.
-    Write {
-        store: u32,
-        key: Name,
-        value: Value,
+pub enum After {
+    /// It tells what was written. The variable holds it, where there is one, and it is carried, unless it is untracked.
+    Wrote {
         variable: Option<Name>,
         untracked: bool,
     },
-    /// Reads a key of a store.
-    Read {
-        store: u32,
-        key: Name,
+    /// It shows what the variable holds then.
+    Saw {
         variable: Name,
     },
-    /// Reads all keys of a store that begin with a prefix.
-    Scan {
-        store: u32,
-        prefix: Name,
-        variable: Name,
-    },
-    /// Reads a cell of a topic.
-    Poll {
-        store: u32,
-        key: Name,
-        variable: Name,
-    },
-    /// Makes a look. Those that the barrier makes after it stand in `later`, the last first.
-    Look {
-        look: PlannedLook,
+    /// It is that of a look. The looks that the barrier makes after it stand in `later`, the last first.
+    Looked {
         later: Looks,
         dry: bool,
     },
-    /// Posts a message for a handler to an inbox: a call, whose reply sets the variable, or a send, which has none.
-    Post {
-        inbox: u32,
-        handler: Name,
-        value: Value,
+    /// It numbers a message that was posted. The reply to a call sets the variable; a send has none.
+    Posted {
         variable: Option<Name>,
     },
-    /// Takes the reply to the call of a number, which sets the variable.
-    Hear {
-        inbox: u32,
-        number: u32,
+    /// It brings the reply to a call, which the variable holds then.
+    Heard {
         variable: Name,
     },
-    /// Posts the reply to the call of a number, which the process owes. It is then at its end.
-    Answer {
-        number: u32,
-        end: End,
-    },
-    /// There is no further call.
-    Over(End),
+    /// It was the last: the process is at its end.
+    Left(BodyEnd),
 }
 
-impl Copies for Next {
-    fn copy(&self, alloc: Global) -> Result<Next, NoMemory> {
-        match self {
-            Next::Write {
-                store,
-                key,
-                value,
-                variable,
-                untracked,
-            } => {
-                let value = value.copy(alloc)?;
-                Ok(Next::Write {
-                    store: *store,
-                    key: *key,
-                    value,
-                    variable: *variable,
-                    untracked: *untracked,
-                })
-            }
-            Next::Read {
-                store,
-                key,
-                variable,
-            } => Ok(Next::Read {
-                store: *store,
-                key: *key,
-                variable: *variable,
-            }),
-            Next::Scan {
-                store,
-                prefix,
-                variable,
-            } => Ok(Next::Scan {
-                store: *store,
-                prefix: *prefix,
-                variable: *variable,
-            }),
-            Next::Poll {
-                store,
-                key,
-                variable,
-            } => Ok(Next::Poll {
-                store: *store,
-                key: *key,
-                variable: *variable,
-            }),
-            Next::Look { look, later, dry } => {
-                let look = look.copy(alloc)?;
-                let later = later.copy(alloc)?;
-                Ok(Next::Look {
-                    look,
-                    later,
-                    dry: *dry,
-                })
-            }
-            Next::Post {
-                inbox,
-                handler,
-                value,
-                variable,
-            } => {
-                let value = value.copy(alloc)?;
-                Ok(Next::Post {
-                    inbox: *inbox,
-                    handler: *handler,
-                    value,
-                    variable: *variable,
-                })
-            }
-            Next::Hear {
-                inbox,
-                number,
-                variable,
-            } => Ok(Next::Hear {
-                inbox: *inbox,
-                number: *number,
-                variable: *variable,
-            }),
-            Next::Answer { number, end } => Ok(Next::Answer {
-                number: *number,
-                end: *end,
-            }),
-            Next::Over(end) => Ok(Next::Over(*end)),
-        }
-    }
+/// The call that is next, at the object of a number, and what its reply does.
+#[derive(Drop)]
+pub struct Next {
+    pub object: u32,
+    pub call: Call,
+    pub after: After,
 }
 
-// The end. A process that owes a reply posts it first.
-pub fn leave(duty: Duty, end: End) -> Next
-    ensures { (s : Setting) (l : Local) (go : Go) → next_tree result s l go ≡ leave_by duty s end l }
-{
-    match duty {
-        Duty::Free => Next::Over(end),
-        Duty::Answers(number) => Next::Answer { number, end },
-    }
+/// What a handler comes to: a call is next, or it is at its end.
+#[derive(Drop)]
+pub enum Stage {
+    Asks(Next),
+    Over(BodyEnd),
 }
 
 // These looks, the last first.
@@ -174,14 +64,15 @@ pub fn last_first(alloc: Global, mut looks: Looks) -> Result<Looks, NoMemory>
     Ok(turned)
 }
 
-// The first of the looks that are left to a barrier, of which the last comes first; `None` where none is left.
-pub fn look_of(mut left: Looks, dry: bool) -> Option<Next>
-    ensures { (s : Setting) (l : Local) (go : Go) → next_or result s l go ≡ looks s.region dry (reverse left.items) l go }
+/// The first of the looks in a region that are left to a barrier, of which the last comes first; `None` where none is left.
+pub fn look_of(mut left: Looks, region: u32, dry: bool) -> Option<Stage>
+    ensures { (s : Setting) (l : Local) (go : Go) → s.region ≡ region
+        → stage_or result s l go ≡ looks s.region dry (reverse left.items) l go }
 {
-    let look = left.pop()?;
-    Some(Next::Look {
-        look,
-        later: left,
-        dry,
-    })
+    let PlannedLook { store, ids } = left.pop()?;
+    Some(Stage::Asks(Next {
+        object: store,
+        call: Call::Look { region, ids, dry },
+        after: After::Looked { later: left, dry },
+    }))
 }

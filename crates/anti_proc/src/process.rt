@@ -1,34 +1,45 @@
-ghost use Rattle.std.specs.Prelude.{◌≡◌, ℕ, Some, None, Err, true, false, IfOk, OnOk, OnErr};
+ghost use Rattle.std.specs.Prelude.{ℕ, ◌≡◌, Some, None, Err, true, false, IfOk, IfSome, IfNone, OnOk, OnErr};
 ghost use Rattle.anti_app.specs.declared.app.App.{App};
-ghost use Rattle.anti_proc.specs.Births.{birth_at};
-ghost use Rattle.anti_proc.specs.Foreign.{is_foreign, is_foreign_birth};
-ghost use Rattle.anti_proc.specs.Meaning.{tree_of};
 ghost use Rattle.anti_app.specs.Running.{CanRun};
-ghost use Rattle.anti_proc.specs.Running.{IsRunOf};
-ghost use Rattle.anti_proc.specs.Standing.{birth_of, clock_of, full_of, process_of};
-ghost use Rattle.anti_proc.specs.Trees.{IsAskedAt, branch, want_of, end_of};
+ghost use Rattle.anti_proc.specs.Births.{birth_at};
+ghost use Rattle.anti_proc.specs.Foreign.{is_foreign};
+ghost use Rattle.anti_proc.specs.Meaning.{tree_of};
+ghost use Rattle.anti_proc.specs.Tasks.{task_of};
+ghost use Rattle.anti_proc.specs.Trees.{IsAskedAt, Make, ask_of, branch, end_of, want_of};
+ghost use Rattle.anti_proc.specs.inner.Running.{IsAdvanceOf, IsRunOf};
+ghost use Rattle.anti_proc.specs.inner.Standing.{HasRoom, advanced, birth_of, clock_of, full_by, full_of, process_of};
 
-use crate::run::Run;
-use crate::want::{End, ProcFault, Want};
+use crate::end::{End, ProcFault, end_as};
+use crate::foreign::brought;
+use crate::run::{Advance, Life, begun};
+use crate::task::Task;
 use anti_app::App;
-use anti_ids::{Copies, NoMemory};
-use anti_kind::{Birth, Entry, Reply};
+use anti_ids::NoMemory;
+use anti_kind::{Birth, Call, Entry, Reply};
 use std::alloc::Global;
+
+/// The call that a process makes next. Objects are numbered from 0, first the stores and then the inboxes of the services; spans are
+/// counted from 1.
+#[derive(Clone, Copy)]
+pub struct Asked<'a> {
+    pub object: u32,
+    pub span: u32,
+    pub call: &'a Call,
+}
 
 /// One run of a handler, between two of its calls. Each call on it is given the application with which it was born.
 #[derive(Drop)]
 pub struct Process {
+    alloc: Global,
     birth: Birth,
     clock: u64,
-    run: Run,
-    // the object on which its next call did not fit
-    full: Option<u32>,
+    life: Life,
 }
 
 impl Process {
-    /// The process that an entry of the application starts. `Foreign` comes exactly where its message is none of the application's: the
-    /// service has not the handler that is named, it is too deep, or its baggage states no lineage over the stores. An entry that takes
-    /// no message gives a process with nothing to do.
+    /// The process that an entry of the application starts. `Foreign` comes exactly where it starts nothing: it takes no message and no
+    /// row, the service has not the handler that the message names, the message is too deep, its baggage states no lineage over the
+    /// stores, or an id of the row's lineage is of no store of the application.
     pub fn born(alloc: Global, app: &App, entry: &Entry) -> Result<Process, ProcFault>
         requires { CanRun app.now }
         ensures run { IfOk result (λ p. IsRunOf app.now p) }
@@ -36,42 +47,115 @@ impl Process {
         ensures clock { IfOk result (λ p. clock_of p ≡ entry.now.stamp) }
         ensures birth { IfOk result (λ p. birth_of p ≡ birth_at entry.now) }
         ensures full { IfOk result (λ p. full_of p ≡ None) }
-        ensures known { IfOk result (λ p. is_foreign_birth app.now entry.now.object entry.now.reply ≡ false) }
-        ensures foreign { result ≡ Err ProcFault.Foreign → is_foreign_birth app.now entry.now.object entry.now.reply ≡ true }
+        ensures known { OnOk result (task_of app.now entry.now ≡ None → ⊥) }
+        ensures foreign { result ≡ Err ProcFault.Foreign → task_of app.now entry.now ≡ None }
     {
-        let run = Run::started(alloc, app, entry.object, &entry.reply)?;
+        let task = Task::of(alloc, app, entry)?;
+        let life = begun(alloc, app, task)?;
         Ok(Process {
+            alloc,
             birth: Birth {
                 object: entry.object,
                 place: entry.place,
             },
             clock: entry.stamp,
-            run,
-            full: None,
+            life,
         })
     }
 
-    /// The next call, or the end.
-    pub fn next(&self, app: &App) -> Result<Want, NoMemory>
-        requires app { CanRun app.now }
-        requires run { IsRunOf app.now self.now }
-        ensures going { full_of self.now ≡ None → IfOk result (λ w. w ≡ want_of (process_of app.now self.now)) }
-        ensures full { (object : ℕ) → full_of self.now ≡ Some object → IfOk result (λ w. w ≡ Want.Over (End.StoreFull object)) }
+    /// The next call; `None` where the process has ended. It takes no memory.
+    pub fn next(&self) -> Option<Asked<'_>>
+        ensures some { (app : App) → IfSome result (λ asked.
+            want_of (process_of app self.now) ≡ Make asked.object asked.span asked.call.now) }
+        ensures going { IfSome result (λ asked. full_of self.now ≡ None) }
+        ensures none { (app : App) → IfNone result (ask_of (process_of app self.now) ≡ None) }
     {
-        match self.full {
-            Some(object) => Ok(Want::Over(End::StoreFull(object))),
-            None => self.run.next(app),
+        match &self.life {
+            Life::Runs(run) => Some(Asked {
+                object: run.next.object,
+                span: run.state.span,
+                call: &run.next.call,
+            }),
+            _ => None,
         }
     }
 
     /// How the process ended, where it has no further call. It takes no memory.
     pub fn ended(&self) -> Option<End>
-        ensures going { (app : App) → full_of self.now ≡ None → result ≡ end_of (process_of app self.now) }
-        ensures full { (object : ℕ) → full_of self.now ≡ Some object → result ≡ Some (End.StoreFull object) }
+        ensures going { (app : App) → full_of self.now ≡ None → result
+            ≡ end_of (process_of app self.now) }
+        ensures full { (object : ℕ) → full_of self.now ≡ Some object → result
+            ≡ Some (End.StoreFull object) }
     {
-        match self.full {
-            Some(object) => Some(End::StoreFull(object)),
-            None => self.run.ended(),
+        match &self.life {
+            Life::Runs(_) => None,
+            Life::Over(end) => Some(end_as(*end)),
+            Life::Full(object) => Some(End::StoreFull(*object)),
+        }
+    }
+
+    /// What the reply to its next call makes of the process, which stays as it is. `Foreign` comes exactly where the baggage in the reply
+    /// states no lineage over the stores, or an id in one of its lineages is of no store of the application.
+    pub fn advance(&self, app: &App, reply: &Reply) -> Result<Advance, ProcFault>
+        requires app { CanRun app.now }
+        requires run { IsRunOf app.now self.now }
+        ensures goes { full_of self.now ≡ None
+            → IfOk result (λ a. advanced app.now self.now a
+            ≡ branch (process_of app.now self.now) reply.now) }
+        ensures run { IfOk result (λ a. IsAdvanceOf app.now self.now a) }
+        ensures full { IfOk result (λ a. full_by a ≡ full_of self.now) }
+        ensures known { OnOk result (is_foreign app.now reply.now ≡ false) }
+        ensures foreign { result ≡ Err ProcFault.Foreign → is_foreign app.now reply.now ≡ true }
+    {
+        let brought = brought(self.alloc, app, reply)?;
+        match &self.life {
+            Life::Runs(run) => Ok(run.after(app, &brought, reply)?),
+            Life::Over(end) => Ok(Advance::Over(*end)),
+            Life::Full(object) => Ok(Advance::Full(*object)),
+        }
+    }
+
+    /// Makes the room that a reply takes.
+    pub fn make_room(&mut self) -> Result<(), NoMemory>
+        ensures stands { (app : App) → process_of app self.new ≡ process_of app self.old }
+        ensures run { (app : App) → IsRunOf app self.old → IsRunOf app self.new }
+        ensures advance { (app : App) (a : Advance) → advanced app self.new a
+            ≡ advanced app self.old a }
+        ensures spans { (app : App) (a : Advance) → IsAdvanceOf app self.old a
+            → IsAdvanceOf app self.new a }
+        ensures clock { clock_of self.new ≡ clock_of self.old }
+        ensures birth { birth_of self.new ≡ birth_of self.old }
+        ensures full { full_of self.new ≡ full_of self.old }
+        ensures room { OnOk result (HasRoom self.new) }
+        ensures err { OnErr result (self.new ≡ self.old) }
+    {
+        match &mut self.life {
+            Life::Runs(run) => run.state.make_room(),
+            _ => Ok(()),
+        }
+    }
+
+    /// Takes over what a reply made of the process, with the stamp of the entry, where there is room. It takes no memory.
+    pub fn take(&mut self, stamp: u64, advance: Advance)
+        requires room { HasRoom self.old }
+        ensures stands { (app : App) → process_of app self.new ≡ advanced app self.old advance }
+        ensures run { (app : App) → IsAdvanceOf app self.old advance → IsRunOf app self.new }
+        ensures clock { clock_of self.new ≡ stamp }
+        ensures birth { birth_of self.new ≡ birth_of self.old }
+        ensures full { full_by advance ≡ full_of self.old → full_of self.new ≡ full_of self.old }
+    {
+        self.clock = stamp;
+        match advance {
+            Advance::Over(end) => self.life = Life::Over(end),
+            Advance::Full(object) => self.life = Life::Full(object),
+            Advance::Goes {
+                cursor,
+                changes,
+                next,
+            } => match &mut self.life {
+                Life::Runs(run) => run.take(cursor, changes, next),
+                Life::Over(_) | Life::Full(_) => {}
+            },
         }
     }
 
@@ -81,7 +165,9 @@ impl Process {
         requires app { CanRun app.now }
         requires run { IsRunOf app.now self.old }
         ensures run { IsRunOf app.now self.new }
-        ensures goes { OnOk result (process_of app.now self.new ≡ branch (process_of app.now self.old) reply.now) }
+        ensures goes { full_of self.old ≡ None
+            → OnOk result (process_of app.now self.new
+            ≡ branch (process_of app.now self.old) reply.now) }
         ensures clock { OnOk result (clock_of self.new ≡ stamp) }
         ensures birth { birth_of self.new ≡ birth_of self.old }
         ensures full { full_of self.new ≡ full_of self.old }
@@ -89,9 +175,9 @@ impl Process {
         ensures foreign { result ≡ Err ProcFault.Foreign → is_foreign app.now reply.now ≡ true }
         ensures refused { OnErr result (self.new ≡ self.old) }
     {
-        let run = self.run.after(app, reply)?;
-        self.run = run;
-        self.clock = stamp;
+        let advance = self.advance(app, reply)?;
+        self.make_room()?;
+        self.take(stamp, advance);
         Ok(())
     }
 
@@ -99,13 +185,12 @@ impl Process {
     pub fn full(&mut self, object: u32)
         requires first { full_of self.old ≡ None }
         requires asks { (app : App) × IsAskedAt object (process_of app self.old) }
-        ensures run { (app : App) → IsRunOf app self.old → IsRunOf app self.new }
+        ensures run { (app : App) → IsRunOf app self.new }
         ensures full { full_of self.new ≡ Some object }
-        ensures stands { (app : App) → process_of app self.new ≡ process_of app self.old }
         ensures clock { clock_of self.new ≡ clock_of self.old }
         ensures birth { birth_of self.new ≡ birth_of self.old }
     {
-        self.full = Some(object);
+        self.life = Life::Full(object);
     }
 
     /// The stamp of its last entry. It takes no memory.
@@ -120,17 +205,5 @@ impl Process {
         ensures { result ≡ birth_of self.now }
     {
         self.birth
-    }
-}
-
-impl Copies for Process {
-    fn copy(&self, alloc: Global) -> Result<Process, NoMemory> {
-        let run = self.run.copy(alloc)?;
-        Ok(Process {
-            birth: self.birth,
-            clock: self.clock,
-            run,
-            full: self.full,
-        })
     }
 }

@@ -1,324 +1,325 @@
-ghost use Rattle.std.specs.Prelude.{◌≡◌, ◌<◌, ◌≤◌, Err, true, false, IfOk, OnOk};
+ghost use Rattle.std.specs.Prelude.{◌≡◌, ◌<◌, Some, None, Err, true, false, IfOk, OnOk, OnErr, Ok};
 ghost use Rattle.anti_app.specs.declared.app.App.{App};
-ghost use Rattle.anti_proc.specs.Brought.{came_first};
-ghost use Rattle.anti_proc.specs.Foreign.{is_foreign, is_foreign_birth, is_foreign_to};
-ghost use Rattle.anti_proc.specs.Meaning.{after_read, after_reply, after_write, begun, process_tree, started};
-ghost use Rattle.anti_app.specs.Objects.{body_of, handler_number, service_at};
 ghost use Rattle.anti_app.specs.Running.{CanRun};
-ghost use Rattle.anti_proc.specs.Running.{HasSpans};
-ghost use Rattle.anti_proc.specs.Standing.{going, local_of, next_or, next_tree, run_of, setting, setting_of};
-ghost use Rattle.anti_proc.specs.Trees.{Ends, branch, end_of, want_of};
+ghost use Rattle.anti_proc.specs.Foreign.{is_foreign};
+ghost use Rattle.anti_proc.specs.Meaning.{after_read, after_reply, after_write, task_tree, wrote};
+ghost use Rattle.anti_proc.specs.Local.{set_or};
+ghost use Rattle.anti_proc.specs.Trees.{branch};
+ghost use Rattle.anti_proc.specs.inner.Running.{AdvanceHasSpans, HasSpans, LifeHasSpans};
+ghost use Rattle.anti_proc.specs.inner.Standing.{full_in, going, life_tree, local_by, local_in, local_of, run_after, run_of, setting, stage_or, stage_tree, variables_in};
+ghost use Rattle.anti_proc.specs.inner.Statements.{came_by};
 
-use crate::calls::want;
-use crate::foreign::{brought, brought_to};
-use crate::given::{Duty, Given};
-use crate::messages::hear;
-use crate::next::{Next, leave, look_of};
-use crate::place::Place;
-use crate::state::State;
+use crate::cursor::Cursor;
+use crate::end::BodyEnd;
+use crate::given::Given;
+use crate::messages::{hear, leave};
+use crate::next::{After, Next, Stage, look_of};
+use crate::state::{Changes, Draft, Since, State, set_or};
 use crate::statements::{Does, run};
-use crate::want::{End, ProcFault, Want};
-use anti_app::{App, body_of, handler_number, service_at};
-use anti_ids::{Copies, Lineage, MOST_DEPTH, MOST_IDS, Name, NoMemory, Value};
-use anti_kind::{Message, Reply};
+use crate::task::Task;
+use crate::variables::{Held, Variable};
+use anti_app::{App, body_of};
+use anti_ids::{Copies, Lineage, Name, NoMemory, WriteId};
+use anti_kind::Reply;
 use std::alloc::Global;
 
 /// A handler between two of its calls: how far it is in its body, what it knows, and its next call.
 #[derive(Drop)]
 pub struct Run {
-    service: usize,
-    handler: usize,
-    given: Given,
+    pub given: Given,
     // behind the statement whose call is next
-    place: Place,
-    state: State,
-    next: Next,
+    pub cursor: Cursor,
+    pub state: State,
+    pub next: Next,
+}
+
+/// A process that goes on, or has ended, and then holds nothing more.
+#[derive(Drop)]
+pub enum Life {
+    Runs(Run),
+    /// It ended by its body.
+    Over(BodyEnd),
+    /// Its next call did not fit on the object of this number.
+    Full(u32),
+}
+
+/// What a reply makes of a process. The process itself is still as it was.
+#[derive(Drop)]
+pub enum Advance {
+    /// It goes on to a further call.
+    Goes {
+        cursor: Cursor,
+        changes: Changes,
+        next: Next,
+    },
+    /// It ended by its body.
+    Over(BodyEnd),
+    /// It had ended, since a call did not fit on the object of this number.
+    Full(u32),
+}
+
+// A handler on its way from one call to the next.
+#[derive(Drop)]
+struct Way<'g, 'o> {
+    given: &'g Given,
+    cursor: Cursor,
+    draft: Draft<'o>,
+}
+
+impl<'g, 'o> Way<'g, 'o> {
+    // Goes on to the next call of the body, past the statements that make none.
+    fn settle(&mut self, app: &App) -> Result<Stage, NoMemory>
+        requires app { CanRun app.now }
+        requires spans { HasSpans app.now self.old.given.now.role self.old.cursor
+            self.old.draft.changes.span }
+        ensures goes { IfOk result (λ stage.
+            stage_tree stage (setting app.now self.old.given.now) (local_in self.new.draft)
+            (going app.now self.old.given.now self.new.cursor)
+            ≡ going app.now self.old.given.now self.old.cursor (local_in self.old.draft)) }
+        ensures spans { OnOk result
+            (HasSpans app.now self.old.given.now.role self.new.cursor self.new.draft.changes.span) }
+        ensures before { self.new.draft.before ≡ self.old.draft.before }
+    {
+        let body = body_of(app, self.given.role.service, self.given.role.handler);
+        while let Some(statement) = self.cursor.next_line(body) {
+            match run(self.given, &mut self.draft, app, statement)? {
+                Does::Stage(stage) => return Ok(stage),
+                Does::On => {}
+                Does::Block(turns) => self.cursor.enter(turns)?,
+            }
+        }
+        leave(self.given, &self.draft, app, true, BodyEnd::Fine)
+    }
+}
+
+// What a process is that begins a task.
+pub fn begun(alloc: Global, app: &App, task: Task) -> Result<Life, NoMemory>
+    requires { CanRun app.now }
+    ensures tree { IfOk result (λ life. life_tree app.now life ≡ task_tree app.now task) }
+    ensures spans { IfOk result (λ life. LifeHasSpans app.now life) }
+    ensures full { IfOk result (λ life. full_in life ≡ None) }
+{
+    let Task {
+        role,
+        input,
+        carried,
+    } = task;
+    let Some(carried) = carried else {
+        return Ok(Life::Over(BodyEnd::LineageFull));
+    };
+    let given = Given { alloc, role, input };
+    let mut state = State::first(alloc, carried);
+    let mut way = Way {
+        given: &given,
+        cursor: Cursor::start(alloc),
+        draft: state.draft(alloc, Since::Same)?,
+    };
+    let stage = way.settle(app)?;
+    let (cursor, changes) = (way.cursor, way.draft.changes);
+    match stage {
+        Stage::Over(end) => Ok(Life::Over(end)),
+        Stage::Asks(next) => {
+            state.make_room()?;
+            state.take(alloc, changes);
+            Ok(Life::Runs(Run {
+                given,
+                cursor,
+                state,
+                next,
+            }))
+        }
+    }
 }
 
 impl Run {
-    // The run of the handler that is given, from its first statement on, which carries what came with its message.
-    fn begun(app: &App, given: Given, carried: Lineage) -> Result<Run, NoMemory>
-        requires { CanRun app.now }
-        ensures tree { IfOk result (λ r. run_of app.now r
-            ≡ begun (body_of app.now (service_at app.now given.inbox) (handler_number app.now (service_at app.now given.inbox) given.handler)) (setting app.now given) carried) }
-        ensures spans { IfOk result (λ r. HasSpans app.now r) }
-        ensures stays { IfOk result (λ r. r.given ≡ given) }
+    // What becomes of the process by some changes and the call or the end that is given, or, where none is, by what its body does then.
+    fn go_on(&self, app: &App, draft: Draft, stage: Option<Stage>) -> Result<Advance, NoMemory>
+        requires app { CanRun app.now }
+        requires spans { HasSpans app.now self.now.given.role self.now.cursor draft.changes.span }
+        requires before { draft.before.now ≡ self.now.state.variables.items }
+        ensures goes { IfOk result (λ a. run_after app.now self.now a
+            ≡ stage_or stage (setting app.now self.now.given) (local_in draft.entry)
+            (going app.now self.now.given self.now.cursor)) }
+        ensures spans { IfOk result (λ a. AdvanceHasSpans app.now (Life.Runs self.now) a) }
     {
-        // as each lineage
-        let short = carried.len() as usize <= MOST_IDS;
-        prove!(short);
-        let service = service_at(app, given.inbox);
-        let handler = handler_number(app, service, &given.handler);
-        let mut run = Run {
-            service,
-            handler,
-            place: Place::start(given.alloc),
-            state: State::first(given.alloc, carried),
-            next: Next::Over(End::Fine),
-            given,
+        let cursor = self.cursor.copy(self.given.alloc)?;
+        let mut way = Way {
+            given: &self.given,
+            cursor,
+            draft,
         };
-        run.settle(app)?;
-        Ok(run)
+        let stage = match stage {
+            Some(stage) => stage,
+            None => way.settle(app)?,
+        };
+        match stage {
+            Stage::Over(end) => Ok(Advance::Over(end)),
+            Stage::Asks(next) => Ok(Advance::Goes {
+                cursor: way.cursor,
+                changes: way.draft.changes,
+                next,
+            }),
+        }
     }
 
-    // The run that a message starts that was taken from the inbox of a service.
-    fn of_message(
-        alloc: Global,
+    // What becomes of it with a write that it made.
+    fn holding_write(
+        &self,
         app: &App,
-        inbox: u32,
-        number: u32,
-        message: &Message,
-    ) -> Result<Run, ProcFault>
-        requires { CanRun app.now }
-        ensures tree { IfOk result (λ r. run_of app.now r ≡ process_tree app.now inbox number message.now) }
-        ensures spans { IfOk result (λ r. HasSpans app.now r) }
-        ensures depth { IfOk result (λ r. r.given.depth ≤ MOST_DEPTH) }
-        ensures known { OnOk result (is_foreign_to app.now inbox message.now ≡ false) }
-        ensures foreign { result ≡ Err ProcFault.Foreign → is_foreign_to app.now inbox message.now ≡ true }
+        id: &WriteId,
+        variable: Option<Name>,
+        untracked: bool,
+    ) -> Result<Advance, NoMemory>
+        requires app { CanRun app.now }
+        requires spans { HasSpans app.now self.now.given.role self.now.cursor self.now.state.span }
+        ensures goes { IfOk result (λ a. run_after app.now self.now a
+            ≡ wrote untracked (Held.Wrote id.now) (set_or variable (Held.Wrote id.now)
+            (local_of self.now.state))
+            (going app.now self.now.given self.now.cursor)) }
+        ensures spans { IfOk result (λ a. AdvanceHasSpans app.now (Life.Runs self.now) a) }
     {
-        let carried = brought_to(alloc, app, inbox, message)?;
-        let given = Given::of(alloc, app, inbox, number, message)?;
-        Ok(Run::begun(app, given, carried)?)
-    }
-
-    // The run that has nothing to do.
-    fn idle(alloc: Global) -> Run
-        ensures tree { (app : App) → run_of app result ≡ Ends End.Fine }
-        ensures spans { (app : App) → CanRun app → HasSpans app result }
-        ensures depth { result.given.depth ≡ 0 }
-    {
-        // it posts nothing, so the name is told to no one
-        let Ok(handler) = Name::new(b"none") else {
-            unreachable!()
+        let since = set_or(variable, Held::Wrote(*id));
+        let mut draft = self.state.draft(self.given.alloc, since)?;
+        let stage = if untracked {
+            None
+        } else {
+            draft.add_write(id)?
         };
-        Run {
-            service: 0,
-            handler: 0,
-            given: Given {
-                alloc,
-                inbox: 0,
-                handler,
-                region: 0,
-                depth: 0,
-                duty: Duty::Free,
-                input: Value::empty(alloc),
-            },
-            place: Place::start(alloc),
-            state: State::first(alloc, Lineage::root(alloc)),
-            next: Next::Over(End::Fine),
-        }
+        self.go_on(app, draft, stage)
     }
 
-    /// The run that the reply to a call on an inbox starts. One that takes no message has nothing to do.
-    pub fn started(alloc: Global, app: &App, inbox: u32, reply: &Reply) -> Result<Run, ProcFault>
-        requires { CanRun app.now }
-        ensures tree { IfOk result (λ r. run_of app.now r ≡ started app.now inbox reply.now) }
-        ensures spans { IfOk result (λ r. HasSpans app.now r) }
-        ensures depth { IfOk result (λ r. r.given.depth ≤ MOST_DEPTH) }
-        ensures known { OnOk result (is_foreign_birth app.now inbox reply.now ≡ false) }
-        ensures foreign { result ≡ Err ProcFault.Foreign → is_foreign_birth app.now inbox reply.now ≡ true }
-    {
-        if let Reply::Got { number, message } = reply {
-            return Run::of_message(alloc, app, inbox, *number, message);
-        }
-        brought(alloc, app, reply)?;
-        Ok(Run::idle(alloc))
-    }
-
-    // Goes on to the next call of the body, past the statements that make none.
-    fn settle(&mut self, app: &App) -> Result<(), NoMemory>
-        requires app { CanRun app.now }
-        requires spans { HasSpans app.now self.old }
-        ensures goes { OnOk result (run_of app.now self.new ≡ going app.now self.old (local_of self.old.state)) }
-        ensures spans { OnOk result (HasSpans app.now self.new) }
-        ensures stays { OnOk result (self.new.given ≡ self.old.given) }
-    {
-        let body = body_of(app, self.service, self.handler);
-        while let Some(statement) = self.place.next_line(body) {
-            match run(&self.given, &mut self.state, app, statement)? {
-                Does::Next(next) => {
-                    self.next = next;
-                    return Ok(());
-                }
-                Does::On => {}
-                Does::Block(turns) => self.place.enter(turns)?,
-            }
-        }
-        self.next = leave(self.given.duty, End::Fine);
-        Ok(())
-    }
-
-    /// The next call, or the end.
-    pub fn next(&self, app: &App) -> Result<Want, NoMemory>
-        requires { self.now.given.depth ≤ MOST_DEPTH }
-        ensures { IfOk result (λ w. w ≡ want_of (run_of app.now self.now)) }
-    {
-        want(&self.given, &self.state, app, &self.next)
-    }
-
-    /// How it ended, where it has no further call. It takes no memory.
-    pub fn ended(&self) -> Option<End>
-        ensures { (app : App) → result ≡ end_of (run_of app self.now) }
-    {
-        match self.next {
-            Next::Over(end) => Some(end),
-            _ => None,
-        }
-    }
-
-    // Takes the next call or the end that is given, or goes on, where none is.
-    fn go_on(&mut self, app: &App, next: Option<Next>) -> Result<(), NoMemory>
-        requires app { CanRun app.now }
-        requires spans { HasSpans app.now self.old }
-        ensures goes { OnOk result (run_of app.now self.new ≡ next_or next (setting_of app.now self.old) (local_of self.old.state) (going app.now self.old)) }
-        ensures spans { OnOk result (HasSpans app.now self.new) }
-        ensures stays { OnOk result (self.new.given ≡ self.old.given) }
-    {
-        match next {
-            Some(next) => {
-                self.next = next;
-                Ok(())
-            }
-            None => self.settle(app),
-        }
-    }
-
-    // Takes the reply to a read of a store, and goes on.
-    fn saw(&mut self, app: &App, store: u32, variable: Name, reply: &Reply) -> Result<(), NoMemory>
-        requires app { CanRun app.now }
-        requires spans { HasSpans app.now self.old }
-        ensures goes { OnOk result (run_of app.now self.new ≡ after_read store variable (local_of self.old.state) (going app.now self.old) reply.now) }
-        ensures spans { OnOk result (HasSpans app.now self.new) }
-        ensures stays { OnOk result (self.new.given ≡ self.old.given) }
-    {
-        self.state.saw(self.given.alloc, store, variable, reply)?;
-        self.settle(app)
-    }
-
-    // Takes the reply to a write of a store, and goes on.
+    // What the reply to a write makes of it.
     fn wrote(
-        &mut self,
+        &self,
         app: &App,
-        store: u32,
         variable: Option<Name>,
         untracked: bool,
         reply: &Reply,
-    ) -> Result<(), NoMemory>
+    ) -> Result<Advance, NoMemory>
         requires app { CanRun app.now }
-        requires spans { HasSpans app.now self.old }
-        ensures goes { OnOk result (run_of app.now self.new ≡ after_write store variable untracked (local_of self.old.state) (going app.now self.old) reply.now) }
-        ensures spans { OnOk result (HasSpans app.now self.new) }
-        ensures stays { OnOk result (self.new.given ≡ self.old.given) }
+        requires spans { HasSpans app.now self.now.given.role self.now.cursor self.now.state.span }
+        ensures goes { IfOk result (λ a. run_after app.now self.now a
+            ≡ after_write self.now.next.object variable untracked (local_of self.now.state)
+            (going app.now self.now.given self.now.cursor) reply.now) }
+        ensures spans { IfOk result (λ a. AdvanceHasSpans app.now (Life.Runs self.now) a) }
     {
-        let next = self.state.wrote(store, variable, untracked, reply)?;
-        self.go_on(app, next)
+        match reply {
+            Reply::Written { key, version } => {
+                let id = WriteId {
+                    store: self.next.object,
+                    key: *key,
+                    version: *version,
+                };
+                self.holding_write(app, &id, variable, untracked)
+            }
+            _ => self.passed(app, None),
+        }
     }
 
-    // Takes the reply to a call of a handler, which brings a lineage, and goes on.
+    // What the reply to a read, a scan or a poll makes of it.
+    fn saw(&self, app: &App, variable: Name, reply: &Reply) -> Result<Advance, NoMemory>
+        requires app { CanRun app.now }
+        requires spans { HasSpans app.now self.now.given.role self.now.cursor self.now.state.span }
+        ensures goes { IfOk result (λ a. run_after app.now self.now a
+            ≡ after_read self.now.next.object variable (local_of self.now.state)
+            (going app.now self.now.given self.now.cursor) reply.now) }
+        ensures spans { IfOk result (λ a. AdvanceHasSpans app.now (Life.Runs self.now) a) }
+    {
+        let alloc = self.given.alloc;
+        let since = match reply {
+            Reply::Shown(rows) => Since::Set(Variable {
+                name: variable,
+                held: Held::Saw {
+                    store: self.next.object,
+                    rows: rows.copy(alloc)?,
+                },
+            }),
+            _ => Since::Same,
+        };
+        let draft = self.state.draft(alloc, since)?;
+        self.go_on(app, draft, None)
+    }
+
+    // What the reply to a call of a handler makes of it, which brings a lineage.
     fn heard(
-        &mut self,
+        &self,
         app: &App,
         variable: Name,
         brought: &Lineage,
         reply: &Reply,
-    ) -> Result<(), NoMemory>
+    ) -> Result<Advance, NoMemory>
         requires app { CanRun app.now }
-        requires spans { HasSpans app.now self.old }
-        requires brought { brought.now ≡ came_first app.now reply.now }
-        ensures goes { OnOk result (run_of app.now self.new ≡ after_reply (setting_of app.now self.old) variable (local_of self.old.state) (going app.now self.old) reply.now) }
-        ensures spans { OnOk result (HasSpans app.now self.new) }
-        ensures stays { OnOk result (self.new.given ≡ self.old.given) }
+        requires spans { HasSpans app.now self.now.given.role self.now.cursor self.now.state.span }
+        requires brought { brought.now ≡ came_by app.now reply.now }
+        ensures goes { IfOk result (λ a. run_after app.now self.now a
+            ≡ after_reply (setting app.now self.now.given) variable (local_of self.now.state)
+            (going app.now self.now.given self.now.cursor) reply.now) }
+        ensures spans { IfOk result (λ a. AdvanceHasSpans app.now (Life.Runs self.now) a) }
     {
         let alloc = self.given.alloc;
-        let next = self.state.heard(alloc, variable, brought, reply)?;
-        self.go_on(app, next)
+        let Reply::Got { message, .. } = reply else {
+            return self.passed(app, None);
+        };
+        let value = message.value.copy(alloc)?;
+        let since = Since::Set(Variable {
+            name: variable,
+            held: Held::Heard(value),
+        });
+        let mut draft = self.state.draft(alloc, since)?;
+        let stage = draft.carry(brought)?;
+        self.go_on(app, draft, stage)
     }
 
-    // Takes the reply to a call, which brings a lineage, and goes on.
-    fn take(
-        &mut self,
-        app: &App,
-        call: &Next,
-        brought: &Lineage,
-        reply: &Reply,
-    ) -> Result<(), NoMemory>
+    // What becomes of it where nothing changes, by the call that is given, or, where none is, by what its body does then.
+    fn passed(&self, app: &App, stage: Option<Stage>) -> Result<Advance, NoMemory>
         requires app { CanRun app.now }
-        requires spans { HasSpans app.now self.old }
-        requires brought { brought.now ≡ came_first app.now reply.now }
-        ensures goes { OnOk result (run_of app.now self.new ≡ branch (next_tree call.now (setting_of app.now self.old) (local_of self.old.state) (going app.now self.old)) reply.now) }
-        ensures spans { OnOk result (HasSpans app.now self.new) }
-        ensures stays { OnOk result (self.new.given ≡ self.old.given) }
+        requires spans { HasSpans app.now self.now.given.role self.now.cursor self.now.state.span }
+        ensures goes { IfOk result (λ a. run_after app.now self.now a
+            ≡ stage_or stage (setting app.now self.now.given) (local_of self.now.state)
+            (going app.now self.now.given self.now.cursor)) }
+        ensures spans { IfOk result (λ a. AdvanceHasSpans app.now (Life.Runs self.now) a) }
     {
-        match call {
-            Next::Write {
-                store,
+        let draft = self.state.draft(self.given.alloc, Since::Same)?;
+        self.go_on(app, draft, stage)
+    }
+
+    /// What the reply to its next call makes of it, which brings a lineage.
+    pub fn after(&self, app: &App, brought: &Lineage, reply: &Reply) -> Result<Advance, NoMemory>
+        requires app { CanRun app.now }
+        requires spans { HasSpans app.now self.now.given.role self.now.cursor self.now.state.span }
+        requires brought { brought.now ≡ came_by app.now reply.now }
+        ensures goes { IfOk result (λ a. run_after app.now self.now a
+            ≡ branch (run_of app.now self.now) reply.now) }
+        ensures spans { IfOk result (λ a. AdvanceHasSpans app.now (Life.Runs self.now) a) }
+    {
+        match &self.next.after {
+            After::Wrote {
                 variable,
                 untracked,
-                ..
-            } => self.wrote(app, *store, *variable, *untracked, reply),
-            Next::Read {
-                store,
-                variable,
-                ..
-            }
-            | Next::Scan {
-                store,
-                variable,
-                ..
-            }
-            | Next::Poll {
-                store,
-                variable,
-                ..
-            } => self.saw(app, *store, *variable, reply),
-            Next::Look { later, dry, .. } => {
+            } => self.wrote(app, *variable, *untracked, reply),
+            After::Saw { variable } => self.saw(app, *variable, reply),
+            After::Looked { later, dry } => {
                 let left = later.copy(self.given.alloc)?;
-                self.go_on(app, look_of(left, *dry))
+                self.passed(app, look_of(left, self.given.role.region, *dry))
             }
-            Next::Post {
-                inbox,
-                variable,
-                ..
-            } => self.go_on(app, hear(*inbox, *variable, reply)),
-            Next::Hear { variable, .. } => self.heard(app, *variable, brought, reply),
-            Next::Answer { end, .. } | Next::Over(end) => {
-                self.next = Next::Over(*end);
-                Ok(())
+            After::Posted { variable } => {
+                self.passed(app, hear(self.next.object, *variable, reply))
             }
+            After::Heard { variable } => self.heard(app, *variable, brought, reply),
+            After::Left(end) => Ok(Advance::Over(*end)),
         }
     }
 
-    /// The run after the reply to its next call. `Foreign` comes exactly where the reply is foreign.
-    pub fn after(&self, app: &App, reply: &Reply) -> Result<Run, ProcFault>
-        requires app { CanRun app.now }
-        requires spans { HasSpans app.now self.now }
-        ensures goes { IfOk result (λ r. run_of app.now r ≡ branch (run_of app.now self.now) reply.now) }
-        ensures spans { IfOk result (λ r. HasSpans app.now r) }
-        ensures stays { IfOk result (λ r. r.given ≡ self.now.given) }
-        ensures known { OnOk result (is_foreign app.now reply.now ≡ false) }
-        ensures foreign { result ≡ Err ProcFault.Foreign → is_foreign app.now reply.now ≡ true }
+    /// Takes over what a reply made of it, where there is room for one variable more. It takes no memory.
+    pub fn take(&mut self, cursor: Cursor, changes: Changes, next: Next)
+        requires { 0 < self.old.state.variables.spare }
+        ensures tree { (app : App) → run_of app self.new
+            ≡ run_after app self.old (Advance.Goes cursor changes next) }
+        ensures spans { (app : App) → HasSpans app self.old.given.role cursor changes.span
+            → LifeHasSpans app (Life.Runs self.new) }
     {
-        let alloc = self.given.alloc;
-        let brought = brought(alloc, app, reply)?;
-        let mut run = self.copy(alloc)?;
-        run.take(app, &self.next, &brought, reply)?;
-        Ok(run)
-    }
-}
-
-impl Copies for Run {
-    fn copy(&self, alloc: Global) -> Result<Run, NoMemory> {
-        let given = self.given.copy(alloc)?;
-        let place = self.place.copy(alloc)?;
-        let state = self.state.copy(alloc)?;
-        let next = self.next.copy(alloc)?;
-        Ok(Run {
-            service: self.service,
-            handler: self.handler,
-            given,
-            place,
-            state,
-            next,
-        })
+        self.cursor = cursor;
+        self.state.take(self.given.alloc, changes);
+        self.next = next;
     }
 }

@@ -1,10 +1,9 @@
-ghost use Rattle.std.specs.Prelude.{◌≡◌, OnOk, option_map};
+ghost use Rattle.std.specs.Prelude.{◌≡◌, ◌<◌, option_map};
 ghost use Rattle.anti_proc.specs.Local.{held_in, with_held};
-ghost use Rattle.anti_proc.specs.Variables.{place_among};
+ghost use Rattle.anti_proc.specs.inner.Variables.{place_among};
 
-use anti_ids::{Copies, List, Name, NoMemory, Value, WriteId};
+use anti_ids::{List, Name, Value, WriteId};
 use anti_kind::Rows;
-use std::alloc::Global;
 
 /// What a variable of a handler holds.
 #[derive(Drop)]
@@ -27,35 +26,6 @@ pub struct Variable {
 /// The variables that are set, each once.
 pub type Variables = List<Variable>;
 
-impl Copies for Held {
-    fn copy(&self, alloc: Global) -> Result<Held, NoMemory> {
-        match self {
-            Held::Wrote(id) => Ok(Held::Wrote(*id)),
-            Held::Saw { store, rows } => {
-                let rows = rows.copy(alloc)?;
-                Ok(Held::Saw {
-                    store: *store,
-                    rows,
-                })
-            }
-            Held::Heard(value) => {
-                let value = value.copy(alloc)?;
-                Ok(Held::Heard(value))
-            }
-        }
-    }
-}
-
-impl Copies for Variable {
-    fn copy(&self, alloc: Global) -> Result<Variable, NoMemory> {
-        let held = self.held.copy(alloc)?;
-        Ok(Variable {
-            name: self.name,
-            held,
-        })
-    }
-}
-
 // The place of the variable with a name among these, or how many they are.
 fn place_among(variables: &[Variable], name: &Name) -> usize
     ensures { result ≡ place_among variables.now name.now }
@@ -68,7 +38,7 @@ fn place_among(variables: &[Variable], name: &Name) -> usize
     variables.len()
 }
 
-// What a variable holds, where it is set.
+/// What a variable holds, where it is set.
 pub fn held_in<'a>(variables: &'a [Variable], name: &Name) -> Option<&'a Held>
     ensures { option_map (λ held. held.now) result ≡ held_in variables.now name.now }
 {
@@ -80,18 +50,16 @@ pub fn held_in<'a>(variables: &'a [Variable], name: &Name) -> Option<&'a Held>
     None
 }
 
-// Sets a variable.
+/// Sets a variable, where there is room for one more. It takes no memory.
 #[tactic(auto, using(crate::proofs::Setting::set_there, crate::proofs::Setting::set_new, crate::proofs::Setting::place_within))]
-pub fn set(variables: &mut Variables, name: Name, held: Held) -> Result<(), NoMemory>
-    ensures { OnOk result (variables.new.items ≡ with_held name held variables.old.items) }
+pub fn set(variables: &mut Variables, variable: Variable)
+    requires { 0 < variables.old.spare }
+    ensures { variables.new.items ≡ with_held variable.name variable.held variables.old.items }
 {
-    let place = place_among(variables.as_slice(), &name);
-    let variable = Variable { name, held };
+    let place = place_among(variables.as_slice(), &variable.name);
     if place < variables.len() {
         variables.set(place, variable);
-        return Ok(());
+    } else {
+        variables.put(variable);
     }
-    variables.reserve(1)?;
-    variables.put(variable);
-    Ok(())
 }

@@ -2,9 +2,11 @@ ghost use Rattle.std.specs.Prelude.{◌≡◌, IfOk};
 ghost use Rattle.std.specs.Fmt.{decimal};
 ghost use Rattle.anti_lang.specs.Texts.{plain_name};
 ghost use Rattle.anti_proc.specs.Local.{any_name, held_in, held_text, key_of, text_in, text_of};
+ghost use Rattle.anti_proc.specs.inner.Standing.{local_in};
 
 use crate::given::Given;
-use crate::variables::{Held, Variables, held_in};
+use crate::state::Draft;
+use crate::variables::Held;
 use anti_ids::{Copies, Name, NoMemory, Value, ValueFault};
 use anti_lang::{KeyWord, ValueWord, plain_name};
 use std::alloc::Global;
@@ -37,22 +39,23 @@ fn held_text(alloc: Global, held: &Held) -> Result<Value, NoMemory>
 }
 
 // What `$X` stands for.
-fn text_of_variable(alloc: Global, variables: &Variables, name: &Name) -> Result<Value, NoMemory>
-    ensures { IfOk result (λ v. v ≡ held_text (held_in variables.now.items name.now)) }
+fn text_of_variable(alloc: Global, draft: &Draft, name: &Name) -> Result<Value, NoMemory>
+    ensures { IfOk result (λ v. v ≡ held_text (held_in (local_in draft.now).variables name.now)) }
 {
-    match held_in(variables.as_slice(), name) {
+    match draft.held(name) {
         Some(held) => held_text(alloc, held),
         None => Ok(Value::empty(alloc)),
     }
 }
 
 /// The text of the word of a value, by what the process was given and its variables.
-pub fn text_of(given: &Given, variables: &Variables, word: &ValueWord) -> Result<Value, NoMemory>
-    ensures { IfOk result (λ v. v ≡ text_of given.now.input variables.now.items word.now) }
+pub fn text_of(given: &Given, draft: &Draft, word: &ValueWord) -> Result<Value, NoMemory>
+    ensures { IfOk result (λ v. v
+        ≡ text_of given.now.input (local_in draft.now).variables word.now) }
 {
     match word {
         ValueWord::Input => given.input.copy(given.alloc),
-        ValueWord::Of(name) => text_of_variable(given.alloc, variables, name),
+        ValueWord::Of(name) => text_of_variable(given.alloc, draft, name),
         ValueWord::Literal(value) => value.copy(given.alloc),
     }
 }
@@ -68,17 +71,14 @@ fn any_name(text: &[u8]) -> Option<Name>
 }
 
 /// The key of a word, where it is a plain name.
-pub fn plain_key(
-    given: &Given,
-    variables: &Variables,
-    word: &KeyWord,
-) -> Result<Option<Name>, NoMemory>
-    ensures { IfOk result (λ key. key ≡ key_of plain_name given.now.input variables.now.items word.now) }
+pub fn plain_key(given: &Given, draft: &Draft, word: &KeyWord) -> Result<Option<Name>, NoMemory>
+    ensures { IfOk result (λ key. key
+        ≡ key_of plain_name given.now.input (local_in draft.now).variables word.now) }
 {
     match word {
         KeyWord::Input => Ok(plain_name(given.input.bytes())),
         KeyWord::Of(name) => {
-            let text = text_of_variable(given.alloc, variables, name)?;
+            let text = text_of_variable(given.alloc, draft, name)?;
             Ok(plain_name(text.bytes()))
         }
         KeyWord::Plain(key) => Ok(plain_name(key.bytes())),
@@ -86,17 +86,14 @@ pub fn plain_key(
 }
 
 /// The key of a word, where it is a name, as a poll wants it.
-pub fn cell_key(
-    given: &Given,
-    variables: &Variables,
-    word: &KeyWord,
-) -> Result<Option<Name>, NoMemory>
-    ensures { IfOk result (λ key. key ≡ key_of any_name given.now.input variables.now.items word.now) }
+pub fn cell_key(given: &Given, draft: &Draft, word: &KeyWord) -> Result<Option<Name>, NoMemory>
+    ensures { IfOk result (λ key. key
+        ≡ key_of any_name given.now.input (local_in draft.now).variables word.now) }
 {
     match word {
         KeyWord::Input => Ok(any_name(given.input.bytes())),
         KeyWord::Of(name) => {
-            let text = text_of_variable(given.alloc, variables, name)?;
+            let text = text_of_variable(given.alloc, draft, name)?;
             Ok(any_name(text.bytes()))
         }
         KeyWord::Plain(key) => Ok(any_name(key.bytes())),

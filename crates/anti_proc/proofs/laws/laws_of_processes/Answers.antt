@@ -1,11 +1,9 @@
 use Rattle.std.proofs.Common.{true, false}
 use Rattle.anti_proc.proofs.Looking.{asks_for, goes_over, looks_once_at}
-use Rattle.anti_proc.proofs.ProcessCalls.{tree_made}
 use Rattle.anti_proc.proofs.laws.laws_of_processes.Goals as goal
 
 pub returns : goal.returns
 returns c = record {
-  calls = tree_made;
   barrier = λ s l. goes_over s l false;
   dry_run = λ s l. goes_over s l true;
   once = looks_once_at;

@@ -1,5 +1,5 @@
 use Rattle.std.proofs.Common.{◌≡◌, ◌+◌, drop}
-use Rattle.anti_proc.specs.Variables.{place_among}
+use Rattle.anti_proc.specs.inner.Variables.{place_among}
 use Rattle.anti_proc.proofs.variables.place_among.Given as goal
 
 -- none of those before has the name

@@ -1,0 +1,208 @@
+-- What a process of the program stands for.
+use Rattle.std.specs.Prelude.{ℕ, ◌*◌, ◌<◌, Option, Some, None, List, [], reverse}
+use Rattle.anti_kind.specs.declared.actor.Birth.{Birth}
+use Rattle.anti_lang.specs.Bodies.{list_of, block_from}
+use Rattle.anti_lang.specs.Program.{Block, Step}
+use Rattle.anti_lang.specs.Spans.{spans_of}
+use Rattle.anti_shim.specs.declared.looks.PlannedLook.{PlannedLook}
+use Rattle.anti_kind.specs.declared.call.Reply.{Reply}
+use Rattle.anti_app.specs.declared.app.App.{App}
+use Rattle.anti_app.specs.Objects.{body_of}
+use Rattle.anti_proc.specs.declared.cursor.Cursor.{Cursor}
+use Rattle.anti_proc.specs.declared.end.BodyEnd.TheVariants.{Fine}
+use Rattle.anti_proc.specs.declared.given.Given.{Given}
+use Rattle.anti_proc.specs.declared.next.After.{After}
+use Rattle.anti_proc.specs.declared.next.After.TheVariants as afters
+use Rattle.anti_proc.specs.declared.next.Next.{Next}
+use Rattle.anti_proc.specs.declared.next.Stage.{Stage}
+use Rattle.anti_proc.specs.declared.next.Stage.TheVariants as stages
+use Rattle.anti_proc.specs.declared.process.Process.{Process}
+use Rattle.anti_proc.specs.declared.run.Advance.{Advance}
+use Rattle.anti_proc.specs.declared.run.Advance.TheVariants as advances
+use Rattle.anti_proc.specs.declared.run.Life.{Life}
+use Rattle.anti_proc.specs.declared.run.Life.TheVariants as lives
+use Rattle.anti_proc.specs.declared.run.Run.{Run}
+use Rattle.anti_proc.specs.declared.state.Changes.{Changes}
+use Rattle.anti_proc.specs.declared.state.Draft.{Draft}
+use Rattle.anti_proc.specs.declared.state.Since.{Since}
+use Rattle.anti_proc.specs.declared.state.Since.TheVariants as sinces
+use Rattle.anti_proc.specs.declared.state.State.{State}
+use Rattle.anti_proc.specs.declared.statements.Does.{Does}
+use Rattle.anti_proc.specs.declared.statements.Does.TheVariants as does
+use Rattle.anti_proc.specs.declared.task.Role.{Role}
+use Rattle.anti_proc.specs.declared.variables.Variable.{Variable}
+use Rattle.anti_proc.specs.Local.{Setting, Local, with_held}
+use Rattle.anti_proc.specs.Meaning.{Go, after_post, after_read, after_reply, after_write, block_tree, body_tree, looks, turns}
+use Rattle.anti_proc.specs.inner.Cursors.{block_weight, left_at}
+use Rattle.anti_proc.specs.Trees.{Ask, Tree, Asks, Ends}
+
+-- ---- what it knows
+
+abbrev pub setting : App → Given → Setting
+setting app given = record {
+  app = app;
+  region = given.role.region;
+  depth = given.role.depth;
+  duty = given.role.duty;
+  input = given.input;
+}
+
+abbrev pub local_of : State → Local
+local_of s = record {
+  span = s.span;
+  stopped = s.stopped;
+  carried = s.carried;
+  variables = s.variables.items;
+  reply = s.reply;
+}
+
+-- the variables, by what became of those that there were
+abbrev pub variables_in : Since → List Variable → List Variable
+variables_in sinces.Same before = before
+variables_in (sinces.Set v) before = with_held v.name v.held before
+variables_in sinces.Forgotten before = []
+
+-- what is known after some changes, by the variables that there were
+abbrev pub local_by : Changes → List Variable → Local
+local_by c before = record {
+  span = c.span;
+  stopped = c.stopped;
+  carried = c.carried;
+  variables = variables_in c.since before;
+  reply = c.reply;
+}
+
+abbrev pub local_in : Draft → Local
+local_in d = local_by d.changes d.before.now
+
+-- ---- what is left of its body
+
+-- the statements of the body of a handler
+abbrev pub body_in : App → Role → List Step
+body_in app role = list_of (body_of app role.service role.handler)
+
+-- the statements that are left to run
+abbrev pub left_to_run : App → Role → Cursor → List Step
+left_to_run app role cursor = left_at (body_in app role) cursor
+
+-- what they do
+abbrev pub going : App → Given → Cursor → Go
+going app given cursor l = body_tree (block_from (left_to_run app given.role cursor)) (setting app given) l
+
+-- ---- what is next
+
+-- what follows on the reply to a call at an object
+abbrev pub after_tree : After → ℕ → Setting → Local → Go → Reply → Tree
+after_tree (afters.Wrote variable untracked) o s l go reply = after_write o variable untracked l go reply
+after_tree (afters.Saw variable) o s l go reply = after_read o variable l go reply
+after_tree (afters.Looked later dry) o s l go reply = looks s.region dry (reverse later.items) l go
+after_tree (afters.Posted variable) o s l go reply = after_post o variable s l go reply
+after_tree (afters.Heard variable) o s l go reply = after_reply s variable l go reply
+after_tree (afters.Left end) o s l go reply = Ends end
+
+-- the looks of the same barrier that come after it
+abbrev pub left_of : After → Option (List PlannedLook)
+left_of (afters.Looked later dry) = Some (reverse later.items)
+left_of _ = None
+
+abbrev pub ask_by : Next → Local → Ask
+ask_by n l =
+    record { object = n.object; span = l.span; call = n.call; carried = l.carried; left = left_of n.after }
+
+abbrev pub next_tree : Next → Setting → Local → Go → Tree
+next_tree n s l go = Asks (ask_by n l) (after_tree n.after n.object s l go)
+
+-- the next call and what follows it, or the end
+abbrev pub stage_tree : Stage → Setting → Local → Go → Tree
+stage_tree (stages.Asks n) s l go = next_tree n s l go
+stage_tree (stages.Over end) s l go = Ends end
+
+-- the same, where there may be none of both before what follows
+abbrev pub stage_or : Option Stage → Setting → Local → Go → Tree
+stage_or (Some stage) s l go = stage_tree stage s l go
+stage_or None s l go = go l
+
+-- what a statement comes to, with the block that it opens, and what follows it
+abbrev pub does_tree : Does → Block → Setting → Local → Go → Tree
+does_tree (does.Stage stage) block s l go = stage_tree stage s l go
+does_tree does.On block s l go = go l
+does_tree (does.Block count) block s l go = turns count (block_tree block s) l go
+
+-- how many spans are begun in what it comes to, and how much is run there
+abbrev pub spans_done : Does → Block → ℕ
+spans_done (does.Stage stage) block = 0
+spans_done does.On block = 0
+spans_done (does.Block count) block = count * spans_of block
+
+abbrev pub weight_done : Does → Block → ℕ
+weight_done (does.Stage stage) block = 0
+weight_done does.On block = 0
+weight_done (does.Block count) block = count * block_weight block
+
+-- a call that is next, or the end, or neither
+abbrev pub does_or : Option Stage → Does
+does_or (Some stage) = does.Stage stage
+does_or None = does.On
+
+-- ---- the process
+
+-- everything that a handler may still do
+abbrev pub run_of : App → Run → Tree
+run_of app r = next_tree r.next (setting app r.given) (local_of r.state) (going app r.given r.cursor)
+
+abbrev pub life_tree : App → Life → Tree
+life_tree app (lives.Runs r) = run_of app r
+life_tree app (lives.Over end) = Ends end
+life_tree app (lives.Full object) = Ends Fine
+
+-- Everything that the process may still do, where it was not ended by a call that did not fit.
+abbrev pub process_of : App → Process → Tree
+process_of app p = life_tree app p.life
+
+-- the object on which its next call did not fit, where it ended so
+abbrev pub full_in : Life → Option ℕ
+full_in (lives.Full object) = Some object
+full_in _ = None
+
+abbrev pub full_of : Process → Option ℕ
+full_of p = full_in p.life
+
+-- the stamp of its last entry
+abbrev pub clock_of : Process → ℕ
+clock_of p = p.clock
+
+-- the entry that started it
+abbrev pub birth_of : Process → Birth
+birth_of p = p.birth
+
+-- ---- one reply more
+
+-- everything that a handler may do after a reply was taken in
+abbrev pub run_after : App → Run → Advance → Tree
+run_after app r (advances.Goes cursor changes next) =
+    next_tree next (setting app r.given) (local_by changes r.state.variables.items) (going app r.given cursor)
+run_after app r (advances.Over end) = Ends end
+run_after app r (advances.Full object) = Ends Fine
+
+-- the same of a process; one that has ended stays as it is
+abbrev pub life_after : App → Life → Advance → Tree
+life_after app (lives.Runs r) a = run_after app r a
+life_after app life (advances.Over end) = Ends end
+life_after app life (advances.Full object) = Ends Fine
+life_after app life (advances.Goes cursor changes next) = life_tree app life
+
+abbrev pub advanced : App → Process → Advance → Tree
+advanced app p a = life_after app p.life a
+
+-- the object on which its next call did not fit
+abbrev pub full_by : Advance → Option ℕ
+full_by (advances.Full object) = Some object
+full_by _ = None
+
+-- there is room for one variable more
+abbrev pub has_room : Life → Type 0
+has_room (lives.Runs r) = 0 < r.state.variables.spare
+has_room _ = Unit {0}
+
+abbrev pub HasRoom : Process → Type 0
+HasRoom p = has_room p.life
