@@ -19,15 +19,13 @@ use Rattle.anti_kind.proofs.Histories.{last_is}
 use Rattle.anti_app.specs.declared.app.App.{App}
 use Rattle.anti_trace.specs.Traces.{entries_on, entries_by, same_actor, put}
 use Rattle.anti_trace.proofs.Puts.{same_actor_true, same_actor_itself}
-use Rattle.anti_proc.specs.Running.{IsRunOf}
+use Rattle.anti_proc.specs.inner.Running.{IsRunOf}
 use Rattle.anti_proc.specs.declared.process.Process.{Process}
-use Rattle.anti_proc.specs.declared.want.Want.{Want}
-use Rattle.anti_proc.specs.declared.want.Want.TheVariants.{Make, Over}
-use Rattle.anti_proc.specs.Trees.{Tree, branch, want_of}
+use Rattle.anti_proc.specs.Trees.{Tree, Want, Make, Over, branch, want_of}
 use Rattle.anti_proc.specs.Meaning.{tree_of, process_after}
-use Rattle.anti_proc.specs.Standing.{process_of, birth_of, clock_of, full_of}
+use Rattle.anti_proc.specs.inner.Standing.{process_of, birth_of, clock_of, full_of}
 use Rattle.anti_proc.proofs.Runs.{process_after_more}
-use Rattle.anti_ids.specs.List.{Listed}
+use Rattle.anti_play.specs.declared.processes.Processes.{Processes}
 use Rattle.anti_play.specs.Runs.{GoesOn}
 use Rattle.anti_play.specs.inner.Standing.{is_named, WasFull, IsEnded, Lives, LivesOn, AllLive, born_at, Changes}
 use Rattle.anti_play.proofs.RunMore.{decide}
@@ -107,7 +105,7 @@ module _ {X : Type 0} (p : X → Bool) where
 abbrev pub LiveAt : App → ℕ → List Process → List Entry → Type 0
 LiveAt app o ps trace = (c : Birth) → c.object ≡ o → Lives app trace ps (position (is_named c) ps) (entries_by (Acting c) trace)
 
-pub live_here : (app : App) (ps : List (Listed Process)) (trace : List Entry) → AllLive app ps trace → (o : ℕ) → LiveAt app o (born_at ps o) trace
+pub live_here : (app : App) (ps : List Processes) (trace : List Entry) → AllLive app ps trace → (o : ℕ) → LiveAt app o (born_at ps o) trace
 live_here app ps trace live o c at = subst (λ (k : ℕ). Lives app trace (born_at ps k) (position (is_named c) (born_at ps k)) (entries_by (Acting c) trace)) at (live c)
 
 pub same_birth : (b c : Birth) → (c ≡ b) ⊎ (same_actor (Acting c) (Acting b) ≡ false)
@@ -232,7 +230,7 @@ module _ (app : App) (trace after : List Entry) (goes : GoesOn trace after) wher
           ]
 
   -- the processes of all objects, where those of one have changed
-  pub live_with : (ps ns : List (Listed Process)) (here : List Process) (b : Birth) → AllLive app ps trace → Changes ps ns b.object here
+  pub live_with : (ps ns : List Processes) (here : List Process) (b : Birth) → AllLive app ps trace → Changes ps ns b.object here
       → ((c : Birth) → same_actor (Acting c) (Acting b) ≡ false → entries_by (Acting c) after ≡ entries_by (Acting c) trace)
       → LiveAt app b.object here after → AllLive app ns after
   live_with ps ns here b live changes others at c =
@@ -261,7 +259,7 @@ not_ended app trace o want none = subst (λ (x : Option ℕ). IfSome x (IsEnded 
 
 -- ---- with one entry more, after the last of its object and of its actor
 
-module _ (app : App) (ps : List (Listed Process)) (trace : List Entry) (live : AllLive app ps trace) (e : Entry) (goes : GoesOn trace (put e trace))
+module _ (app : App) (ps : List Processes) (trace : List Entry) (live : AllLive app ps trace) (e : Entry) (goes : GoesOn trace (put e trace))
     (own : entries_by e.actor (put e trace) ≡ entries_by e.actor trace ++ e ∷ [])
     (others : (a : Actor) → (e.actor ≡ a → ⊥) → entries_by a (put e trace) ≡ entries_by a trace) where
   -- a carrier's entry is none of a process
@@ -291,12 +289,12 @@ module _ (app : App) (ps : List (Listed Process)) (trace : List Entry) (live : A
         later = [];
         entries_are = refl;
         run = runs;
-        tree = tree;
+        tree = λ none. tree;
         clock = clock ∙ (let one : e.stamp ≡ last_stamp (e ∷ []) = omega arith in one);
         full = not_ended app (put e trace) (full_of p) (want_of (process_after app (e ∷ []))) going;
       })
 
-      pub live_born : (ns : List (Listed Process)) → Changes ps ns b.object (born_at ps b.object ++ p ∷ []) → AllLive app ns (put e trace)
+      pub live_born : (ns : List Processes) → Changes ps ns b.object (born_at ps b.object ++ p ∷ []) → AllLive app ns (put e trace)
       live_born ns changes =
           live_with app trace (put e trace) goes ps ns (born_at ps b.object ++ p ∷ []) b live changes other_births
           (live_pushed app trace (put e trace) goes (born_at ps b.object) b (live_at b.object) other_births p named
@@ -306,6 +304,7 @@ module _ (app : App) (ps : List (Listed Process)) (trace : List Entry) (live : A
     module _ (p : Process) (i : ℕ) (found : position (is_named b) (born_at ps b.object) ≡ Some i)
         (named : (d : Process) → birth_of p ≡ birth_of (get_or (born_at ps b.object) i d))
         (tree : (d : Process) → process_of app p ≡ branch (process_of app (get_or (born_at ps b.object) i d)) e.reply) (clock : clock_of p ≡ e.stamp) (going : full_of p ≡ None)
+        (went : (d : Process) → full_of (get_or (born_at ps b.object) i d) ≡ None)
         (last : All (λ d. d.stamp < e.stamp) (entries_by (Acting b) trace)) (runs : IsRunOf app p) where
       old : LivesOn app trace (get_or (born_at ps b.object) i p) (entries_by (Acting b) trace)
       old = (subst (λ (o : Option ℕ). Lives app trace (born_at ps b.object) o (entries_by (Acting b) trace)) found (live b)) p
@@ -319,15 +318,15 @@ module _ (app : App) (ps : List (Listed Process)) (trace : List Entry) (live : A
         later = old.later ++ e ∷ [];
         entries_are = entries_then;
         run = runs;
-        tree = tree p
-            ∙ ap (λ (x : Tree). branch x e.reply) (old.tree ∙ ap (λ (x : List Entry). process_after app x) old.entries_are)
+        tree = λ none. tree p
+            ∙ ap (λ (x : Tree). branch x e.reply) (old.tree (went p) ∙ ap (λ (x : List Entry). process_after app x) old.entries_are)
             ∙ sym (process_after_more app old.birth old.later e)
             ∙ sym (ap (λ (x : List Entry). process_after app x) entries_then);
         clock = clock ∙ sym (last_is (entries_by (Acting b) trace) e last) ∙ sym (ap (λ (x : List Entry). last_stamp x) own_entries);
         full = not_ended app (put e trace) (full_of p) (want_of (process_after app (entries_by (Acting b) (put e trace)))) going;
       }
 
-      pub live_went : (ns : List (Listed Process)) → Changes ps ns b.object (slice_set (born_at ps b.object) i p) → AllLive app ns (put e trace)
+      pub live_went : (ns : List Processes) → Changes ps ns b.object (slice_set (born_at ps b.object) i p) → AllLive app ns (put e trace)
       live_went ns changes =
           live_with app trace (put e trace) goes ps ns (slice_set (born_at ps b.object) i p) b live changes other_births
           (live_set app trace (put e trace) goes (born_at ps b.object) b (live_at b.object) other_births p i found named on_then)

@@ -6,7 +6,6 @@ use Rattle.std.proofs.lemmas.Bool.{and_parts}
 use Rattle.std.proofs.lemmas.List.Elements.{filter-append}
 use Rattle.std.proofs.lemmas.List.{map-append}
 use Rattle.std.proofs.Math.Seq.{map-set_same}
-use Rattle.anti_ids.specs.List.{Listed}
 use Rattle.anti_kind.specs.declared.actor.Actor.{Actor}
 use Rattle.anti_kind.specs.declared.actor.Actor.TheVariants.{Carrier, Process as Acting, Newborn}
 use Rattle.anti_kind.specs.declared.actor.Birth.{Birth}
@@ -15,8 +14,9 @@ use Rattle.anti_app.specs.declared.app.App.{App}
 use Rattle.anti_trace.specs.Traces.{entries_on}
 use Rattle.anti_proc.specs.declared.process.Process.{Process}
 use Rattle.anti_proc.specs.Births.{birth_at, births, is_birth, is_started_by}
-use Rattle.anti_proc.specs.Standing.{birth_of}
-use Rattle.anti_play.specs.inner.Standing.{born_at, AreBorn, Changes, Grows}
+use Rattle.anti_proc.specs.inner.Standing.{birth_of}
+use Rattle.anti_play.specs.declared.processes.Processes.{Processes}
+use Rattle.anti_play.specs.inner.Standing.{born_at, AreBorn, Changes, SameBorn, Grows}
 use Rattle.anti_play.proofs.RunMore.{decide}
 
 -- ---- which entries are births
@@ -50,22 +50,10 @@ births_more h e b is = filter-append is_birth h (e ∷ []) ∙ ap (λ (x : Bool)
 
 -- ---- the processes of all objects
 
-pub changes_then : (ps ms ns : List (Listed Process)) (o : ℕ) (here : List Process) → Changes ps ms o (born_at ps o) → Changes ms ns o here → Changes ps ns o here
-changes_then ps ms ns o here one two = record {
-  count = two.count ∙ one.count;
-  here_are = two.here_are;
-  others = λ k other. two.others k other ∙ one.others k other;
-}
+pub same_itself : (ps ns : List Processes) → ns ≡ ps → SameBorn ps ns
+same_itself ps ns is = record { count = ap length is; same = λ o. ap (λ (xs : List Processes). born_at xs o) is }
 
--- the same processes, in lists that may have more room
-pub record SameBorn (ps ns : List (Listed Process)) : Type 0 where
-  pub count : length ns ≡ length ps
-  pub same : (o : ℕ) → born_at ns o ≡ born_at ps o
-
-pub same_itself : (ps ns : List (Listed Process)) → ns ≡ ps → SameBorn ps ns
-same_itself ps ns is = record { count = ap length is; same = λ o. ap (λ (xs : List (Listed Process)). born_at xs o) is }
-
-pub same_changed : (ps ns : List (Listed Process)) (o : ℕ) → Changes ps ns o (born_at ps o) → SameBorn ps ns
+pub same_changed : (ps ns : List Processes) (o : ℕ) → Changes ps ns o (born_at ps o) → SameBorn ps ns
 same_changed ps ns o changes = record {
   count = changes.count;
   same = λ k. elim (decide o k) as (λ _. born_at ns k ≡ born_at ps k) [
@@ -76,8 +64,8 @@ same_changed ps ns o changes = record {
 
 -- ---- as the trace grows
 
-module _ (app : App) (ps : List (Listed Process)) (trace after : List Entry) (e : Entry) (born : AreBorn ps trace) (grows : Grows app trace after e) where
-  born_others : (ns : List (Listed Process)) → (o : ℕ) → (e.object ≡ o → ⊥) → born_at ns o ≡ born_at ps o → map birth_of (born_at ns o) ≡ map birth_at (births (entries_on o after))
+module _ (app : App) (ps : List Processes) (trace after : List Entry) (e : Entry) (born : AreBorn ps trace) (grows : Grows app trace after e) where
+  born_others : (ns : List Processes) → (o : ℕ) → (e.object ≡ o → ⊥) → born_at ns o ≡ born_at ps o → map birth_of (born_at ns o) ≡ map birth_at (births (entries_on o after))
   born_others ns o other same =
       ap (λ (xs : List Process). map birth_of xs) same ∙ born o ∙ sym (ap (λ (h : List Entry). map birth_at (births h)) (grows.others o other))
 
@@ -85,7 +73,7 @@ module _ (app : App) (ps : List (Listed Process)) (trace after : List Entry) (e 
   born_here b is = ap (λ (h : List Entry). births h) grows.here ∙ births_more (entries_on e.object trace) e b is
 
   -- the entry is no birth
-  pub born_kept : (ns : List (Listed Process)) → is_birth e ≡ false → ((o : ℕ) → map birth_of (born_at ns o) ≡ map birth_of (born_at ps o)) → AreBorn ns after
+  pub born_kept : (ns : List Processes) → is_birth e ≡ false → ((o : ℕ) → map birth_of (born_at ns o) ≡ map birth_of (born_at ps o)) → AreBorn ns after
   born_kept ns is same o =
       elim (decide e.object o) as (λ _. map birth_of (born_at ns o) ≡ map birth_at (births (entries_on o after))) [
         | inl here ↦ subst (λ (k : ℕ). map birth_of (born_at ns k) ≡ map birth_at (births (entries_on k after))) here
@@ -95,7 +83,7 @@ module _ (app : App) (ps : List (Listed Process)) (trace after : List Entry) (e 
       ]
 
   -- it is one
-  pub born_more : (ns : List (Listed Process)) (p : Process) → is_birth e ≡ true → birth_of p ≡ birth_at e
+  pub born_more : (ns : List Processes) (p : Process) → is_birth e ≡ true → birth_of p ≡ birth_at e
       → Changes ps ns e.object (born_at ps e.object ++ p ∷ []) → AreBorn ns after
   born_more ns p is named changes o =
       elim (decide e.object o) as (λ _. map birth_of (born_at ns o) ≡ map birth_at (births (entries_on o after))) [
@@ -110,7 +98,7 @@ module _ (app : App) (ps : List (Listed Process)) (trace after : List Entry) (e 
       ]
 
 -- a process in place of one of the same birth
-pub births_set : (ps ns : List (Listed Process)) (b : Birth) (i : ℕ) (p : Process) → Changes ps ns b.object (slice_set (born_at ps b.object) i p)
+pub births_set : (ps ns : List Processes) (b : Birth) (i : ℕ) (p : Process) → Changes ps ns b.object (slice_set (born_at ps b.object) i p)
     → ((d : Process) → birth_of p ≡ birth_of (get_or (born_at ps b.object) i d)) → (o : ℕ) → map birth_of (born_at ns o) ≡ map birth_of (born_at ps o)
 births_set ps ns b i p changes named o =
     elim (decide b.object o) as (λ _. map birth_of (born_at ns o) ≡ map birth_of (born_at ps o)) [

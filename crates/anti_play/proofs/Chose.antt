@@ -1,7 +1,6 @@
 -- What a choice made of a world.
 use Rattle.std.proofs.Common.{◌≡◌, ℕ, ◌+◌, ◌<◌, ◌++◌, List, [], ◌∷◌, Bool, true, false, length, map, refl, sym, ap, ◌∙◌, subst, arith}
 use Rattle.std.specs.Prelude.{All, Option, None, Some, Result, Ok, Err, IsErr, IsTrue, position}
-use Rattle.anti_ids.specs.List.{Listed}
 use Rattle.anti_ids.specs.declared.memory.NoMemory.{NoMemory}
 use Rattle.anti_kind.specs.declared.actor.Actor.{Actor}
 use Rattle.anti_kind.specs.declared.actor.Actor.TheVariants.{Carrier, Process as Acting}
@@ -18,41 +17,47 @@ use Rattle.anti_proc.specs.Known.{IsCallAt}
 use Rattle.anti_proc.specs.Births.{birth_at}
 use Rattle.anti_proc.specs.Meaning.{tree_of}
 use Rattle.anti_app.specs.Objects.{inbox_number}
-use Rattle.anti_proc.specs.Standing as standing
-use Rattle.anti_proc.specs.Running.{IsRunOf}
-use Rattle.anti_proc.specs.Standing.{process_of, birth_of, full_of}
+use Rattle.anti_proc.specs.inner.Standing as standing
+use Rattle.anti_proc.specs.inner.Running.{IsRunOf}
+use Rattle.anti_proc.specs.inner.Standing.{process_of, birth_of, full_of}
+use Rattle.anti_play.specs.declared.processes.Processes.{Processes}
 use Rattle.anti_play.specs.declared.world.World.{World}
 use Rattle.anti_play.specs.Schedule.{bearing, carrying, made_at}
-use Rattle.anti_play.specs.inner.Standing.{AllStand, AllLive, AreBorn, born_at, Changes, Lives, is_named, WorldStands, Chose, Grows}
+use Rattle.anti_play.specs.inner.Standing.{AllStand, AllLive, AreBorn, AreEnded, born_at, Changes, SameBorn, Lives, is_named, WorldStands, Chose, Grows}
 use Rattle.anti_play.proofs.Stepped.{Stepped, step, goes_on}
 use Rattle.anti_play.proofs.AllLive.{live_born, live_kept}
-use Rattle.anti_play.proofs.AreBorn.{SameBorn, is_birth_itself, no_birth, born_kept, born_more}
+use Rattle.anti_play.proofs.AreBorn.{is_birth_itself, no_birth, born_kept, born_more}
+use Rattle.anti_play.proofs.Changed.{ended_pushed}
 
 -- the same processes stand for a trace in lists that may have more room
-kept_live : (app : App) (ps ns : List (Listed Process)) (trace : List Entry) → SameBorn ps ns → AllLive app ps trace → AllLive app ns trace
+kept_live : (app : App) (ps ns : List Processes) (trace : List Entry) → SameBorn ps ns → AllLive app ps trace → AllLive app ns trace
 kept_live app ps ns trace same live b =
     subst (λ (xs : List Process). Lives app trace xs (position (is_named b) xs) (entries_by (Acting b) trace)) (sym (same.same b.object)) (live b)
 
-kept_born : (ps ns : List (Listed Process)) (trace : List Entry) → SameBorn ps ns → AreBorn ps trace → AreBorn ns trace
+kept_born : (ps ns : List Processes) (trace : List Entry) → SameBorn ps ns → AreBorn ps trace → AreBorn ns trace
 kept_born ps ns trace same born o = ap (λ (xs : List Process). map birth_of xs) (same.same o) ∙ born o
 
 pub kept_stands : (app : App) (w n : World) (trace : List Entry) → WorldStands app w trace → AllStand app n.objects.items trace
-    → SameBorn w.processes.items n.processes.items → n.carrier ≡ w.carrier → WorldStands app n trace
-kept_stands app w n trace s objects same carrier = record {
+    → SameBorn w.processes.items n.processes.items → AreEnded app n.processes.items → n.carrier ≡ w.carrier → WorldStands app n trace
+kept_stands app w n trace s objects same ended carrier = record {
   run = s.run;
   objects = objects;
   lists = same.count ∙ s.lists;
   born = kept_born w.processes.items n.processes.items trace same s.born;
+  ended = ended;
   processes = kept_live app w.processes.items n.processes.items trace same s.processes;
   carrier = carrier ∙ s.carrier;
 }
 
 -- nothing was made, for want of memory
+pub chose_lost : (app : App) (n : World) (trace : List Entry) (o : Option Entry) (r : Result Bool NoMemory) → IsErr r → WorldStands app n trace → Chose app trace o r n
+chose_lost app n trace o (Ok x) err s = absurd (cc)
+chose_lost app n trace None (Err x) err s = s
+chose_lost app n trace (Some e) (Err x) err s = s
+
 pub chose_kept : (app : App) (w n : World) (trace : List Entry) (o : Option Entry) (r : Result Bool NoMemory) → IsErr r → WorldStands app w trace
-    → AllStand app n.objects.items trace → SameBorn w.processes.items n.processes.items → n.carrier ≡ w.carrier → Chose app trace o r n
-chose_kept app w n trace o (Ok x) err s objects same carrier = absurd (cc)
-chose_kept app w n trace None (Err x) err s objects same carrier = kept_stands app w n trace s objects same carrier
-chose_kept app w n trace (Some e) (Err x) err s objects same carrier = kept_stands app w n trace s objects same carrier
+    → AllStand app n.objects.items trace → SameBorn w.processes.items n.processes.items → AreEnded app n.processes.items → n.carrier ≡ w.carrier → Chose app trace o r n
+chose_kept app w n trace o r err s objects same ended carrier = chose_lost app n trace o r err (kept_stands app w n trace s objects same ended carrier)
 
 pub chose_made : (app : App) (n : World) (trace : List Entry) (o : Option Entry) (e : Entry) → o ≡ Some e → WorldStands app n (put e trace) → Chose app trace o (Ok true) n
 chose_made app n trace o e is s = subst (λ (x : Option Entry). Chose app trace x (Ok true) n) (sym is) (refl, s)
@@ -80,6 +85,7 @@ take_done app sound w n trace object service nth e p s same m objects processes 
       objects = objects trace (put e trace) s.objects st.grows;
       lists = processes.count ∙ s.lists;
       born = born_more app w.processes.items trace (put e trace) e s.born st.grows n.processes.items p (is_birth_itself e at) birth processes;
+      ended = ended_pushed app w.processes.items n.processes.items e.object s.ended p processes;
       processes = live_born app w.processes.items trace s.processes e (goes_on app sound w trace s (bearing trace object (calls.Take nth)) tt refl tt e m) st.own st.others (birth_at e) at p birth unborn tree clock full runs
           n.processes.items processes;
       carrier = carrier ∙ s.carrier ∙ sym (ap (λ (x : List Entry). last_stamp x) (st.others (Carrier 0) none));
@@ -88,9 +94,9 @@ take_done app sound w n trace object service nth e p s same m objects processes 
 pub carry_done : (app : App) (sound : IsTrue (is_sound app)) (w n : World) (trace : List Entry) (object : ℕ) (call : Call) (e : Entry)
     → WorldStands app w trace → IsCallAt app object call → made_at app trace (carrying trace object call) ≡ Some e
     → ((before after : List Entry) → AllStand app w.objects.items before → Grows app before after e → AllStand app n.objects.items after)
-    → SameBorn w.processes.items n.processes.items → n.carrier ≡ e.stamp
+    → SameBorn w.processes.items n.processes.items → AreEnded app n.processes.items → n.carrier ≡ e.stamp
     → Chose app trace (made_at app trace (carrying trace object call)) (Ok true) n
-carry_done app sound w n trace object call e s known m objects processes carrier =
+carry_done app sound w n trace object call e s known m objects processes ended carrier =
     let st : Stepped app trace (carrying trace object call) e = step app sound w trace s (carrying trace object call) tt refl known e m in
     let at : e.actor ≡ Carrier 0 = st.actor in
     let own : entries_by (Carrier 0) (put e trace) ≡ entries_by (Carrier 0) trace ++ e ∷ [] = subst (λ (a : Actor). entries_by a (put e trace) ≡ entries_by a trace ++ e ∷ []) at st.own in
@@ -103,6 +109,7 @@ carry_done app sound w n trace object call e s known m objects processes carrier
       born = born_kept app w.processes.items trace (put e trace) e s.born st.grows n.processes.items
           (no_birth e (λ is. let both : Acting (birth_at e) ≡ Carrier 0 = sym is ∙ at in absurd (cc)))
           (λ o. ap (λ (xs : List Process). map birth_of xs) (processes.same o));
+      ended = ended;
       processes = kept_live app w.processes.items n.processes.items (put e trace) processes
           (live_kept app w.processes.items trace s.processes e (goes_on app sound w trace s (carrying trace object call) tt refl known e m) st.own st.others
           (λ b c. (let both : Acting b ≡ Carrier 0 = sym c ∙ at in absurd (cc))));

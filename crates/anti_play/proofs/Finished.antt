@@ -19,10 +19,8 @@ use Rattle.anti_object.proofs.Starts.{start_there, start_sound}
 use Rattle.anti_trace.specs.Traces.{entries_on, entries_by, put}
 use Rattle.anti_trace.proofs.Bounds.{length_bound}
 use Rattle.anti_trace.proofs.Puts.{length-put}
-use Rattle.anti_proc.specs.declared.want.Want.{Want}
-use Rattle.anti_proc.specs.declared.want.Want.TheVariants.{Make, Over}
 use Rattle.anti_proc.specs.Known.{IsCallAt}
-use Rattle.anti_proc.specs.Trees.{Tree, want_of}
+use Rattle.anti_proc.specs.Trees.{Tree, Want, Make, Over, want_of}
 use Rattle.anti_proc.specs.Meaning.{process_after}
 use Rattle.anti_app.specs.Objects.{inbox_number, object_count}
 use Rattle.anti_kind.specs.declared.asking.Asking.{Asking}

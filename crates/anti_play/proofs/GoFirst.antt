@@ -1,12 +1,12 @@
 -- The processes of an object, one after another in the order of their births.
-use Rattle.std.proofs.Common.{◌≡◌, ℕ, zero, suc, ◌+◌, ◌<◌, Bool, true, false, not, cond, ◌&&◌, List, [], ◌∷◌, length, get_or, nat_eq, refl, sym, ap, ◌∙◌, arith}
+use Rattle.std.proofs.Common.{◌≡◌, ℕ, zero, suc, ◌+◌, ◌<◌, ◌≤◌, Bool, true, false, not, cond, ◌&&◌, List, [], ◌∷◌, length, get_or, nat_eq, refl, sym, ap, ◌∙◌, subst, inl, inr, arith}
 use borrow.Author.Tests.{eqb-true, ne_eqb}
-use Rattle.std.specs.Prelude.{All, Some, position, slice_get}
+use Rattle.std.specs.Prelude.{All, None, Some, IsTrue, position, slice_get}
 use Rattle.std.specs.List.{AllPairs, position_or_len}
 use Rattle.std.proofs.lemmas.List.{get_or-map, length-map}
 use Rattle.std.proofs.lemmas.List.Elements.{All-filter, filter_passes}
 use Rattle.std.proofs.lemmas.List.Kept.{AllPairs-filter}
-use Rattle.std.proofs.lemmas.Option.{slice_get_within, get_or_from_slice_get}
+use Rattle.std.proofs.lemmas.Option.{slice_get_cases, slice_get_within, get_or_from_slice_get}
 use Rattle.anti_kind.specs.declared.actor.Actor.TheVariants.{Process as Acting, Newborn}
 use Rattle.anti_kind.specs.declared.actor.Birth.{Birth}
 use Rattle.anti_kind.specs.declared.call.Call.TheVariants.{Take}
@@ -15,6 +15,7 @@ use Rattle.anti_kind.specs.declared.entry.Entry.{Entry}
 use Rattle.anti_kind.specs.Objects.{Start}
 use Rattle.anti_kind.proofs.Histories.{placed}
 use Rattle.anti_app.specs.declared.app.App.{App}
+use Rattle.anti_app.specs.Sound.{is_sound}
 use Rattle.anti_object.specs.Starts.{start_of}
 use Rattle.anti_object.proofs.Starts.{start_there}
 use Rattle.anti_trace.specs.Traces.{entries_on, same_actor, is_on}
@@ -22,12 +23,13 @@ use Rattle.anti_trace.proofs.Puts.{same_actor_itself}
 use Rattle.anti_proc.specs.declared.process.Process.{Process}
 use Rattle.anti_proc.specs.Births.{birth_at, births, is_birth}
 use Rattle.anti_app.specs.Objects.{object_count}
-use Rattle.anti_proc.specs.Standing.{birth_of}
+use Rattle.anti_proc.specs.inner.Standing.{birth_of}
 use Rattle.anti_app.specs.declared.app.Choice.TheVariants.{Go}
 use Rattle.anti_play.specs.Schedule.{chosen, go_of}
 use Rattle.anti_play.specs.declared.world.World.{World}
-use Rattle.anti_play.specs.inner.Standing.{WorldStands, born_at, is_named}
+use Rattle.anti_play.specs.inner.Standing.{WorldStands, born_at, ended_at, is_named}
 use Rattle.anti_play.proofs.AllLive.{found_at}
+use Rattle.anti_play.proofs.GoOn.{IsFound, makes_none}
 
 -- the first at which a test passes
 front_at : {T : Type 0} (p : T → Bool) (xs : List T) (i : ℕ) (d : T) → i < length xs → p (get_or xs i d) ≡ true → ((k : ℕ) → k < i → p (get_or xs k d) ≡ false)
@@ -117,3 +119,19 @@ module _ (app : App) (w : World) (trace : List Entry) (o : ℕ) (s : WorldStands
         let other : (birth_of (get_or ps k p)).place ≡ (get_or bs k no_entry).place = ap (λ (b : Birth). b.place) (birth_of_at k p no_entry (omega arith)) in
         let rise : (get_or bs k no_entry).place < (get_or bs i no_entry).place = places_rise k i no_entry low (let same = born_length in omega arith) in
         other_place (birth_of p) (birth_of (get_or ps k p)) (λ same. omega arith))
+
+    -- those that have ended make no entry
+    pub ended_none : IsTrue (is_sound app) → (i : ℕ) → i < ended_at w.processes.items o → chosen app trace (go_of (get_or bs i no_entry)) ≡ None
+    ended_none sound i low =
+        let few = s.ended.within o in
+        elim ((slice_get_cases ps i).1) [
+          | inl found ↦
+              let p : Process = found.0 in
+              let at : slice_get ps i ≡ Some p = found.2 in
+              let g : IsFound w (birth_of p) i p = record {
+                found = subst (λ (n : ℕ). position (is_named (birth_of p)) (born_at w.processes.items n) ≡ Some i) (sym (birth_here i p at)) (birth_found i p at);
+                is = subst (λ (n : ℕ). slice_get (born_at w.processes.items n) i ≡ Some p) (sym (birth_here i p at)) at;
+              } in
+              sym (going_is i p (birth_of p) at refl) ∙ makes_none app w trace (birth_of p) i p s g sound (s.ended.ended o i p low at)
+          | inr past ↦ absurd (let le : length ps ≤ i = past.0 in omega arith)
+        ]

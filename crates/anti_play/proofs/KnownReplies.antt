@@ -1,9 +1,9 @@
 -- What a known call of an object is due is known too.
-use Rattle.std.proofs.Common.{◌≡◌, ◌⊎◌, ⊎_elim, ℕ, zero, suc, ◌+◌, ◌-◌, ◌<◌, ◌≤◌, ◌^◌, Bool, true, false, not, cond, List, [], ◌∷◌, ◌++◌, length, get_or, refl, sym, ap, ◌∙◌, subst, arith, inl, inr, length-append}
-use Rattle.std.specs.Prelude.{All, IsTrue, Option, None, Some, find, flat_map, option_map, slice_get, nat_eq, nat_lt, nat_le, bytes_eq, count_by, decimal, ◌==◌, ◌||◌}
+use Rattle.std.proofs.Common.{◌≡◌, ◌⊎◌, ⊎_elim, ℕ, zero, suc, ◌+◌, ◌-◌, ◌<◌, ◌≤◌, ◌^◌, Bool, true, false, not, cond, List, [], ◌∷◌, ◌++◌, length, get_or, refl, sym, ap, ◌∙◌, subst, arith, length-append}
+use Rattle.std.specs.Prelude.{All, IsTrue, Option, None, Some, find, flat_map, option_and_then, option_map, slice_get, nat_eq, nat_lt, nat_le, bytes_eq, count_by, decimal, ◌==◌, ◌||◌}
 use Rattle.std.specs.List.{list_all}
 use Rattle.std.specs.Option.{option_map_or}
-use Rattle.std.proofs.lemmas.Bool.{cases_lt, or_right, or_left, and_parts, and_from, leb-true, le-leb, lt-ltb}
+use Rattle.std.proofs.lemmas.Bool.{or_right, or_left, and_parts, and_from, leb-true, le-leb, lt-ltb}
 use Rattle.std.proofs.lemmas.Fmt.{decimal_is_IsNumeral, length-decimal-le}
 use Rattle.std.proofs.lemmas.List.{length-map}
 use Rattle.std.proofs.lemmas.List.Concat.{flat_map-cons}
@@ -47,11 +47,14 @@ use Rattle.anti_app.specs.declared.app.ServiceDef.{ServiceDef}
 use Rattle.anti_app.specs.declared.app.StoreDef.{StoreDef}
 use Rattle.anti_app.specs.Sound.{has_named, is_sound}
 use Rattle.anti_app.specs.Subs.{subs_on}
-use Rattle.anti_object.specs.Starts.{start_of, store_start, inbox_start, message_of, message_to, requests_to, tries_of}
-use Rattle.anti_object.proofs.Starts.{start_of-store, start_of-inbox, start_sound}
+use Rattle.anti_object.specs.Starts.{start_at, start_of, store_start, inbox_start, message_of, message_to, requests_to, tries_of}
+use Rattle.anti_object.proofs.Starts.{start_sound}
 use Rattle.anti_proc.specs.Known.{AreIdsOf, IsCallAt, IsMessageTo, IsOverApp, IsReplyAt, IsRowOf}
 use Rattle.anti_proc.specs.Local.{id_at}
-use Rattle.anti_app.specs.Objects.{service_at, store_names}
+use Rattle.anti_app.specs.declared.objects.ObjectAt.{ObjectAt}
+use Rattle.anti_app.specs.declared.objects.ObjectAt.TheVariants.{Store as AStore, Inbox as AnInbox}
+use Rattle.anti_app.specs.Objects.{IsStore, object_at, service_at}
+use Rattle.anti_play.proofs.Numbers.{inbox_is, store_is}
 
 -- ---- facts of each item of a list
 
@@ -136,11 +139,11 @@ module _ (app : App) (o : ℕ) where
   -- ---- a store
 
   -- the id of a version of a key
-  ids_at : (key : List ℕ) (version : ℕ) → o < length app.stores.items → is_name key ≡ true → version < 2 ^ 64 → AreIdsOf app (id_at o key version)
+  ids_at : (key : List ℕ) (version : ℕ) → IsStore app o → is_name key ≡ true → version < 2 ^ 64 → AreIdsOf app (id_at o key version)
   ids_at key version within name few = by_test (nat_lt 0 version)
     where
       by_test : (some : Bool) → AreIdsOf app (cond some (record { store = o; key = key; version = version } ∷ []) [])
-      by_test true = ((let count : length (store_names app) ≡ length app.stores.items = length-map app.stores.items (λ (s : StoreDef). s.name) in omega arith, name, few), tt)
+      by_test true = ((omega (arith, length-map app.stores.items (λ (s : StoreDef). s.name)), name, few), tt)
       by_test false = tt
 
   -- a written row
@@ -170,7 +173,7 @@ module _ (app : App) (o : ℕ) where
         let r : Row = get_or rs k d in
         ⊎_elim (λ (none : r ≡ absent r.key). subst (IsRowOf app o) (sym none) (absent_known r.key)) (source_known r) (sourced k d lt))
 
-    module _ (within : o < length app.stores.items) (short : length h ≤ MOST_UNITS) (legal : IsLegal (store s) h) where
+    module _ (within : IsStore app o) (short : length h ≤ MOST_UNITS) (legal : IsLegal (store s) h) where
       sources : RowsHaveSources s
       sources = rows_have_sources s
 
@@ -289,7 +292,7 @@ module _ (app : App) (o : ℕ) where
   IsDue h c start = length h ≤ MOST_UNITS → IsLegal start h → ready start h c ≡ true → IsReplyAt app o (due start h c)
 
   module _ (h : List Entry) (known : Each KnownAt h) (c : Call) (call : IsCallAt app o c) (start : Start) where
-    of_store : o < length app.stores.items → (found : Option StoreDef) → option_map (store_start app o) found ≡ Some start → IsDue h c start
+    of_store : IsStore app o → (found : Option StoreDef) → option_map (store_start app o) found ≡ Some start → IsDue h c start
     of_store within None is = absurd (cc)
     of_store within (Some s) is =
         let same : store_start app o s ≡ start = cc in
@@ -302,11 +305,16 @@ module _ (app : App) (o : ℕ) where
         subst (IsDue h c) same (λ short legal is_ready. inbox_known (requests_to app s (service_at app o)) h (requests_known s at) known c)
 
     is_due : start_of app o ≡ Some start → IsDue h c start
-    is_due there =
-        elim (cases_lt o (length app.stores.items)) as (λ _. IsDue h c start) [
-          | inl low ↦ of_store low (slice_get app.stores.items o) (sym (start_of-store app o low) ∙ there)
-          | inr high ↦ of_inbox (slice_get app.services.items (service_at app o)) refl (sym (start_of-inbox app o high) ∙ there)
-        ]
+    is_due there = by_object (object_at app o) refl there
+      where
+        by_object : (at : Option ObjectAt) → object_at app o ≡ at → option_and_then (start_at app) at ≡ Some start → IsDue h c start
+        by_object None at is = absurd (cc)
+        by_object (Some (AStore n)) at is =
+            let known_store = store_is app o n at in
+            of_store known_store.1 (slice_get app.stores.items o) (subst (λ (k : ℕ). option_map (store_start app k) (slice_get app.stores.items k) ≡ Some start) known_store.0 is)
+        by_object (Some (AnInbox service)) at is =
+            of_inbox (slice_get app.services.items (service_at app o)) refl
+            (subst (λ (k : ℕ). option_map (inbox_start app k) (slice_get app.services.items k) ≡ Some start) (inbox_is app o service at).0 is)
 
 -- After a legal history of an object, whose entries are known, a known call that is ready is due a known reply.
 pub due_known : (app : App) (o : ℕ) (start : Start) (h : List Entry) (c : Call) → IsTrue (is_sound app) → start_of app o ≡ Some start → IsLegal start h → Each (KnownAt app o) h

@@ -1,9 +1,12 @@
+pub mod Numbers
 pub mod KnownReplies
 pub mod KnownCalls
+pub mod Starting
 pub mod MadeAt
 pub mod RunMore
 pub mod FullStays
 pub mod AllLive
+pub mod Changed
 pub mod AreBorn
 pub mod Stepped
 pub mod MakeEntry

@@ -1,9 +1,10 @@
 -- The objects of an application before anything has happened.
 use Rattle.std.proofs.Common.{◌≡◌, ℕ, ◌+◌, ◌<◌, ◌≤◌, max, ◌-◌, ◌++◌, ◌⊎◌, ◌∷◌, List, [], length, refl, sym, ap, ◌∙◌, subst, arith, inl, inr}
-use Rattle.std.specs.Prelude.{Option, None, Some, MatchOption}
+use Rattle.std.specs.Prelude.{Option, None, Some, MatchOption, slice_get}
+use Rattle.std.proofs.lemmas.Option.{slice_get-get_or, slice_get_past}
 use Rattle.std.proofs.lemmas.Bool.{cases_lt}
-use Rattle.std.proofs.lemmas.List.{length_push, get_or_push, get_or_append_left, get_or_past}
-use Rattle.anti_ids.specs.List.{Listed, empty, plain, pushed, reserved}
+use Rattle.std.proofs.lemmas.List.{length_push, get_or_push, get_or_append_left}
+use Rattle.anti_ids.specs.List.{Listed, plain, pushed, reserved}
 use Rattle.anti_kind.specs.Objects.{Start}
 use Rattle.anti_app.specs.declared.app.App.{App}
 use Rattle.anti_object.specs.declared.object.Object.{Object}
@@ -12,8 +13,8 @@ use Rattle.anti_kind.specs.Records.{Record}
 use Rattle.anti_object.specs.Standing.{object_start, IsNew}
 use Rattle.anti_object.proofs.Starts.{start_there, start_known}
 use Rattle.anti_app.specs.Objects.{object_count}
-use Rattle.anti_proc.specs.declared.process.Process.{Process}
-use Rattle.anti_play.specs.inner.Standing.{IsObject, born_at}
+use Rattle.anti_play.specs.declared.processes.Processes.{Processes}
+use Rattle.anti_play.specs.inner.Standing.{IsObject, born_in, ended_in}
 use Rattle.anti_play.specs.inner.Closing.{AreFirst, NoneBorn}
 use Rattle.anti_play.proofs.RunMore.{decide}
 
@@ -30,20 +31,30 @@ at_first object = record { machine = object; history = [] }
 new_object : (app : App) (o : ℕ) (object : Object) → IsNew app o object → IsObject app o (at_first object) []
 new_object app o object new = record { start = new.start; history = refl }
 
--- a list more, of no process
-pub none_born_more : (count : ℕ) (ps : List (Listed Process)) (l : Listed Process) → l.items ≡ [] → NoneBorn count ps → NoneBorn (count + 1) (ps ++ l ∷ [])
-none_born_more count ps l empty_list no_processes = record {
-  many = length_push ps l ∙ ap (λ (n : ℕ). n + 1) no_processes.many;
-  none = λ o. elim (cases_lt o (length ps)) as (λ _. born_at (ps ++ l ∷ []) o ≡ []) [
-    | inl before ↦ ap (λ (x : Listed Process). x.items) (get_or_append_left ps (l ∷ []) empty o before) ∙ no_processes.none o
-    | inr past ↦ by_end o past (decide o (length ps))
-  ];
+-- an object at which no process was born
+abbrev NoneAt : Option Processes → Type 0
+NoneAt here = (born_in here ≡ []) × (ended_in here ≡ 0)
+
+-- one object more, at which no process was born
+pub none_born_more : (count : ℕ) (all : List Processes) (new : Processes) → new.born.items ≡ [] → new.ended ≡ 0 → NoneBorn count all → NoneBorn (count + 1) (all ++ new ∷ [])
+none_born_more count all new no_process none_ended none = record {
+  many = length_push all new ∙ ap (λ (n : ℕ). n + 1) none.many;
+  none = λ o. (each o).0;
+  not_ended = λ o. (each o).1;
 }
   where
-    by_end : (o : ℕ) → length ps ≤ o → (o ≡ length ps) ⊎ (o ≡ length ps → ⊥) → born_at (ps ++ l ∷ []) o ≡ []
-    by_end o past (inl last) = ap (λ (x : Listed Process). x.items) (get_or_push ps l empty o (sym last)) ∙ empty_list
-    by_end o past (inr other) =
-        ap (λ (x : Listed Process). x.items) (get_or_past (ps ++ l ∷ []) o empty (omega (arith, length_push ps l)))
+    at_end : (o : ℕ) → length all ≤ o → (o ≡ length all) ⊎ (o ≡ length all → ⊥) → NoneAt (slice_get (all ++ new ∷ []) o)
+    at_end o past (inl last) =
+        subst NoneAt (sym (slice_get-get_or (all ++ new ∷ []) o new (omega (arith, length_push all new)) ∙ ap Some (get_or_push all new new o (sym last)))) (no_process, none_ended)
+    at_end o past (inr other) = subst NoneAt (sym (slice_get_past (all ++ new ∷ []) o (omega (arith, length_push all new)))) (refl, refl)
+
+    each : (o : ℕ) → NoneAt (slice_get (all ++ new ∷ []) o)
+    each o = elim (cases_lt o (length all)) as (λ _. NoneAt (slice_get (all ++ new ∷ []) o)) [
+      | inl low ↦
+          subst NoneAt (sym (slice_get-get_or (all ++ new ∷ []) o new (omega (arith, length_push all new)) ∙ ap Some (get_or_append_left all (new ∷ []) new o low) ∙ sym (slice_get-get_or all o new low)))
+          (none.none o, none.not_ended o)
+      | inr past ↦ at_end o past (decide o (length all))
+    ]
 
 -- where there is none at a number it is past them all
 past_all : (app : App) (count : ℕ) → start_of app count ≡ None → object_count app ≤ count

@@ -1,6 +1,6 @@
 -- What stands behind the entry that is made of what is asked.
-use Rattle.std.proofs.Common.{◌≡◌, ℕ, ◌+◌, ◌<◌, ◌++◌, inl, inr, List, [], ◌∷◌, length, refl, sym, ◌∙◌, subst, arith, append-nil}
-use Rattle.std.specs.Prelude.{All, Some, IsTrue}
+use Rattle.std.proofs.Common.{◌≡◌, ℕ, ◌+◌, ◌<◌, ◌++◌, inl, inr, List, [], ◌∷◌, length, true, refl, sym, ap, ◌∙◌, subst, arith, append-nil}
+use Rattle.std.specs.Prelude.{All, None, Some, IsTrue}
 use Rattle.anti_kind.specs.declared.asking.Asking.{Asking}
 use Rattle.anti_kind.specs.declared.actor.Actor.{Actor}
 use Rattle.anti_kind.specs.declared.entry.Entry.{Entry}
@@ -8,15 +8,17 @@ use Rattle.anti_kind.specs.Objects.{Start, Follows}
 use Rattle.anti_kind.specs.Ports.{named}
 use Rattle.anti_app.specs.declared.app.App.{App}
 use Rattle.anti_app.specs.Sound.{is_sound}
-use Rattle.anti_object.proofs.Starts.{start_known}
+use Rattle.anti_object.proofs.Starts.{start_known, start_there}
 use Rattle.anti_trace.specs.Traces.{entries_on, entries_by, put}
 use Rattle.anti_proc.specs.Known.{IsCallAt, IsEntryOf, IsReplyAt}
+use Rattle.anti_proc.specs.Tasks.{task_of}
 use Rattle.anti_app.specs.Objects.{object_count}
 use Rattle.anti_play.specs.declared.world.World.{World}
 use Rattle.anti_play.specs.Schedule.{clock_of, next_entry, made_at}
-use Rattle.anti_play.specs.Runs.{IsRun, GoesOn}
+use Rattle.anti_play.specs.Runs.{IsRun, GoesOn, bears}
 use Rattle.anti_play.specs.inner.Standing.{Grows, IsBorn, MayGrow, WorldStands}
 use Rattle.anti_play.proofs.MadeAt.{Made, made_of}
+use Rattle.anti_play.proofs.Starting.{starts}
 use Rattle.anti_play.proofs.RunMore.{entry_follows, it_known, run_more, run_history, run_others, run_actor, run_other_actors, own_before, decide}
 
 pub record Stepped (app : App) (trace : List Entry) (q : Asking) (e : Entry) : Type 0 where
@@ -71,6 +73,12 @@ module _ (app : App) (sound : IsTrue (is_sound app)) (w : World) (trace : List E
   -- its reply is known
   pub reply_of : IsReplyAt app e.object e.reply
   reply_of = step.entry.reply
+
+  -- one by whose call a process is born starts one
+  pub starts_task : bears q.call ≡ true → task_of app e ≡ None → ⊥
+  starts_task bearing =
+      let there = start_there app e.object (let at : e.object ≡ q.object = step.object in let known : q.object < object_count app = step.known in omega arith) in
+      starts app sound (entries_on e.object trace) e (ap bears step.call ∙ bearing) reply_of there.0 (stands.run.legal e.object there.0 there.1) (step.grows.follows there.0 there.1) there.1
 
   pub may_grow : MayGrow w.objects.items e
   may_grow = record {

@@ -1,7 +1,9 @@
 -- What is true of each trace that choices have made.
-use Rattle.std.specs.Prelude.{◌≡◌, ℕ, ◌<◌, ◌≤◌, List, [], ◌++◌, length, All, Some}
+use Rattle.std.specs.Prelude.{◌≡◌, ℕ, ◌<◌, ◌≤◌, Bool, true, false, List, [], ◌++◌, length, All, Some}
 use Rattle.anti_kind.specs.declared.actor.Actor.TheVariants.{Process}
 use Rattle.anti_kind.specs.declared.actor.Birth.{Birth}
+use Rattle.anti_kind.specs.declared.call.Call.{Call}
+use Rattle.anti_kind.specs.declared.call.Call.TheVariants.{Take, Pull, Repull}
 use Rattle.anti_kind.specs.declared.entry.Entry.{Entry}
 use Rattle.anti_kind.specs.Objects.{Start, IsLegal}
 use Rattle.anti_app.specs.declared.app.App.{App}
@@ -27,3 +29,10 @@ pub record IsRun (app : App) (trace : List Entry) : Type 0 where
 -- the history of each object goes on from what it was
 abbrev pub GoesOn : List Entry → List Entry → Type 0
 GoesOn before after = (o : ℕ) → (rest : List Entry) × (entries_on o after ≡ entries_on o before ++ rest)
+
+-- whether a process is born by a call
+abbrev pub bears : Call → Bool
+bears (Take nth) = true
+bears (Pull sub) = true
+bears (Repull sub version) = true
+bears _ = false

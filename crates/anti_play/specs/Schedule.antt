@@ -22,9 +22,7 @@ use Rattle.anti_app.specs.declared.app.Choice.TheVariants.{Take, Repost, Pull, R
 use Rattle.anti_app.specs.Subs.{position_on}
 use Rattle.anti_object.specs.Starts.{start_of}
 use Rattle.anti_trace.specs.Traces.{entries_on, entries_by, put}
-use Rattle.anti_proc.specs.declared.want.Want.{Want}
-use Rattle.anti_proc.specs.declared.want.Want.TheVariants.{Make, Over}
-use Rattle.anti_proc.specs.Trees.{want_of}
+use Rattle.anti_proc.specs.Trees.{Want, Make, Over, want_of}
 use Rattle.anti_proc.specs.Births.{births}
 use Rattle.anti_app.specs.Objects.{inbox_number, object_count}
 use Rattle.anti_proc.specs.Meaning.{process_after}

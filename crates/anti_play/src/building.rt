@@ -5,9 +5,10 @@ ghost use Rattle.anti_play.specs.inner.Standing.{WorldStands};
 ghost use Rattle.anti_object.specs.Standing.{ObjectAt};
 ghost use Rattle.anti_play.specs.inner.Closing.{AreFirst, NoneBorn};
 
-use crate::world::{Processes, World};
+use crate::processes::Processes;
+use crate::world::World;
 use anti_app::App;
-use anti_ids::{List, NoMemory};
+use anti_ids::NoMemory;
 use anti_kind::Recorded;
 use anti_object::Object;
 use std::alloc::Global;
@@ -47,7 +48,7 @@ fn no_processes(alloc: Global, count: usize) -> Result<Vec<Processes>, NoMemory>
 {
     let mut processes = Vec::new(alloc);
     for _ in 0..count {
-        match processes.push(List::new(alloc)) {
+        match processes.push(Processes::new(alloc)) {
             Ok(()) => {}
             Err(_) => return Err(NoMemory),
         }

@@ -1,8 +1,7 @@
 ghost use Rattle.std.specs.Prelude.{◌≡◌, ◌<◌, length, map, slice_get, vec_len, Some, OnOk, OnErr, IsTrue};
 ghost use Rattle.anti_trace.specs.Traces.{entries_on};
 ghost use Rattle.anti_proc.specs.Births.{births};
-ghost use Rattle.anti_app.specs.Objects.{object_count};
-ghost use Rattle.anti_proc.specs.Standing.{birth_of};
+ghost use Rattle.anti_app.specs.Objects.{IsStore, object_count};
 ghost use Rattle.anti_app.specs.declared.app.App.{App};
 ghost use Rattle.anti_app.specs.Sound.{is_sound};
 ghost use Rattle.anti_play.specs.Schedule.{IsComplete, chosen, finished, first_made, first_of, go_of, goes, ships, takes};
@@ -10,6 +9,7 @@ ghost use Rattle.anti_play.specs.Runs.{Entries};
 ghost use Rattle.anti_play.specs.inner.Standing.{Chose, IsSoundWorld, IsWorldOf, WorldStands, born_at};
 ghost use Rattle.anti_play.specs.inner.Finishing.{WentOn, next_shipped, ships_from};
 
+use crate::processes::pass_ended;
 use crate::world::World;
 use anti_app::App;
 use anti_ids::NoMemory;
@@ -54,7 +54,8 @@ impl World {
         requires sound { IsTrue (is_sound app.now) }
         requires world { IsWorldOf app.now self.old }
         ensures { (trace : Entries) → WorldStands app.now self.old trace
-            → Chose app.now trace (first_of (chosen app.now trace) (goes app.now trace)) result self.new }
+            → Chose app.now trace (first_of (chosen app.now trace) (goes app.now trace))
+            result self.new }
     {
         for object in 0..self.processes.len() as u32 {
             if self.go_first_at(app, object)? {
@@ -64,16 +65,18 @@ impl World {
         Ok(false)
     }
 
-    // The same among the processes that were born at an object.
+    // The same among the processes that were born at an object. Those in front that have ended are passed over.
     fn go_first_at(&mut self, app: &App, object: u32) -> Result<bool, NoMemory>
         requires sound { IsTrue (is_sound app.now) }
         requires world { IsWorldOf app.now self.old }
         requires object { object < object_count app.now }
         ensures { (trace : Entries) → WorldStands app.now self.old trace
-            → Chose app.now trace (first_of (chosen app.now trace) (map go_of (births (entries_on object trace))))
+            → Chose app.now trace
+            (first_of (chosen app.now trace) (map go_of (births (entries_on object trace))))
             result self.new }
     {
-        for at in 0..self.born_count(object) {
+        pass_ended(&mut self.processes, object);
+        for at in self.ended_count(object)..self.born_count(object) {
             let birth = self.process(object, at).birth();
             if self.go_on(app, birth, at)? {
                 return Ok(true);
@@ -87,7 +90,8 @@ impl World {
         requires sound { IsTrue (is_sound app.now) }
         requires world { IsWorldOf app.now self.old }
         ensures { (trace : Entries) → WorldStands app.now self.old trace
-            → Chose app.now trace (first_of (chosen app.now trace) (takes app.now)) result self.new }
+            → Chose app.now trace (first_of (chosen app.now trace) (takes app.now))
+            result self.new }
     {
         for service in 0..app.services.len() {
             if self.take(app, service as u32, 1)? {
@@ -102,7 +106,8 @@ impl World {
         requires sound { IsTrue (is_sound app.now) }
         requires world { IsWorldOf app.now self.old }
         ensures { (trace : Entries) → WorldStands app.now self.old trace
-            → Chose app.now trace (first_of (chosen app.now trace) (ships app.now trace)) result self.new }
+            → Chose app.now trace (first_of (chosen app.now trace) (ships app.now trace))
+            result self.new }
     {
         for store in 0..app.stores.len() {
             if self.ship_first_of(app, store as u32)? {
@@ -116,9 +121,10 @@ impl World {
     fn ship_first_of(&mut self, app: &App, store: u32) -> Result<bool, NoMemory>
         requires sound { IsTrue (is_sound app.now) }
         requires world { IsWorldOf app.now self.old }
-        requires store { store < length app.now.stores.items }
+        requires store { IsStore app.now store }
         ensures { (trace : Entries) → WorldStands app.now self.old trace
-            → Chose app.now trace (first_of (chosen app.now trace) (ships_from app.now trace store)) result self.new }
+            → Chose app.now trace
+            (first_of (chosen app.now trace) (ships_from app.now trace store)) result self.new }
     {
         for region in app.stores.at(store as usize).replicas.as_slice() {
             if self.ship_next(store, *region)? {
@@ -132,7 +138,8 @@ impl World {
     fn ship_next(&mut self, store: u32, region: u32) -> Result<bool, NoMemory>
         requires world { IsSoundWorld self.old }
         requires store { store < vec_len self.old.objects }
-        ensures { (app : App) (trace : Entries) → IsTrue (is_sound app) → WorldStands app self.old trace
+        ensures { (app : App) (trace : Entries) → IsTrue (is_sound app)
+            → WorldStands app self.old trace
             → Chose app trace (next_shipped app trace store region) result self.new }
     {
         let recorded = &self.objects[store as usize];

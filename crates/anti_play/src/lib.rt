@@ -6,6 +6,7 @@ mod feeding;
 mod finish;
 mod laws;
 mod player;
+mod processes;
 mod tracing;
 mod world;
 

@@ -1,5 +1,4 @@
-use Rattle.std.proofs.Common.{◌≡◌, true, false, Err, ap, sym, ◌∙◌}
-use Rattle.anti_proc.proofs.Knowing.{birth_known}
+use Rattle.std.proofs.Common.{Err, ap, ◌∙◌}
 use Rattle.anti_app.proofs.Runnable.{can_run}
 use Rattle.anti_play.proofs.feeding.born.Goals as goal
 
@@ -7,7 +6,4 @@ pub born-requires : goal.born-requires
 born-requires c = can_run c.args.app.now c.requires.sound
 
 pub unreachable-requires : goal.unreachable-requires
-unreachable-requires c =
-    let known = birth_known c.args.app.now c.args.entry.now.object c.args.entry.now.reply c.requires.known in
-    let foreign = c.born.ensures.foreign (c.in-Err-Foreign.is ∙ ap Err c.in-Err-Foreign.field-0-is) in
-    absurd (let both : true ≡ false = sym foreign ∙ known in cc)
+unreachable-requires c = c.requires.starts (c.born.ensures.foreign (c.in-Err-Foreign.is ∙ ap Err c.in-Err-Foreign.field-0-is))

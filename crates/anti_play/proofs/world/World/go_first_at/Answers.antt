@@ -1,4 +1,4 @@
-use Rattle.std.proofs.Common.{◌≡◌, ◌<◌, ℕ, List, Option, Some, length, get_or, vec_len, map, true, false, sym, ap, ◌∙◌, subst, arith}
+use Rattle.std.proofs.Common.{◌≡◌, ◌<◌, ℕ, List, Option, Some, length, get_or, vec_len, map, true, false, refl, sym, ap, ◌∙◌, subst, arith}
 use Rattle.std.specs.Prelude.{position}
 use Rattle.anti_kind.specs.declared.actor.Birth.{Birth}
 use Rattle.anti_kind.specs.declared.entry.Entry.{Entry}
@@ -7,15 +7,18 @@ use Rattle.anti_app.specs.declared.app.Choice.TheVariants.{Go}
 use Rattle.anti_trace.specs.Traces.{entries_on}
 use Rattle.anti_proc.specs.Births.{births}
 use Rattle.anti_app.specs.Objects.{object_count}
-use Rattle.anti_proc.specs.Standing.{birth_of}
+use Rattle.anti_proc.specs.inner.Standing.{birth_of}
+use Rattle.anti_proc.specs.declared.process.Process.{Process}
+use Rattle.anti_play.specs.declared.world.World.{World}
 use Rattle.anti_play.specs.Schedule.{chosen, first_of, go_of}
 use Rattle.anti_play.specs.inner.Standing.{WorldStands, born_at, is_named}
 use Rattle.anti_play.proofs.FirstOf.{first_of-map}
 use Rattle.anti_play.proofs.MakeEntry.{any_default}
-use Rattle.anti_play.proofs.GoFirst.{no_entry, born_length, birth_here, birth_found, going_is}
+use Rattle.anti_play.proofs.Chose.{kept_stands}
+use Rattle.anti_play.proofs.GoFirst.{no_entry, born_length, birth_here, birth_found, going_is, ended_none}
 use Rattle.anti_play.proofs.Tried.{one_tried, found_one, found_none, came_as, chose_of}
 use Rattle.anti_play.proofs.world.World.go_first_at.Goals as goal
-use Rattle.anti_play.proofs.world.World.go_first_at.Goals.{After-birth-birth}
+use Rattle.anti_play.proofs.world.World.go_first_at.Goals.{After-birth-birth, After-pass_ended}
 
 -- the next entry of the process at a place
 abbrev gone : App → ℕ → List Entry → ℕ → Option Entry
@@ -26,6 +29,24 @@ known c =
     let lists : length c.args.self.now.processes.items ≡ object_count c.args.app.now = c.requires.world.stands.lists in
     let len : vec_len c.args.self.now.processes ≡ length c.args.self.now.processes.items = c.args.self.now.processes.ok.0 in
     omega (arith, c.requires.object)
+
+-- the world once those in front were passed over
+abbrev passed : (c : After-pass_ended) → World
+passed c = record { objects = c.args.self.now.objects; processes = c.pass_ended.new.all; carrier = c.args.self.now.carrier; alloc = c.args.self.now.alloc }
+
+pub loop-at-init : goal.loop-at-init
+loop-at-init c = record {
+  each = λ trace s.
+      let app = c.args.app.now in
+      let n = passed ((goal.at.loop-at-init c).After-pass_ended) in
+      let stands : WorldStands app n trace =
+      kept_stands app c.args.self.now n trace s s.objects c.pass_ended.ensures.same (c.pass_ended.ensures.ended app s.ended) refl in
+      let lists : length c.args.self.now.processes.items ≡ object_count app = s.lists in
+      let len : vec_len c.args.self.now.processes ≡ length c.args.self.now.processes.items = c.args.self.now.processes.ok.0 in (
+        stands,
+        λ j low. ended_none app n trace c.args.object stands (omega (arith, c.requires.object)) c.requires.sound j (omega (arith, c.ended_count-at.ensures)),
+      );
+}
 
 here : (c : After-birth-birth) → WorldStands c.args.app.now c.loop-at.self c.requires.world.trace
 here c = (c.loop-at.invariant.each c.requires.world.trace c.requires.world.stands).0
@@ -64,6 +85,7 @@ returns-then-branch c = λ trace s.
     (λ trace of j d lt. ap (λ (e : Entry). chosen app trace (go_of e)) (any_default (births (entries_on o trace)) j d no_entry lt)) c.loop-at.self c.go_on.new.self k c.loop-at.invariant
     (λ trace of.
     let same : length (born_at c.args.self.now.processes.items o) ≡ length (births (entries_on o trace)) = born_length app c.args.self.now trace o of in
+    let still : length (born_at c.pass_ended.new.all.items o) ≡ length (born_at c.args.self.now.processes.items o) = ap (λ (ps : List Process). length ps) (c.pass_ended.ensures.same.same o) in
     omega (arith, c.born_count-at-end.ensures))
     (λ trace of now.
     chose_of app trace (chosen app trace (Go b.object b.place)) (gone app o trace k) _ c.go_on.new.self
@@ -92,4 +114,6 @@ returns c = λ trace s.
     (λ trace of j d lt. ap (λ (e : Entry). chosen app trace (go_of e)) (any_default (births (entries_on o trace)) j d no_entry lt)) c.loop-at.self c.loop-at.at c.loop-at.invariant
     (λ trace of.
     let same : length (born_at c.args.self.now.processes.items o) ≡ length (births (entries_on o trace)) = born_length app c.args.self.now trace o of in
-    omega (arith, c.born_count-at-end.ensures)) trace s)
+    let still : length (born_at c.pass_ended.new.all.items o) ≡ length (born_at c.args.self.now.processes.items o) = ap (λ (ps : List Process). length ps) (c.pass_ended.ensures.same.same o) in
+    let few = (c.pass_ended.ensures.ended app of.ended).within o in
+    omega (arith, c.born_count-at-end.ensures, c.ended_count-at.ensures, few)) trace s)

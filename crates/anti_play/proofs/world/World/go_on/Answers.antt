@@ -1,18 +1,34 @@
-use Rattle.std.proofs.Common.{refl, sym, ◌∙◌, rules}
-use Rattle.anti_proc.specs.Standing.{clock_of}
-use Rattle.anti_proc.specs.declared.want.Want.TheVariants.{Over}
-use Rattle.anti_play.proofs.GoOn.{which_end, ended_goes, go_over, stops_over}
+use Rattle.std.proofs.Common.{refl}
+use Rattle.anti_kind.specs.declared.actor.Actor.TheVariants.{Process as Acting}
+use Rattle.anti_play.specs.Schedule.{asking_at}
+use Rattle.anti_play.proofs.GoOn.{IsFound, go_over, go_waits, stops_over, stops_waits}
 use Rattle.anti_play.proofs.world.World.go_on.Goals as goal
+use Rattle.anti_play.proofs.world.World.go_on.Goals.{After-process}
 
-pub returns-then-is_some : goal.returns-then-is_some
-returns-then-is_some c =
-    let p = c.process-process.result.now in
-    let told = which_end c.ended.result (sym c.is_some.ensures ∙ c.if-is_some.true) in
-    let g = ended_goes c.args.app.now c.args.self.now c.args.birth c.args.at p c.ended.result told.0 told.1 c.requires.found c.process-process.ensures (c.ended.ensures.going c.args.app.now) c.ended.ensures.full in
-    record {
-      chose = λ trace s. go_over c.args.app.now c.args.self.now trace c.args.birth c.args.at p (Over told.0) (clock_of p) s g c.requires.sound told.0 refl;
-      ended = λ trace s. stops_over c.args.app.now c.args.self.now trace c.args.birth c.args.at p (Over told.0) (clock_of p) s g told.0 refl;
-    }
+-- the process is the one that was found
+goes : (c : After-process) → IsFound c.args.self.now c.args.birth c.args.at c.process.result.now
+goes c = record { found = c.requires.found; is = c.process.ensures }
 
-pub returns-then-branch-clause-ended : goal.returns-then-branch-clause-ended
-returns-then-branch-clause-ended c = λ trace s. c.in_ok-waits.ensures.ended trace s (search rules)
+pub returns-in_default-clause-chose : goal.returns-in_default-clause-chose
+returns-in_default-clause-chose c = λ trace s.
+    go_over c.args.app.now c.args.self.now trace c.args.birth c.args.at c.process.result.now s (goes ((goal.at.returns-in_default-clause-chose c).After-process)) c.requires.sound
+    (c.in_default.ensures.none c.args.app.now)
+
+pub returns-in_default-clause-ended : goal.returns-in_default-clause-ended
+returns-in_default-clause-ended c = λ trace s.
+    stops_over c.args.app.now c.args.self.now trace c.args.birth c.args.at c.process.result.now s (goes ((goal.at.returns-in_default-clause-ended c).After-process))
+    (c.in_default.ensures.none c.args.app.now)
+
+pub returns-then-is_not_ready-clause-chose : goal.returns-then-is_not_ready-clause-chose
+returns-then-is_not_ready-clause-chose c = λ trace s.
+    let asked = c.in-Some.asked in
+    go_waits c.args.app.now c.args.self.now trace c.args.birth c.args.at c.process.result.now s (goes ((goal.at.returns-then-is_not_ready-clause-chose c).After-process))
+    asked.object asked.span asked.call.now c.in-Some.ensures.going (c.in-Some.ensures.some c.args.app.now)
+    (c.is_not_ready.ensures c.args.app.now trace (asking_at trace asked.object (Acting c.args.birth) asked.span asked.call.now) c.requires.sound s refl refl c.if-is_not_ready.true).0
+
+pub returns-then-is_not_ready-clause-ended : goal.returns-then-is_not_ready-clause-ended
+returns-then-is_not_ready-clause-ended c = λ trace s.
+    let asked = c.in-Some.asked in
+    stops_waits c.args.app.now c.args.self.now trace c.args.birth c.args.at c.process.result.now s (goes ((goal.at.returns-then-is_not_ready-clause-ended c).After-process))
+    asked.object asked.span asked.call.now c.in-Some.ensures.going (c.in-Some.ensures.some c.args.app.now) c.args.self.now.processes.items
+    (c.is_not_ready.ensures c.args.app.now trace (asking_at trace asked.object (Acting c.args.birth) asked.span asked.call.now) c.requires.sound s refl refl c.if-is_not_ready.true).1

@@ -1,7 +1,7 @@
-use Rattle.std.proofs.Common.{◌≡◌, ◌<◌, ℕ, List, Option, length, vec_len, get_or, true, false, ap, ◌∙◌, arith}
+use Rattle.std.proofs.Common.{◌≡◌, ℕ, List, Option, length, vec_len, get_or, true, false, ap, ◌∙◌, arith}
 use Rattle.anti_kind.specs.declared.entry.Entry.{Entry}
 use Rattle.anti_app.specs.declared.app.App.{App}
-use Rattle.anti_app.specs.Objects.{object_count}
+use Rattle.anti_app.specs.Objects.{IsStore, object_count}
 use Rattle.anti_play.specs.Schedule.{chosen, first_of}
 use Rattle.anti_play.specs.inner.Standing.{WorldStands}
 use Rattle.anti_play.specs.inner.Finishing.{next_shipped, ships_from}
@@ -30,7 +30,7 @@ ship_next-requires-clause-store c =
     let s = (c.loop-region.invariant.each c.requires.world.trace c.requires.world.stands).0 in
     let count : length c.loop-region.self.objects.items ≡ object_count c.args.app.now = s.objects.count in
     let len : vec_len c.loop-region.self.objects ≡ length c.loop-region.self.objects.items = c.loop-region.self.objects.ok.0 in
-    let low : c.args.store < length c.args.app.now.stores.items = c.requires.store in
+    let low : IsStore c.args.app.now c.args.store = c.requires.store in
     omega arith
 
 pub returns-in_err-ship_next : goal.returns-in_err-ship_next

@@ -5,9 +5,10 @@ use Rattle.anti_app.proofs.Runnable.{can_run}
 use Rattle.anti_proc.specs.declared.process.Process.{Process}
 use Rattle.anti_play.specs.Schedule.{bearing, made_at}
 use Rattle.anti_play.specs.inner.Standing.{born_at, Changes, WorldStands}
-use Rattle.anti_play.proofs.AreBorn.{changes_then, same_changed}
+use Rattle.anti_play.proofs.AreBorn.{same_changed}
+use Rattle.anti_play.proofs.Changed.{changes_then, ended_kept}
 use Rattle.anti_play.proofs.NextEntry.{outcome_is}
-use Rattle.anti_play.proofs.Stepped.{reply_of, may_grow, has_list}
+use Rattle.anti_play.proofs.Stepped.{starts_task, may_grow, has_list}
 use Rattle.anti_play.proofs.Chose.{take_done, chose_kept}
 use Rattle.anti_play.proofs.world.World.take.Goals as goal
 use Rattle.anti_play.proofs.world.World.take.Goals.{In-Ok}
@@ -19,12 +20,12 @@ made c trace s =
     outcome_is c.args.app.now trace (bearing trace c.inbox_number.result (Take c.args.nth)) c.in_ok-entry.field-0 (Ok c.in-Ok.entry) c.in-Ok.is
     (c.in_ok-entry.ensures c.args.app.now trace c.requires.sound s refl)
 
-pub born-requires-clause-known : goal.born-requires-clause-known
-born-requires-clause-known c =
+pub born-requires-clause-starts : goal.born-requires-clause-starts
+born-requires-clause-starts c =
     let trace = c.requires.world.trace in
     let s = c.requires.world.stands in
-    reply_of c.args.app.now c.requires.sound c.args.self.now trace s (bearing trace c.inbox_number.result (Take c.args.nth)) tt refl tt c.in-Ok.entry
-    (made ((goal.at.born-requires-clause-known c).In-Ok) trace s)
+    starts_task c.args.app.now c.requires.sound c.args.self.now trace s (bearing trace c.inbox_number.result (Take c.args.nth)) tt refl tt c.in-Ok.entry
+    (made ((goal.at.born-requires-clause-starts c).In-Ok) trace s) refl
 
 pub make_entry-requires : goal.make_entry-requires
 make_entry-requires c =
@@ -33,34 +34,35 @@ make_entry-requires c =
     may_grow c.args.app.now c.requires.sound c.args.self.now trace s (bearing trace c.inbox_number.result (Take c.args.nth)) tt refl tt c.in-Ok.entry
     (made ((goal.at.make_entry-requires c).In-Ok) trace s)
 
-pub make_room-requires : goal.make_room-requires
-make_room-requires c =
+pub reserve_at-requires : goal.reserve_at-requires
+reserve_at-requires c =
     let trace = c.requires.world.trace in
     let s = c.requires.world.stands in
     let count : vec_len c.args.self.now.processes ≡ length c.args.self.now.processes.items = c.args.self.now.processes.ok.0 in
     let within : c.in-Ok.entry.object < length c.args.self.now.processes.items =
-    has_list c.args.app.now c.requires.sound c.args.self.now trace s (bearing trace c.inbox_number.result (Take c.args.nth)) tt refl tt c.in-Ok.entry (made ((goal.at.make_room-requires c).In-Ok) trace s) in
+    has_list c.args.app.now c.requires.sound c.args.self.now trace s (bearing trace c.inbox_number.result (Take c.args.nth)) tt refl tt c.in-Ok.entry (made ((goal.at.reserve_at-requires c).In-Ok) trace s) in
     omega arith
 
-pub returns-in_err-make_room : goal.returns-in_err-make_room
-returns-in_err-make_room c = λ trace s.
-    chose_kept c.args.app.now c.args.self.now _ trace _ _ c.from_residual-in_err-make_room.ensures.0 s s.objects (same_changed _ _ c.in-Ok.entry.object c.make_room.ensures.changes) refl
+pub returns-in_err-reserve_at : goal.returns-in_err-reserve_at
+returns-in_err-reserve_at c = λ trace s.
+    chose_kept c.args.app.now c.args.self.now _ trace _ _ c.from_residual-in_err-reserve_at.ensures.0 s s.objects (same_changed _ _ c.in-Ok.entry.object c.reserve_at.ensures.changes)
+    (ended_kept c.args.app.now _ _ c.in-Ok.entry.object c.reserve_at.ensures.changes s.ended) refl
 
 pub returns-in_err-make_entry : goal.returns-in_err-make_entry
 returns-in_err-make_entry c = λ trace s.
     chose_kept c.args.app.now c.args.self.now _ trace _ _ c.from_residual-in_err-make_entry.ensures.0 s (c.in_err-make_entry.ensures.err c.args.app.now trace s.objects)
-    (same_changed _ _ c.in-Ok.entry.object c.make_room.ensures.changes) refl
+    (same_changed _ _ c.in-Ok.entry.object c.reserve_at.ensures.changes) (ended_kept c.args.app.now _ _ c.in-Ok.entry.object c.reserve_at.ensures.changes s.ended) refl
 
 pub returns : goal.returns
 returns c = λ trace s.
     let object = c.in-Ok.entry.object in
     let p = c.in_ok-process.process in
     let before = c.args.self.now.processes.items in
-    let after = c.put_process.new.processes.items in
-    let room = c.make_room.ensures.changes in
+    let after = c.push_at.new.all.items in
+    let room = c.reserve_at.ensures.changes in
     let added : Changes before after object (born_at before object ++ p ∷ []) =
-    changes_then before c.make_room.new.processes.items after object (born_at before object ++ p ∷ []) room
-    (subst (λ (xs : List Process). Changes c.make_room.new.processes.items after object (xs ++ p ∷ [])) room.here_are c.put_process.ensures) in
+    changes_then before c.reserve_at.new.all.items after object (born_at before object ++ p ∷ []) room
+    (subst (λ (xs : List Process). Changes c.reserve_at.new.all.items after object (xs ++ p ∷ [])) room.here_are c.push_at.ensures) in
     take_done c.args.app.now c.requires.sound c.args.self.now _ trace c.inbox_number.result c.args.service c.args.nth c.in-Ok.entry p
     s c.inbox_number.ensures (made ((goal.at.returns c).In-Ok) trace s)
     (c.in_ok-make_entry.ensures.stand c.args.app.now)
