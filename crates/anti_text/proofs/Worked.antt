@@ -23,7 +23,7 @@ use Rattle.anti_text.specs.Calls.{call_text, reply_text}
 use Rattle.anti_text.specs.Entries.{entry_line, wait_line}
 use Rattle.anti_text.specs.Processes.{process_line}
 use Rattle.percent_encoding.specs.Percent.{percent_encode_byte}
-use Rattle.anti_proc.specs.declared.want.End.TheVariants.{Fine, Depth, StoreFull}
+use Rattle.anti_proc.specs.declared.end.End.TheVariants.{Fine, Depth, StoreFull}
 use Rattle.std.specs.List.{flat_map}
 use Rattle.anti_text.specs.Words.{lineage_text}
 use Rattle.anti_text.specs.Record.{text_of}
@@ -93,6 +93,11 @@ pub deep : process_line app taken (Some Depth) ≡ codes "process w.1 w one dept
 unfolding digits
 deep = refl
 
+-- an entry that starts nothing has no names
+pub nameless : process_line app written (Some Fine) ≡ codes "process s.1   fine\n"
+unfolding digits
+nameless = refl
+
 pub open-yet : process_line app taken None ≡ codes "process w.1 w one open\n"
 unfolding digits
 open-yet = refl
@@ -149,6 +154,14 @@ part = refl
 pub pull : entry_line subscribed pulled ≡ codes "8 q.4 q.4/1 pull more = c#1@1 \"v\" 1;\n"
 unfolding digits percent_encode_byte
 pull = refl
+
+pub acked : call_text subscribed 1 (calls.Ack 12) ≡ codes "ack 12"
+unfolding digits
+acked = refl
+
+pub nacked : call_text subscribed 1 (calls.Nack 12) ≡ codes "nack 12"
+unfolding digits
+nacked = refl
 
 pub repull : call_text subscribed 1 (calls.Repull 0 12) ≡ codes "repull fans 12"
 unfolding digits

@@ -34,16 +34,19 @@ posted_text m kind = kind_text kind ++ codes " " ++ handler_and_rest m
 -- a message as it is taken: a reply to a call says its value and its lineage alone
 abbrev pub taken_text : ℕ → Message → MessageKind → List ℕ
 taken_text number m messages.Reply = value_and_baggage m
-taken_text number m kind = decimal number ++ codes " " ++ kind_text kind ++ codes " " ++ handler_and_rest m
+taken_text number m kind =
+    decimal number ++ codes " " ++ kind_text kind ++ codes " " ++ handler_and_rest m
 
 -- a key at a region, and a version and its part at a region
 abbrev pub key_at_region : App → ℕ → List ℕ → List ℕ
 key_at_region app region key = region_name app region ++ codes " " ++ key
 
 abbrev pub part_at_region : App → ℕ → ℕ → ℕ → List ℕ
-part_at_region app region version part = region_name app region ++ codes " " ++ decimal version ++ codes " " ++ decimal part
+part_at_region app region version part =
+    region_name app region ++ codes " " ++ decimal version ++ codes " " ++ decimal part
 
--- a call at the object with a number; a pull names the sub at its position among those of that store
+-- a call at the object with a number; a pull names the sub at its position among those of that
+-- store
 abbrev pub call_text : App → ℕ → Call → List ℕ
 call_text app object (calls.Write key value lineage) =
     codes "write " ++ key ++ codes " " ++ quoted value ++ codes " " ++ lineage_text app lineage
@@ -51,9 +54,12 @@ call_text app object (calls.Read region key) = codes "read " ++ key_at_region ap
 call_text app object (calls.Scan region prefix) = codes "scan " ++ key_at_region app region prefix
 call_text app object (calls.Poll region key) = codes "poll " ++ key_at_region app region key
 call_text app object (calls.Look region ids dry) =
-    (if dry then codes "dry " else codes "look ") ++ region_name app region ++ codes " " ++ lineage_text app ids
-call_text app object (calls.Ship region version part) = codes "ship " ++ part_at_region app region version part
-call_text app object (calls.Again region version part) = codes "again " ++ part_at_region app region version part
+    (if dry then codes "dry " else codes "look ")
+    ++ region_name app region ++ codes " " ++ lineage_text app ids
+call_text app object (calls.Ship region version part) =
+    codes "ship " ++ part_at_region app region version part
+call_text app object (calls.Again region version part) =
+    codes "again " ++ part_at_region app region version part
 call_text app object (calls.Pull sub) = codes "pull " ++ sub_name_on app object sub
 call_text app object (calls.Repull sub version) =
     codes "repull " ++ sub_name_on app object sub ++ codes " " ++ decimal version
@@ -72,7 +78,8 @@ version_text key version = key ++ codes "@" ++ decimal version
 abbrev pub row_text : App → Row → List ℕ
 row_text app row =
     if row.version == 0 then row.key ++ codes "@0"
-    else version_text row.key row.version ++ codes " " ++ quoted row.value ++ codes " " ++ lineage_text app row.lineage
+    else version_text row.key row.version
+    ++ codes " " ++ quoted row.value ++ codes " " ++ lineage_text app row.lineage
 
 abbrev pub rows_text : App → List Row → List ℕ
 rows_text app [] = codes "none"
@@ -81,7 +88,8 @@ rows_text app (row ∷ rows) = join_by (row_text app) (codes " + ") (row ∷ row
 -- what a look named: nothing, or the writes that are missing and those that were never written
 abbrev pub look_text : App → List WriteId → List WriteId → List ℕ
 look_text app [] [] = codes "clear"
-look_text app missing unwritten = codes "missing " ++ lineage_text app missing ++ codes " unwritten " ++ lineage_text app unwritten
+look_text app missing unwritten =
+    codes "missing " ++ lineage_text app missing ++ codes " unwritten " ++ lineage_text app unwritten
 
 abbrev pub reply_text : App → Reply → List ℕ
 reply_text app (replies.Written key version) = version_text key version

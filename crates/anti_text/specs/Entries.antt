@@ -27,8 +27,10 @@ actor_text app actor span = actor_name app actor ++ span_text actor span
 -- an entry, as `2 s.1 w.1/1 write k "a" 1; = k@1`
 abbrev pub entry_line : App → Entry → List ℕ
 entry_line app e =
-    decimal e.stamp ++ codes " " ++ mark_text app e.object e.place ++ codes " " ++ actor_text app e.actor e.span
-    ++ codes " " ++ call_text app e.object e.call ++ codes " = " ++ reply_text app e.reply ++ codes "\n"
+    decimal e.stamp
+    ++ codes " " ++ mark_text app e.object e.place ++ codes " " ++ actor_text app e.actor e.span
+    ++ codes " " ++ call_text app e.object e.call ++ codes " = " ++ reply_text app e.reply
+    ++ codes "\n"
 
 -- a choice in its own words; a part that was left out stays out
 abbrev pub part_text : Option ℕ → List ℕ
@@ -38,22 +40,30 @@ part_text (Some part) = codes " " ++ decimal part
 -- a store, a region, a version and a part where one was given
 abbrev pub shipment_text : App → ℕ → ℕ → ℕ → Option ℕ → List ℕ
 shipment_text app store region version part =
-    store_name app store ++ codes " " ++ region_name app region ++ codes " " ++ decimal version ++ part_text part
+    store_name app store ++ codes " " ++ region_name app region
+    ++ codes " " ++ decimal version ++ part_text part
 
 abbrev pub choice_text : App → Choice → List ℕ
-choice_text app (Take service nth) = codes "take " ++ service_name app service ++ codes " " ++ decimal nth
-choice_text app (Repost service number) = codes "repost " ++ service_name app service ++ codes " " ++ decimal number
+choice_text app (Take service nth) =
+    codes "take " ++ service_name app service ++ codes " " ++ decimal nth
+choice_text app (Repost service number) =
+    codes "repost " ++ service_name app service ++ codes " " ++ decimal number
 choice_text app (Pull sub) = codes "pull " ++ sub_name app sub
-choice_text app (Repull sub version) = codes "repull " ++ sub_name app sub ++ codes " " ++ decimal version
-choice_text app (Ship store region version part) = codes "ship " ++ shipment_text app store region version part
-choice_text app (Again store region version part) = codes "again " ++ shipment_text app store region version part
+choice_text app (Repull sub version) =
+    codes "repull " ++ sub_name app sub ++ codes " " ++ decimal version
+choice_text app (Ship store region version part) =
+    codes "ship " ++ shipment_text app store region version part
+choice_text app (Again store region version part) =
+    codes "again " ++ shipment_text app store region version part
 choice_text app (Go object place) = codes "go " ++ mark_text app object place
 choice_text app Finish = codes "finish"
 
 -- the choice with a number, counted from 1; no text where there is none
 abbrev pub choice_numbered : App → ℕ → List ℕ
-choice_numbered app number = option_map_or (choice_text app) (slice_get app.choices.items (number - 1)) []
+choice_numbered app number =
+    option_map_or (choice_text app) (slice_get app.choices.items (number - 1)) []
 
 -- a choice that made no entry, as `wait 5 go w.1`
 abbrev pub wait_line : App → ℕ → List ℕ
-wait_line app number = codes "wait " ++ decimal number ++ codes " " ++ choice_numbered app number ++ codes "\n"
+wait_line app number =
+    codes "wait " ++ decimal number ++ codes " " ++ choice_numbered app number ++ codes "\n"

@@ -1,27 +1,20 @@
 -- The lines of the processes.
-use Rattle.std.specs.Prelude.{ℕ, zero, suc, ◌&&◌, Bool, false, not, List, [], ◌++◌, codes, if◌then◌else◌, Option, Some, None, slice_get}
+use Rattle.std.specs.Prelude.{ℕ, zero, suc, ◌&&◌, Bool, false, not, List, [], ◌++◌, codes, if◌then◌else◌, Option, Some, None}
 use Rattle.std.specs.List.{flat_map}
-use Rattle.std.specs.Option.{option_and_then, option_map_or}
 use Rattle.anti_kind.specs.declared.actor.Actor.TheVariants.{Process}
 use Rattle.anti_kind.specs.declared.actor.Birth.{Birth}
 use Rattle.anti_kind.specs.declared.call.Call.{Call}
-use Rattle.anti_kind.specs.declared.call.Call.TheVariants as calls
 use Rattle.anti_kind.specs.declared.entry.Entry.{Entry}
-use Rattle.anti_kind.specs.declared.call.Reply.{Reply}
-use Rattle.anti_kind.specs.declared.call.Reply.TheVariants as replies
 use Rattle.anti_kind.specs.Objects.{Start, ready, fits}
 use Rattle.anti_app.specs.declared.app.App.{App}
-use Rattle.anti_app.specs.declared.app.SubDef.{SubDef}
-use Rattle.anti_app.specs.Objects.{service_at}
-use Rattle.anti_app.specs.Subs.{number_on}
 use Rattle.anti_object.specs.Starts.{start_of}
 use Rattle.anti_proc.specs.Births.{birth_at, is_birth}
 use Rattle.anti_proc.specs.Meaning.{process_after}
-use Rattle.anti_proc.specs.Trees.{want_of}
-use Rattle.anti_proc.specs.declared.want.Want.{Want}
-use Rattle.anti_proc.specs.declared.want.Want.TheVariants.{Make, Over}
-use Rattle.anti_proc.specs.declared.want.End.{End}
-use Rattle.anti_proc.specs.declared.want.End.TheVariants.{Fine, Depth, BadKey, LineageFull, StoreFull}
+use Rattle.anti_proc.specs.Tasks.{role_of}
+use Rattle.anti_proc.specs.Trees.{Want, Make, Over, want_of}
+use Rattle.anti_proc.specs.declared.task.Role.{Role}
+use Rattle.anti_proc.specs.declared.end.End.{End}
+use Rattle.anti_proc.specs.declared.end.End.TheVariants.{Fine, Depth, BadKey, LineageFull, StoreFull}
 use Rattle.anti_trace.specs.Traces.{is_on, entries_on, entries_by}
 use Rattle.anti_text.specs.Words.{service_name, handler_name, object_name, mark_text}
 
@@ -30,16 +23,19 @@ abbrev pub is_full_after : List Entry → Call → Option Start → Bool
 is_full_after history call (Some start) = ready start history call && not (fits start history call)
 is_full_after history call None = false
 
--- How a process ended that wants this after all that it did in the trace: its handler ended, or its next call is ready after all
--- that was done there on its object, and does not fit. Otherwise it did not end.
+-- How a process ended that wants this after all that it did in the trace: its handler ended, or its
+-- next call is ready after all that was done there on its object, and does not fit. Otherwise it
+-- did not end.
 abbrev pub ended_in : App → List Entry → Want → Option End
 ended_in app trace (Make object span call) =
-    if is_full_after (entries_on object trace) call (start_of app object) then Some (StoreFull object) else None
+    if is_full_after (entries_on object trace) call (start_of app object)
+    then Some (StoreFull object) else None
 ended_in app trace (Over end) = Some end
 
 -- how a process ended by the end of the trace, where it did
 abbrev pub end_in : App → List Entry → Birth → Option End
-end_in app trace birth = ended_in app trace (want_of (process_after app (entries_by (Process birth) trace)))
+end_in app trace birth =
+    ended_in app trace (want_of (process_after app (entries_by (Process birth) trace)))
 
 abbrev pub end_text : App → Option End → List ℕ
 end_text app (Some Fine) = codes "fine"
@@ -49,42 +45,21 @@ end_text app (Some LineageFull) = codes "lineage"
 end_text app (Some (StoreFull object)) = codes "store " ++ object_name app object
 end_text app None = codes "open"
 
--- The service and the handler that a birth runs. A pull starts the handler of its sub; what is taken from an inbox starts, in the
--- service of the inbox, the handler that the message names.
-
--- the sub at a position among those of a store
-abbrev pub sub_on : App → ℕ → ℕ → Option SubDef
-sub_on app store position = option_and_then (λ number. slice_get app.subs.items number) (number_on app store position)
-
-abbrev pub sub_service : App → ℕ → ℕ → List ℕ
-sub_service app store position = option_map_or (λ sub. service_name app sub.service) (sub_on app store position) []
-
-abbrev pub sub_handler : App → ℕ → ℕ → List ℕ
-sub_handler app store position = option_map_or (λ sub. handler_name app sub.service sub.handler) (sub_on app store position) []
-
-abbrev pub service_text : App → ℕ → Call → List ℕ
-service_text app object (calls.Pull sub) = sub_service app object sub
-service_text app object (calls.Repull sub version) = sub_service app object sub
-service_text app object _ = service_name app (service_at app object)
-
-abbrev pub handler_taken : Reply → List ℕ
-handler_taken (replies.Got number message) = message.handler
-handler_taken _ = []
-
-abbrev pub handler_text : App → ℕ → Call → Reply → List ℕ
-handler_text app object (calls.Pull sub) reply = sub_handler app object sub
-handler_text app object (calls.Repull sub version) reply = sub_handler app object sub
-handler_text app object _ reply = handler_taken reply
+-- the names of the service and the handler of a role; where there is no role, nothing stands for
+-- them
+abbrev pub role_text : App → Option Role → List ℕ
+role_text app (Some role) =
+    service_name app role.service ++ codes " " ++ handler_name app role.service role.handler
+role_text app None = codes " "
 
 -- a birth, as `w.1 w one`: its place, and the service and the handler that it runs
 abbrev pub birth_text : App → Entry → List ℕ
-birth_text app e =
-    mark_text app e.object e.place ++ codes " " ++ service_text app e.object e.call
-    ++ codes " " ++ handler_text app e.object e.call e.reply
+birth_text app e = mark_text app e.object e.place ++ codes " " ++ role_text app (role_of app e)
 
 -- the process of a birth, as `process w.1 w one fine`
 abbrev pub process_line : App → Entry → Option End → List ℕ
-process_line app e end = codes "process " ++ birth_text app e ++ codes " " ++ end_text app end ++ codes "\n"
+process_line app e end =
+    codes "process " ++ birth_text app e ++ codes " " ++ end_text app end ++ codes "\n"
 
 -- the line of the process that an entry starts on an object; no text, where it starts none there
 abbrev pub birth_line : App → List Entry → ℕ → Entry → List ℕ
@@ -94,4 +69,5 @@ birth_line app trace object e =
 -- the lines of the processes that were born on the first so many objects, object by object
 abbrev pub process_lines : App → List Entry → ℕ → List ℕ
 process_lines app trace zero = []
-process_lines app trace (suc object) = process_lines app trace object ++ flat_map (birth_line app trace object) trace
+process_lines app trace (suc object) =
+    process_lines app trace object ++ flat_map (birth_line app trace object) trace

@@ -11,7 +11,8 @@ use Rattle.anti_app.specs.Subs.{number_on}
 use Rattle.anti_baggage.specs.Escapes.{escaped}
 use Rattle.anti_baggage.specs.Texts as texts
 
--- the name of a store, of a service, of a handler of a service, of a sub and of a region by its number; no text where there is none
+-- the name of a store, of a service, of a handler of a service, of a sub and of a region by its
+-- number; no text where there is none
 abbrev pub store_name : App → ℕ → List ℕ
 store_name app store = option_map_or (λ s. s.name) (slice_get app.stores.items store) []
 
@@ -22,7 +23,8 @@ abbrev pub name_among : ℕ → List HandlerDef → List ℕ
 name_among handler handlers = option_map_or (λ h. h.name) (slice_get handlers handler) []
 
 abbrev pub handler_name : App → ℕ → ℕ → List ℕ
-handler_name app service handler = option_map_or (λ s. name_among handler s.handlers.items) (slice_get app.services.items service) []
+handler_name app service handler =
+    option_map_or (λ s. name_among handler s.handlers.items) (slice_get app.services.items service) []
 
 abbrev pub sub_name : App → ℕ → List ℕ
 sub_name app sub = option_map_or (λ s. s.name) (slice_get app.subs.items sub) []

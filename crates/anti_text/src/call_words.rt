@@ -1,11 +1,12 @@
-ghost use Rattle.std.specs.Prelude.{◌≡◌, ◌++◌, OnOk};
+ghost use Rattle.std.specs.Prelude.{◌≡◌, ◌++◌, if◌then◌else◌, OnOk, codes, decimal};
 ghost use Rattle.anti_text.specs.Calls.{kind_text, value_and_baggage, handler_and_rest, posted_text, key_at_region, part_at_region, call_text};
+ghost use Rattle.anti_text.specs.Words.{region_name, quoted, lineage_text};
 
 use crate::output::Output;
 use crate::printer::Printer;
 use crate::words::{quoted, region_name, sub_name_on};
 use anti_app::App;
-use anti_ids::{Name, NoMemory};
+use anti_ids::{Lineage, Name, NoMemory, Value};
 use anti_kind::{Call, Message, MessageKind};
 
 /// Writes the kind of a message.
@@ -59,30 +60,116 @@ fn posted_text(out: &mut Output, message: &Message, kind: MessageKind) -> Result
     }
 }
 
-// Writes a key at a region.
-fn key_at_region(out: &mut Output, app: &App, region: u32, key: &Name) -> Result<(), NoMemory>
-    ensures { OnOk result (out.new ≡ out.old ++ key_at_region app.now region key.now) }
+// Writes the call that posts a message.
+fn post_text(out: &mut Output, message: &Message) -> Result<(), NoMemory>
+    ensures { OnOk result (out.new ≡ out.old
+        ++ codes "post " ++ posted_text message.now message.now.kind) }
 {
+    out.put(b"post ")?;
+    posted_text(out, message, message.kind)
+}
+
+// Writes a word and a key at a region.
+fn keyed(out: &mut Output, app: &App, word: &[u8], region: u32, key: &Name) -> Result<(), NoMemory>
+    ensures { OnOk result (out.new ≡ out.old ++ word.now ++ key_at_region app.now region key.now) }
+{
+    out.put(word)?;
     region_name(out, app, region)?;
     out.put(b" ")?;
     out.put(key.bytes())
 }
 
-// Writes a version and its part at a region.
-fn part_at_region(
+// Writes a word, and a version and its part at a region.
+fn parted(
     out: &mut Output,
     app: &App,
+    word: &[u8],
     region: u32,
     version: u64,
     part: u32,
 ) -> Result<(), NoMemory>
-    ensures { OnOk result (out.new ≡ out.old ++ part_at_region app.now region version part) }
+    ensures { OnOk result (out.new ≡ out.old
+        ++ word.now ++ part_at_region app.now region version part) }
 {
+    out.put(word)?;
     region_name(out, app, region)?;
     out.put(b" ")?;
     out.number(version)?;
     out.put(b" ")?;
     out.number(u64::from(part))
+}
+
+// Writes a word and a number.
+fn numbered(out: &mut Output, word: &[u8], number: u64) -> Result<(), NoMemory>
+    ensures { OnOk result (out.new ≡ out.old ++ word.now ++ decimal number) }
+{
+    out.put(word)?;
+    out.number(number)
+}
+
+// Writes the call that writes a value to a key.
+fn write_text(
+    out: &mut Output,
+    printer: &Printer,
+    key: &Name,
+    value: &Value,
+    lineage: &Lineage,
+) -> Result<(), NoMemory>
+    ensures { OnOk result (out.new ≡ out.old ++ codes "write " ++ key.now ++ codes " "
+        ++ quoted value.now ++ codes " " ++ lineage_text printer.now.app.now lineage.now) }
+{
+    out.put(b"write ")?;
+    out.put(key.bytes())?;
+    out.put(b" ")?;
+    quoted(out, value.bytes())?;
+    out.put(b" ")?;
+    printer.lineage(out, lineage)
+}
+
+// Writes a look of a barrier or of a dry run.
+fn look_text(
+    out: &mut Output,
+    printer: &Printer,
+    region: u32,
+    ids: &Lineage,
+    dry: bool,
+) -> Result<(), NoMemory>
+    ensures { OnOk result (out.new ≡ out.old ++ (if dry then codes "dry " else codes "look ")
+        ++ region_name printer.now.app.now region
+        ++ codes " " ++ lineage_text printer.now.app.now ids.now) }
+{
+    if dry {
+        out.put(b"dry ")?;
+    } else {
+        out.put(b"look ")?;
+    }
+    region_name(out, printer.app, region)?;
+    out.put(b" ")?;
+    printer.lineage(out, ids)
+}
+
+// Writes the call that takes the next message or cell for a subscription of the store.
+fn pull_text(out: &mut Output, app: &App, store: u32, sub: u32) -> Result<(), NoMemory>
+    ensures { OnOk result (out.new ≡ out.old ++ call_text app.now store (Call.Pull sub)) }
+{
+    out.put(b"pull ")?;
+    sub_name_on(out, app, store, sub)
+}
+
+// Writes the call that takes a cell once more for a subscription of the store.
+fn repull_text(
+    out: &mut Output,
+    app: &App,
+    store: u32,
+    sub: u32,
+    version: u64,
+) -> Result<(), NoMemory>
+    ensures { OnOk result (out.new ≡ out.old
+        ++ call_text app.now store (Call.Repull sub version)) }
+{
+    out.put(b"repull ")?;
+    sub_name_on(out, app, store, sub)?;
+    numbered(out, b" ", version)
 }
 
 /// Writes a call at the object with a number.
@@ -100,85 +187,28 @@ pub fn call_text(
             key,
             value,
             lineage,
-        } => {
-            out.put(b"write ")?;
-            out.put(key.bytes())?;
-            out.put(b" ")?;
-            quoted(out, value.bytes())?;
-            out.put(b" ")?;
-            printer.lineage(out, lineage)
-        }
-        Call::Read { region, key } => {
-            out.put(b"read ")?;
-            key_at_region(out, app, *region, key)
-        }
-        Call::Scan { region, prefix } => {
-            out.put(b"scan ")?;
-            key_at_region(out, app, *region, prefix)
-        }
-        Call::Poll { region, key } => {
-            out.put(b"poll ")?;
-            key_at_region(out, app, *region, key)
-        }
-        Call::Look { region, ids, dry } => {
-            if *dry {
-                out.put(b"dry ")?;
-            } else {
-                out.put(b"look ")?;
-            }
-            region_name(out, app, *region)?;
-            out.put(b" ")?;
-            printer.lineage(out, ids)
-        }
+        } => write_text(out, printer, key, value, lineage),
+        Call::Read { region, key } => keyed(out, app, b"read ", *region, key),
+        Call::Scan { region, prefix } => keyed(out, app, b"scan ", *region, prefix),
+        Call::Poll { region, key } => keyed(out, app, b"poll ", *region, key),
+        Call::Look { region, ids, dry } => look_text(out, printer, *region, ids, *dry),
         Call::Ship {
             region,
             version,
             part,
-        } => {
-            out.put(b"ship ")?;
-            part_at_region(out, app, *region, *version, *part)
-        }
+        } => parted(out, app, b"ship ", *region, *version, *part),
         Call::Again {
             region,
             version,
             part,
-        } => {
-            out.put(b"again ")?;
-            part_at_region(out, app, *region, *version, *part)
-        }
-        Call::Pull { sub } => {
-            out.put(b"pull ")?;
-            sub_name_on(out, app, object, *sub)
-        }
-        Call::Repull { sub, version } => {
-            out.put(b"repull ")?;
-            sub_name_on(out, app, object, *sub)?;
-            out.put(b" ")?;
-            out.number(*version)
-        }
-        Call::Ack { version } => {
-            out.put(b"ack ")?;
-            out.number(*version)
-        }
-        Call::Nack { version } => {
-            out.put(b"nack ")?;
-            out.number(*version)
-        }
-        Call::Post { message } => {
-            out.put(b"post ")?;
-            posted_text(out, message, message.kind)
-        }
-        Call::Take { nth } => {
-            out.put(b"take ")?;
-            out.number(u64::from(*nth))
-        }
-        Call::Repost { number } => {
-            out.put(b"repost ")?;
-            out.number(u64::from(*number))
-        }
-        Call::TakeReply { number } => {
-            out.put(b"takereply ")?;
-            out.number(u64::from(*number))
-        }
+        } => parted(out, app, b"again ", *region, *version, *part),
+        Call::Pull { sub } => pull_text(out, app, object, *sub),
+        Call::Repull { sub, version } => repull_text(out, app, object, *sub, *version),
+        Call::Ack { version } => numbered(out, b"ack ", *version),
+        Call::Nack { version } => numbered(out, b"nack ", *version),
+        Call::Post { message } => post_text(out, message),
+        Call::Take { nth } => numbered(out, b"take ", u64::from(*nth)),
+        Call::Repost { number } => numbered(out, b"repost ", u64::from(*number)),
+        Call::TakeReply { number } => numbered(out, b"takereply ", u64::from(*number)),
     }
 }

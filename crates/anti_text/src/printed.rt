@@ -18,7 +18,8 @@ use std::alloc::Global;
 
 // Writes the lines of the entries.
 fn entry_lines(out: &mut Output, printer: &Printer, trace: &[Entry]) -> Result<(), NoMemory>
-    ensures { OnOk result (out.new ≡ out.old ++ flat_map (entry_line printer.now.app.now) trace.now) }
+    ensures { OnOk result
+        (out.new ≡ out.old ++ flat_map (entry_line printer.now.app.now) trace.now) }
 {
     for entry in trace {
         entry_line(out, printer, entry)?;
@@ -36,8 +37,8 @@ fn wait_lines(out: &mut Output, app: &App, waits: &[u32]) -> Result<(), NoMemory
     Ok(())
 }
 
-/// The record of a run of an application: a line for each entry in the order of the trace, for each choice that made no entry, and
-/// for each process. The only error is want of memory.
+/// The record of a run of an application: a line for each entry in the order of the trace, for each
+/// choice that made no entry, and for each process. The only error is want of memory.
 pub fn text(alloc: Global, app: &App, trace: &Trace, waits: &Waits) -> Result<Bytes, NoMemory>
     requires { IsReplayable app.now trace.now }
     ensures { IfOk result (λ t. t ≡ plain (text_of app.now trace.now waits.now.items)) }

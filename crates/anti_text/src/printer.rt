@@ -7,7 +7,8 @@ use anti_app::{App, store_names};
 use anti_ids::{Lineage, Name, NoMemory};
 use std::alloc::Global;
 
-/// What the lines of a record are printed of: an application, the names of whose stores are read once.
+/// What the lines of a record are printed of: an application, the names of whose stores are read
+/// once.
 #[derive(Drop)]
 pub struct Printer<'a> {
     alloc: Global,

@@ -17,7 +17,9 @@ use std::alloc::Global;
 // Makes the call of an entry that follows on what an object stands for.
 fn make(object: &mut Object, entry: &Entry) -> Result<(), NoMemory>
     requires { MayMake object.old entry.now.call }
-    ensures stands { (h : List Entry) → ObjectAt object.old h → Follows (object_start object.old) h entry.now → OnOk result (ObjectAt object.new (h ++ entry.now ∷ [])) }
+    ensures stands { (h : List Entry)
+        → ObjectAt object.old h → Follows (object_start object.old) h entry.now
+        → OnOk result (ObjectAt object.new (h ++ entry.now ∷ [])) }
     ensures start { object_start object.new ≡ object_start object.old }
 {
     let _reply = object.apply(&entry.call)?;
@@ -67,7 +69,8 @@ fn add(objects: &mut Vec<Object>, object: Object) -> Result<(), NoMemory>
 /// The objects of an application, each after its history in a trace.
 pub fn objects_after(alloc: Global, app: &App, trace: &[Entry]) -> Result<Vec<Object>, NoMemory>
     requires { IsReplayable app.now trace.now }
-    ensures { IfOk result (λ objects. AreAfter app.now trace.now (object_count app.now) objects.items) }
+    ensures { IfOk result
+        (λ objects. AreAfter app.now trace.now (object_count app.now) objects.items) }
 {
     let mut objects = Vec::new(alloc);
     for number in 0..object_count(app) {

@@ -83,7 +83,8 @@ fn look_text(
     missing: &Lineage,
     unwritten: &Lineage,
 ) -> Result<(), NoMemory>
-    ensures { OnOk result (out.new ≡ out.old ++ look_text printer.now.app.now missing.now unwritten.now) }
+    ensures { OnOk result
+        (out.new ≡ out.old ++ look_text printer.now.app.now missing.now unwritten.now) }
 {
     if are_empty(missing, unwritten) {
         return out.put(b"clear");

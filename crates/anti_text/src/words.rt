@@ -80,7 +80,8 @@ pub fn region_name(out: &mut Output, app: &App, region: u32) -> Result<(), NoMem
     }
 }
 
-/// Writes the name of an object, by its number: that of the store, or of the service whose inbox it is.
+/// Writes the name of an object, by its number: that of the store, or of the service whose inbox
+/// it is.
 pub fn object_name(out: &mut Output, app: &App, object: u32) -> Result<(), NoMemory>
     ensures { OnOk result (out.new ≡ out.old ++ object_name app.now object) }
 {

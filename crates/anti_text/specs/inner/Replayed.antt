@@ -13,6 +13,8 @@ pub record IsAfter (app : App) (trace : List Entry) (o : ℕ) (x : Object) : Typ
   pub stands : ObjectAt x (entries_on o trace)
 
 -- the first objects of the application, so many of them, each after its history in the trace
-pub record AreAfter (app : App) (trace : List Entry) (count : ℕ) (objects : List Object) : Type 0 where
+pub record AreAfter
+    (app : App) (trace : List Entry) (count : ℕ) (objects : List Object) : Type 0 where
   pub many : length objects ≡ count
-  pub each : (o : ℕ) (d : Object) → o < length objects → IsAfter app trace o (slice_index_or objects o d)
+  pub each : (o : ℕ) (d : Object)
+      → o < length objects → IsAfter app trace o (slice_index_or objects o d)
