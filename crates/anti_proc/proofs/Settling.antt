@@ -126,6 +126,6 @@ gone_on app r draft way cursor stage next o before is goes =
 
 -- one that goes on was not ended as full
 pub goes_on : (app : App) (r : Run) (a : Advance) → AdvanceHasSpans app (Runs r) a → full_by a ≡ None
-goes_on app r (Goes cursor changes next) fits = refl
+goes_on app r (Goes going) fits = refl
 goes_on app r (Over end) fits = refl
 goes_on app r (Full object) fits = absurd fits

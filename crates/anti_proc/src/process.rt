@@ -148,12 +148,8 @@ impl Process {
         match advance {
             Advance::Over(end) => self.life = Life::Over(end),
             Advance::Full(object) => self.life = Life::Full(object),
-            Advance::Goes {
-                cursor,
-                changes,
-                next,
-            } => match &mut self.life {
-                Life::Runs(run) => run.take(cursor, changes, next),
+            Advance::Goes(going) => match &mut self.life {
+                Life::Runs(run) => run.take(Box::into_inner(going)),
                 Life::Over(_) | Life::Full(_) => {}
             },
         }

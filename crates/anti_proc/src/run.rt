@@ -6,7 +6,7 @@ ghost use Rattle.anti_proc.specs.Meaning.{after_read, after_reply, after_write, 
 ghost use Rattle.anti_proc.specs.Local.{set_or};
 ghost use Rattle.anti_proc.specs.Trees.{branch};
 ghost use Rattle.anti_proc.specs.inner.Running.{AdvanceHasSpans, HasSpans, LifeHasSpans};
-ghost use Rattle.anti_proc.specs.inner.Standing.{full_in, going, life_tree, local_by, local_in, local_of, run_after, run_of, setting, stage_or, stage_tree, variables_in};
+ghost use Rattle.anti_proc.specs.inner.Standing.{full_in, going, life_tree, local_by, local_in, local_of, run_after, run_going, run_of, setting, stage_or, stage_tree, variables_in};
 ghost use Rattle.anti_proc.specs.inner.Statements.{came_by};
 
 use crate::cursor::Cursor;
@@ -43,15 +43,19 @@ pub enum Life {
     Full(u32),
 }
 
-/// What a reply makes of a process. The process itself is still as it was.
+/// How a process goes on to a further call: how far it is then, what it knows, and the call.
+#[derive(Drop)]
+pub struct Going {
+    pub cursor: Cursor,
+    pub changes: Changes,
+    pub next: Next,
+}
+
+/// What a reply makes of a process. The process itself is still as it was. It is handed from call to call, so it is small.
 #[derive(Drop)]
 pub enum Advance {
     /// It goes on to a further call.
-    Goes {
-        cursor: Cursor,
-        changes: Changes,
-        next: Next,
-    },
+    Goes(Box<Going>),
     /// It ended by its body.
     Over(BodyEnd),
     /// It had ended, since a call did not fit on the object of this number.
@@ -154,11 +158,14 @@ impl Run {
         };
         match stage {
             Stage::Over(end) => Ok(Advance::Over(end)),
-            Stage::Asks(next) => Ok(Advance::Goes {
-                cursor: way.cursor,
-                changes: way.draft.changes,
-                next,
-            }),
+            Stage::Asks(next) => {
+                let going = Going {
+                    cursor: way.cursor,
+                    changes: way.draft.changes,
+                    next,
+                };
+                Ok(Advance::Goes(Box::new(self.given.alloc, going)?))
+            }
         }
     }
 
@@ -310,14 +317,18 @@ impl Run {
         }
     }
 
-    /// Takes over what a reply made of it, where there is room for one variable more. It takes no memory.
-    pub fn take(&mut self, cursor: Cursor, changes: Changes, next: Next)
+    /// Takes over how it goes on, where there is room for one variable more. It takes no memory.
+    pub fn take(&mut self, going: Going)
         requires { 0 < self.old.state.variables.spare }
-        ensures tree { (app : App) → run_of app self.new
-            ≡ run_after app self.old (Advance.Goes cursor changes next) }
-        ensures spans { (app : App) → HasSpans app self.old.given.role cursor changes.span
+        ensures tree { (app : App) → run_of app self.new ≡ run_going app self.old going }
+        ensures spans { (app : App) → HasSpans app self.old.given.role going.cursor going.changes.span
             → LifeHasSpans app (Life.Runs self.new) }
     {
+        let Going {
+            cursor,
+            changes,
+            next,
+        } = going;
         self.cursor = cursor;
         self.state.take(self.given.alloc, changes);
         self.next = next;

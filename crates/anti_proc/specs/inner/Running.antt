@@ -26,8 +26,8 @@ IsRunOf app p = LifeHasSpans app p.life
 
 -- The same after a reply. One that goes on was not ended by a call that did not fit.
 abbrev pub AdvanceHasSpans : App → Life → Advance → Type 0
-AdvanceHasSpans app (lives.Runs r) (advances.Goes cursor changes next) =
-    HasSpans app r.given.role cursor changes.span
+AdvanceHasSpans app (lives.Runs r) (advances.Goes going) =
+    HasSpans app r.given.role going.value.cursor going.value.changes.span
 AdvanceHasSpans app (lives.Runs r) (advances.Full object) = ⊥
 AdvanceHasSpans app _ _ = Unit {0}
 

@@ -19,6 +19,7 @@ use Rattle.anti_proc.specs.declared.next.Stage.TheVariants as stages
 use Rattle.anti_proc.specs.declared.process.Process.{Process}
 use Rattle.anti_proc.specs.declared.run.Advance.{Advance}
 use Rattle.anti_proc.specs.declared.run.Advance.TheVariants as advances
+use Rattle.anti_proc.specs.declared.run.Going.{Going}
 use Rattle.anti_proc.specs.declared.run.Life.{Life}
 use Rattle.anti_proc.specs.declared.run.Life.TheVariants as lives
 use Rattle.anti_proc.specs.declared.run.Run.{Run}
@@ -177,10 +178,14 @@ birth_of p = p.birth
 
 -- ---- one reply more
 
--- everything that a handler may do after a reply was taken in
+-- everything that a handler may do that goes on so
+abbrev pub run_going : App → Run → Going → Tree
+run_going app r g =
+    next_tree g.next (setting app r.given) (local_by g.changes r.state.variables.items) (going app r.given g.cursor)
+
+-- the same of one that may have ended
 abbrev pub run_after : App → Run → Advance → Tree
-run_after app r (advances.Goes cursor changes next) =
-    next_tree next (setting app r.given) (local_by changes r.state.variables.items) (going app r.given cursor)
+run_after app r (advances.Goes going) = run_going app r going.value
 run_after app r (advances.Over end) = Ends end
 run_after app r (advances.Full object) = Ends Fine
 
@@ -189,7 +194,7 @@ abbrev pub life_after : App → Life → Advance → Tree
 life_after app (lives.Runs r) a = run_after app r a
 life_after app life (advances.Over end) = Ends end
 life_after app life (advances.Full object) = Ends Fine
-life_after app life (advances.Goes cursor changes next) = life_tree app life
+life_after app life (advances.Goes going) = life_tree app life
 
 abbrev pub advanced : App → Process → Advance → Tree
 advanced app p a = life_after app p.life a

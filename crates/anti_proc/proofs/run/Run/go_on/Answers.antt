@@ -2,18 +2,20 @@ use Rattle.std.proofs.Common.{sym, ap, ◌∙◌}
 use Rattle.std.specs.Prelude.{Option}
 use Rattle.anti_proc.specs.declared.cursor.Cursor.{Cursor}
 use Rattle.anti_proc.specs.declared.next.Stage.{Stage}
+use Rattle.anti_proc.specs.declared.run.Going.{Going}
 use Rattle.anti_proc.specs.declared.run.Way.{Way}
-use Rattle.anti_proc.specs.inner.Standing.{going, local_in, setting, stage_or, stage_tree}
+use Rattle.anti_proc.specs.inner.Standing.{going, local_in, run_going, setting, stage_or, stage_tree}
 use Rattle.anti_proc.proofs.Settling.{gone_on}
 use Rattle.anti_proc.proofs.run.Run.go_on.Goals as goal
 use Rattle.anti_proc.proofs.run.Run.go_on.Goals.{in-Some, in-None+in_ok-stage-in-None}
 
-pub returns-in-Asks-clause-goes : goal.returns-in-Asks-clause-goes
-returns-in-Asks-clause-goes c =
+pub returns-in_ok-new-in-Asks-clause-goes : goal.returns-in_ok-new-in-Asks-clause-goes
+returns-in_ok-new-in-Asks-clause-goes c =
     let app = c.args.app.now in
     let r = c.args.self.now in
     let m = c.match-stage-5 in
-    elim m.branch [
+    ap (λ (g : Going). run_going app r g) c.in_ok-new-in-Asks.ensures.ok
+    ∙ elim m.branch [
       | in-Some w ↦ gone_on app r c.args.draft m.way'.draft m.way'.cursor m.stage c.in-Asks.next c.args.stage
           (ap (λ (way : Way). way.draft.before.now) w.way'-is ∙ c.requires.before)
           c.in-Asks.is
