@@ -220,10 +220,7 @@ module _ (app : App) (ps ns : List Processes) (o : ℕ) (ended : AreEnded app ps
             | inr other ↦ ended.ended o k q low (sym (set_other (born_at ps o) i new k other) ∙ is)
           ]
 
--- the same, with the same marks
-pub ended_same : (app : App) (ps ns : List Processes) → ns ≡ ps → AreEnded app ps → AreEnded app ns
-ended_same app ps ns is ended = subst (AreEnded app) (sym is) ended
-
+-- with the same marks
 pub ended_kept : (app : App) (ps ns : List Processes) (o : ℕ) → Changes ps ns o (born_at ps o) → AreEnded app ps → AreEnded app ns
 ended_kept app ps ns o changes ended = record {
   within = λ k. subst (λ (n : ℕ). n ≤ length (born_at ns k)) (sym (changes.ended k)) (subst (λ (xs : List Process). ended_at ps k ≤ length xs) (sym (same k)) (ended.within k));

@@ -13,7 +13,8 @@ use Rattle.anti_app.specs.declared.app.App.{App}
 use Rattle.anti_app.specs.Sound.{is_sound}
 use Rattle.anti_trace.specs.Traces.{entries_on, entries_by, put}
 use Rattle.anti_proc.specs.declared.process.Process.{Process}
-use Rattle.anti_proc.specs.Known.{IsCallAt}
+use Rattle.anti_trace.specs.Legal.{carries}
+use Rattle.anti_trace.proofs.OfLegal.{unborn_of_legal}
 use Rattle.anti_proc.specs.Births.{birth_at}
 use Rattle.anti_proc.specs.Meaning.{tree_of}
 use Rattle.anti_app.specs.Objects.{inbox_number}
@@ -72,9 +73,9 @@ pub take_done : (app : App) (sound : IsTrue (is_sound app)) (w n : World) (trace
     → process_of app p ≡ tree_of app e → standing.clock_of p ≡ e.stamp → birth_of p ≡ birth_at e → full_of p ≡ None → IsRunOf app p
     → Chose app trace (made_at app trace (bearing trace (inbox_number app service) (calls.Take nth))) (Ok true) n
 take_done app sound w n trace object service nth e p s same m objects processes carrier tree clock birth full runs =
-    let st : Stepped app trace (bearing trace object (calls.Take nth)) e = step app sound w trace s (bearing trace object (calls.Take nth)) tt refl tt e m in
+    let st : Stepped app trace (bearing trace object (calls.Take nth)) e = step app sound w trace s (bearing trace object (calls.Take nth)) (refl, refl) refl e m in
     let at : e.actor ≡ Acting (birth_at e) = st.actor in
-    let unborn : entries_by (Acting (birth_at e)) trace ≡ [] = s.run.unborn (birth_at e)
+    let unborn : entries_by (Acting (birth_at e)) trace ≡ [] = unborn_of_legal app trace s.run (birth_at e)
     (let place : e.place ≡ length (entries_on object trace) + 1 = st.place in
     let object_is : length (entries_on e.object trace) ≡ length (entries_on object trace) = ap (λ (x : ℕ). length (entries_on x trace)) st.object in omega arith) in
     let none : e.actor ≡ Carrier 0 → ⊥ = λ c. (let both : Acting (birth_at e) ≡ Carrier 0 = sym at ∙ c in absurd (cc)) in
@@ -86,18 +87,18 @@ take_done app sound w n trace object service nth e p s same m objects processes 
       lists = processes.count ∙ s.lists;
       born = born_more app w.processes.items trace (put e trace) e s.born st.grows n.processes.items p (is_birth_itself e at) birth processes;
       ended = ended_pushed app w.processes.items n.processes.items e.object s.ended p processes;
-      processes = live_born app w.processes.items trace s.processes e (goes_on app sound w trace s (bearing trace object (calls.Take nth)) tt refl tt e m) st.own st.others (birth_at e) at p birth unborn tree clock full runs
+      processes = live_born app w.processes.items trace s.processes e (goes_on app sound w trace s (bearing trace object (calls.Take nth)) (refl, refl) refl e m) st.own st.others (birth_at e) at p birth unborn tree clock full runs
           n.processes.items processes;
       carrier = carrier ∙ s.carrier ∙ sym (ap (λ (x : List Entry). last_stamp x) (st.others (Carrier 0) none));
     })
 
 pub carry_done : (app : App) (sound : IsTrue (is_sound app)) (w n : World) (trace : List Entry) (object : ℕ) (call : Call) (e : Entry)
-    → WorldStands app w trace → IsCallAt app object call → made_at app trace (carrying trace object call) ≡ Some e
+    → WorldStands app w trace → carries call ≡ true → made_at app trace (carrying trace object call) ≡ Some e
     → ((before after : List Entry) → AllStand app w.objects.items before → Grows app before after e → AllStand app n.objects.items after)
     → SameBorn w.processes.items n.processes.items → AreEnded app n.processes.items → n.carrier ≡ e.stamp
     → Chose app trace (made_at app trace (carrying trace object call)) (Ok true) n
-carry_done app sound w n trace object call e s known m objects processes ended carrier =
-    let st : Stepped app trace (carrying trace object call) e = step app sound w trace s (carrying trace object call) tt refl known e m in
+carry_done app sound w n trace object call e s is m objects processes ended carrier =
+    let st : Stepped app trace (carrying trace object call) e = step app sound w trace s (carrying trace object call) (is, refl) refl e m in
     let at : e.actor ≡ Carrier 0 = st.actor in
     let own : entries_by (Carrier 0) (put e trace) ≡ entries_by (Carrier 0) trace ++ e ∷ [] = subst (λ (a : Actor). entries_by a (put e trace) ≡ entries_by a trace ++ e ∷ []) at st.own in
     let before : All (λ d. d.stamp < e.stamp) (entries_by (Carrier 0) trace) = subst (λ (a : Actor). All (λ d. d.stamp < e.stamp) (entries_by a trace)) at st.before in
@@ -111,7 +112,7 @@ carry_done app sound w n trace object call e s known m objects processes ended c
           (λ o. ap (λ (xs : List Process). map birth_of xs) (processes.same o));
       ended = ended;
       processes = kept_live app w.processes.items n.processes.items (put e trace) processes
-          (live_kept app w.processes.items trace s.processes e (goes_on app sound w trace s (carrying trace object call) tt refl known e m) st.own st.others
+          (live_kept app w.processes.items trace s.processes e (goes_on app sound w trace s (carrying trace object call) (is, refl) refl e m) st.own st.others
           (λ b c. (let both : Acting b ≡ Carrier 0 = sym c ∙ at in absurd (cc))));
       carrier = carrier ∙ sym (last_is (entries_by (Carrier 0) trace) e before) ∙ sym (ap (λ (x : List Entry). last_stamp x) own);
     })

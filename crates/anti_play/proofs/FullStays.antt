@@ -14,7 +14,7 @@ use Rattle.anti_app.specs.Sound.{is_sound}
 use Rattle.anti_object.proofs.Starts.{start_sound, start_stays}
 use Rattle.anti_trace.specs.Traces.{entries_on}
 use Rattle.anti_play.specs.Schedule.{made_at}
-use Rattle.anti_play.specs.Runs.{IsRun}
+use Rattle.anti_trace.specs.Legal.{IsLegalTrace}
 use Rattle.anti_play.specs.inner.Standing.{WasFull}
 use Rattle.anti_play.proofs.MadeAt.{none_fits}
 
@@ -27,7 +27,7 @@ unfit start h c a b n full =
     let past : MOST_UNITS < a + b + n = full.past in
     lt-leb (held h + owed start h + need start h c) MOST_UNITS (omega arith)
 
-module _ (app : App) (trace : List Entry) (run : IsRun app trace) (sound : IsTrue (is_sound app)) where
+module _ (app : App) (trace : List Entry) (run : IsLegalTrace app trace) (sound : IsTrue (is_sound app)) where
   -- it does not fit after the whole history, nor after any that goes on from it
   pub never_fits : (object : ℕ) (call : Call) (was : WasFull app trace object call) (rest : List Entry) → IsLegal was.start (entries_on object trace ++ rest)
       → fits was.start (entries_on object trace ++ rest) call ≡ false
@@ -42,4 +42,4 @@ module _ (app : App) (trace : List Entry) (run : IsRun app trace) (sound : IsTru
       let whole : entries_on q.object trace ++ [] ≡ entries_on q.object trace = append-nil (entries_on q.object trace) in
       none_fits app trace q was.start was.there
       (subst (λ (h : List Entry). fits was.start h q.call ≡ false) whole
-      (never_fits q.object q.call was [] (subst (IsLegal was.start) (sym whole) (run.legal q.object was.start was.there))))
+      (never_fits q.object q.call was [] (subst (IsLegal was.start) (sym whole) (run.histories q.object was.start was.there))))

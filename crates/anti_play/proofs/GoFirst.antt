@@ -103,8 +103,8 @@ module _ (app : App) (w : World) (trace : List Entry) (o : ℕ) (s : WorldStands
         let there : (start : Start) × (start_of app o ≡ Some start) = start_there app o known in
         AllPairs-filter (λ (d e : Entry). d.place < e.place) is_birth (entries_on o trace)
         (λ i j d low lt.
-        let one : (get_or (entries_on o trace) i d).place ≡ i + 1 = placed there.0 (entries_on o trace) (s.run.legal o there.0 there.1) i d (omega arith) in
-        let two : (get_or (entries_on o trace) j d).place ≡ j + 1 = placed there.0 (entries_on o trace) (s.run.legal o there.0 there.1) j d lt in
+        let one : (get_or (entries_on o trace) i d).place ≡ i + 1 = placed there.0 (entries_on o trace) (s.run.histories o there.0 there.1) i d (omega arith) in
+        let two : (get_or (entries_on o trace) j d).place ≡ j + 1 = placed there.0 (entries_on o trace) (s.run.histories o there.0 there.1) j d lt in
         omega arith)
 
     -- it is the first of its name

@@ -18,20 +18,18 @@ use Rattle.anti_object.specs.declared.object.Object.{Object}
 use Rattle.anti_trace.specs.Traces.{entries_on, entries_by, put, same_actor}
 use Rattle.anti_proc.specs.declared.process.Process.{Process}
 use Rattle.anti_proc.specs.declared.run.Advance.{Advance}
-use Rattle.anti_proc.specs.Known.{IsCallAt}
+use Rattle.anti_trace.proofs.OfLegal.{unborn_of_legal}
 use Rattle.anti_proc.specs.Trees.{Tree, Want, Make, Over, Asks, Ends, IsAskedAt, ask_of, want_of, branch}
 use Rattle.anti_proc.specs.Births.{birth_at}
 use Rattle.anti_proc.specs.Meaning.{process_after}
 use Rattle.anti_proc.specs.inner.Standing as standing
 use Rattle.anti_proc.specs.inner.Running.{IsAdvanceOf, IsRunOf}
 use Rattle.anti_proc.specs.inner.Standing.{advanced, process_of, birth_of, full_by, full_of}
-use Rattle.anti_proc.proofs.Knowing.{next_known}
 use Rattle.anti_play.specs.declared.processes.Processes.{Processes}
 use Rattle.anti_play.specs.declared.world.World.{World}
 use Rattle.anti_play.specs.Schedule.{asking_at, asked_by, next_call, clock_of, made_at}
-use Rattle.anti_play.specs.inner.Standing.{IsBorn, WasFull, IsEnded, IsFullAt, IsStopped, Stops, AllStand, HasEnded, Becomes, MakesRoom, MayMeetFull, MetFull, TakesOver, born_at, Lives, LivesOn, is_named, WorldStands, Chose, Grows}
+use Rattle.anti_play.specs.inner.Standing.{IsAsked, WasFull, IsEnded, IsFullAt, IsStopped, Stops, AllStand, HasEnded, Becomes, MakesRoom, MayMeetFull, MetFull, TakesOver, born_at, Lives, LivesOn, is_named, WorldStands, Chose, Grows}
 use Rattle.anti_play.proofs.MadeAt.{none_fits}
-use Rattle.anti_play.proofs.KnownCalls.{run_calls}
 use Rattle.anti_play.proofs.FullStays.{unfit, full_makes_none}
 use Rattle.anti_play.proofs.Stepped.{Stepped, step, goes_on}
 use Rattle.anti_play.proofs.AllLive.{no_more, position_set, live_here, live_set, live_with, live_went}
@@ -87,7 +85,7 @@ module _ (app : App) (w : World) (trace : List Entry) (b : Birth) (i : ℕ) (p :
   pub goes_clock : standing.clock_of p ≡ clock_of (Acting b) trace
   goes_clock = on_p.clock
 
-  pub goes_born : IsBorn (Acting b) trace
+  goes_born : entries_by (Acting b) trace ≡ [] → ⊥
   goes_born none = let some : entries_by (Acting b) trace ≡ on_p.birth ∷ on_p.later = on_p.entries_are in absurd (cc)
 
   abbrev left : Want
@@ -110,15 +108,15 @@ module _ (app : App) (w : World) (trace : List Entry) (b : Birth) (i : ℕ) (p :
     left_is : left ≡ Make object span call
     left_is = sym (ap want_of (on_p.tree going)) ∙ wants
 
-    pub goes_call : IsTrue (is_sound app) → IsCallAt app object call
-    goes_call sound = (next_known app (process_after app (entries_by (Acting b) trace)) object span call (run_calls app sound trace s.run b) left_is).1
+    pub goes_asked : IsAsked app trace it
+    goes_asked = left_is
 
     asks_next : chosen_next ≡ made_at app trace it
     asks_next = ap (λ (x : Want). option_and_then (made_at app trace) (asked_by trace b x)) left_is
 
     -- it was born before
     was_born : (e : Entry) → e.place ≡ length (entries_on object trace) + 1 → e.object ≡ object → b ≡ birth_at e → ⊥
-    was_born e place at same = goes_born (s.run.unborn b
+    was_born e place at same = goes_born (unborn_of_legal app trace s.run b
         (subst (λ (x : Birth). length (entries_on x.object trace) < x.place) (sym same)
         (subst (λ (o : ℕ). length (entries_on o trace) < e.place) (sym at) (omega arith))))
 
@@ -133,7 +131,7 @@ module _ (app : App) (w : World) (trace : List Entry) (b : Birth) (i : ℕ) (p :
         let old_is : becomes.old ≡ p = found_again ps i p becomes.old g.is becomes.was in
         let by : TakesOver e.stamp a p then = subst (λ (x : Process). TakesOver e.stamp a x then) old_is becomes.by in
         let still : full_of then ≡ None = by.full full ∙ going in
-        let st : Stepped app trace it e = step app sound w trace s it goes_born refl (goes_call sound) e m in
+        let st : Stepped app trace it e = step app sound w trace s it goes_asked refl e m in
         let actor : e.actor ≡ Acting b = st.actor in
         let before : All (λ d. d.stamp < e.stamp) (entries_by (Acting b) trace) = subst (λ (x : Actor). All (λ d. d.stamp < e.stamp) (entries_by x trace)) actor st.before in
         let none : e.actor ≡ Carrier 0 → ⊥ = λ c. (let both : Acting b ≡ Carrier 0 = sym actor ∙ c in absurd (cc)) in
@@ -146,7 +144,7 @@ module _ (app : App) (w : World) (trace : List Entry) (b : Birth) (i : ℕ) (p :
               (no_birth e (λ is. was_born e st.place st.object (let both : Acting b ≡ Acting (birth_at e) = sym actor ∙ is in cc)))
               (births_set w.processes.items n.processes.items b i then becomes.changes (λ d. by.birth ∙ ap (λ (x : Process). birth_of x) (sym (at_p d))));
           ended = ended_set app w.processes.items n.processes.items b.object s.ended i p then g.is becomes.changes (λ ended. absurd (not_ended ended));
-          processes = live_went app w.processes.items trace s.processes e (goes_on app sound w trace s it goes_born refl (goes_call sound) e m) st.own st.others b actor then i g.found
+          processes = live_went app w.processes.items trace s.processes e (goes_on app sound w trace s it goes_asked refl e m) st.own st.others b actor then i g.found
               (λ d. by.birth ∙ ap (λ (x : Process). birth_of x) (sym (at_p d)))
               (λ d. by.tree app ∙ goes ∙ ap (λ (x : Process). branch (process_of app x) e.reply) (sym (at_p d))) by.clock still
               (λ d. ap (λ (x : Process). full_of x) (at_p d) ∙ going) before (by.run app spans)

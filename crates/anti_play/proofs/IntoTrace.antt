@@ -11,7 +11,7 @@ use Rattle.anti_ids.specs.declared.memory.NoMemory.{NoMemory}
 use Rattle.anti_ids.specs.declared.limits.TheConstants.{MOST_UNITS}
 use Rattle.anti_kind.specs.declared.entry.Entry.{Entry}
 use Rattle.anti_kind.specs.Objects.{Start}
-use Rattle.anti_kind.proofs.Histories.{ascending}
+use Rattle.anti_kind.proofs.Histories as histories
 use Rattle.anti_app.specs.declared.app.App.{App}
 use Rattle.anti_app.specs.Sound.{is_sound}
 use Rattle.anti_trace.specs.Traces.{IsTrace, is_on, entries_on}
@@ -28,7 +28,6 @@ use Rattle.anti_app.proofs.SoundLemmas.{SoundApp, app_known}
 use Rattle.anti_app.specs.Objects.{object_count}
 use Rattle.anti_play.specs.inner.Standing.{WorldStands}
 use Rattle.anti_play.specs.inner.Closing.{histories_of}
-use Rattle.anti_play.proofs.RunMore.{legal_short}
 
 -- no entry is on an object that is not there
 none_on : (o n : ℕ) (t : List Entry) → n ≤ o → All (λ e. e.object < n) t → entries_on o t ≡ []
@@ -69,7 +68,7 @@ module _ (app : App) (w : World) (trace : List Entry) (s : WorldStands app w tra
             let there : (start : Start) × (start_of app o ≡ Some start) = start_there app o lt in
             record {
               own = λ k d l. eqb-true _ _ (filter_passes (is_on o) trace k d l);
-              ascending = ascending there.0 (entries_on o trace) (s.run.legal o there.0 there.1);
+              ascending = histories.ascending there.0 (entries_on o trace) (s.run.histories o there.0 there.1);
             }
         | inr past ↦ subst (λ (h : List Entry). IsHistory o h) (sym (none_on o (object_count app) trace past s.run.there)) (history_none o)
       ]
@@ -105,7 +104,7 @@ module _ (app : App) (w : World) (trace : List Entry) (s : WorldStands app w tra
         let each : All (λ h. length h.items ≤ MOST_UNITS + 1) hs =
         λ k d l.
         let there : (start : Start) × (start_of app k ≡ Some start) = start_there app k (omega arith) in
-        let short : length (entries_on k trace) ≤ MOST_UNITS + 1 = legal_short there.0 (entries_on k trace) (s.run.legal k there.0 there.1) in
+        let short : length (entries_on k trace) ≤ MOST_UNITS + 1 = histories.few_entries there.0 (entries_on k trace) (s.run.histories k there.0 there.1) in
         let size = ap length (item_at k d l) in omega arith in
         let most = sum_by-le (λ (h : Listed Entry). length h.items) (MOST_UNITS + 1) hs each in
         omega arith

@@ -1,7 +1,3 @@
-pub mod Numbers
-pub mod KnownReplies
-pub mod KnownCalls
-pub mod Starting
 pub mod MadeAt
 pub mod RunMore
 pub mod FullStays

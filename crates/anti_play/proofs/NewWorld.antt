@@ -1,6 +1,6 @@
 -- The objects of an application before anything has happened.
-use Rattle.std.proofs.Common.{◌≡◌, ℕ, ◌+◌, ◌<◌, ◌≤◌, max, ◌-◌, ◌++◌, ◌⊎◌, ◌∷◌, List, [], length, refl, sym, ap, ◌∙◌, subst, arith, inl, inr}
-use Rattle.std.specs.Prelude.{Option, None, Some, MatchOption, slice_get}
+use Rattle.std.proofs.Common.{◌≡◌, ℕ, ◌+◌, ◌<◌, ◌≤◌, max, ◌-◌, ◌++◌, ◌⊎◌, ◌∷◌, List, [], length, map, refl, sym, ap, ◌∙◌, subst, arith, inl, inr}
+use Rattle.std.specs.Prelude.{Option, None, Some, MatchOption, position, slice_get}
 use Rattle.std.proofs.lemmas.Option.{slice_get-get_or, slice_get_past}
 use Rattle.std.proofs.lemmas.Bool.{cases_lt}
 use Rattle.std.proofs.lemmas.List.{length_push, get_or_push, get_or_append_left}
@@ -14,7 +14,11 @@ use Rattle.anti_object.specs.Standing.{object_start, IsNew}
 use Rattle.anti_object.proofs.Starts.{start_there, start_known}
 use Rattle.anti_app.specs.Objects.{object_count}
 use Rattle.anti_play.specs.declared.processes.Processes.{Processes}
-use Rattle.anti_play.specs.inner.Standing.{IsObject, born_in, ended_in}
+use Rattle.anti_trace.proofs.PutLegal.{legal_none}
+use Rattle.anti_proc.specs.declared.process.Process.{Process}
+use Rattle.anti_proc.specs.inner.Standing.{birth_of}
+use Rattle.anti_play.specs.declared.world.World.{World}
+use Rattle.anti_play.specs.inner.Standing.{IsObject, Lives, WorldStands, born_in, ended_at, ended_in, is_named}
 use Rattle.anti_play.specs.inner.Closing.{AreFirst, NoneBorn}
 use Rattle.anti_play.proofs.RunMore.{decide}
 
@@ -102,3 +106,19 @@ module _ (app : App) (objects : List (Record Object)) (first : AreFirst app (len
       let all : object_count app ≤ number = past_all app number none in
       let count : length objects ≡ object_count app = omega arith in
       subst (λ (n : ℕ). AreFirst app n objects) count first
+
+-- the whole, of which nothing has happened
+pub world_new : (app : App) (w : World) (count : ℕ) → AreFirst app (object_count app) w.objects.items → NoneBorn count w.processes.items → count ≡ object_count app
+    → w.carrier ≡ 0 → WorldStands app w []
+world_new app w count first none all carrier = record {
+  run = legal_none app;
+  objects = record { count = first.many; each = λ o d lt. first.each o d lt };
+  lists = none.many ∙ all;
+  born = λ o. ap (λ (ps : List Process). map birth_of ps) (none.none o);
+  ended = record {
+    within = λ o. let ended : ended_at w.processes.items o ≡ 0 = none.not_ended o in omega arith;
+    ended = λ o i p lt is. absurd (let ended : ended_at w.processes.items o ≡ 0 = none.not_ended o in omega arith);
+  };
+  processes = λ b. subst (λ (ps : List Process). Lives app [] ps (position (is_named b) ps) []) (sym (none.none b.object)) refl;
+  carrier = carrier;
+}

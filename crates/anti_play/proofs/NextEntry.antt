@@ -21,19 +21,20 @@ use Rattle.anti_object.proofs.Starts.{start_past}
 use Rattle.anti_trace.specs.Traces.{entries_on}
 use Rattle.anti_app.specs.Objects.{object_count}
 use Rattle.anti_play.specs.Schedule.{clock_of, made, made_at, next_entry}
-use Rattle.anti_play.specs.Runs.{IsRun}
+use Rattle.anti_trace.specs.Legal.{IsLegalTrace}
 use Rattle.anti_play.specs.inner.Standing.{AllStand, IsObject, IsOutcome, asked_in}
 use Rattle.anti_play.proofs.MadeAt.{unready, none_fits, ready_made}
 use Rattle.anti_play.proofs.FullStays.{unfit}
-use Rattle.anti_play.proofs.RunMore.{history_stamps, clock_within, run_short}
+use Rattle.anti_trace.proofs.OfLegal.{history_stamps, legal_short}
+use Rattle.anti_play.proofs.RunMore.{clock_within}
 
 few_objects : (app : App) → IsTrue (is_sound app) → object_count app ≤ 32
 few_objects app sound = let known : SoundApp app = app_known app sound in omega arith
 
 -- no run has so many entries that stamps are spent
-few_entries : (app : App) (trace : List Entry) → IsTrue (is_sound app) → IsRun app trace → length trace ≤ 32 * 4097
+few_entries : (app : App) (trace : List Entry) → IsTrue (is_sound app) → IsLegalTrace app trace → length trace ≤ 32 * 4097
 few_entries app trace sound run =
-    let whole : length trace ≤ object_count app * (MOST_UNITS + 1) = run_short app trace run in
+    let whole : length trace ≤ object_count app * (MOST_UNITS + 1) = legal_short app trace run in
     le_trans whole (mul-le-mul_right (MOST_UNITS + 1) (few_objects app sound))
 
 -- what came of it, in other words
@@ -46,7 +47,7 @@ refused_none app trace q NotYet outcome = outcome.0
 refused_none app trace q (Full a b n) outcome = outcome.0
 refused_none app trace q (Spent clock) outcome = absurd outcome
 
-module _ (app : App) (sound : IsTrue (is_sound app)) (trace : List Entry) (run : IsRun app trace) (q : Asking) (clock : q.clock ≡ clock_of q.actor trace) where
+module _ (app : App) (sound : IsTrue (is_sound app)) (trace : List Entry) (run : IsLegalTrace app trace) (q : Asking) (clock : q.clock ≡ clock_of q.actor trace) where
   same_asking : q ≡ asked_in trace q
   same_asking = ap (λ (n : ℕ). record { object = q.object; actor = q.actor; span = q.span; clock = n; call = q.call }) clock
 

@@ -20,7 +20,7 @@ use Rattle.anti_play.specs.Schedule.{first_made, finished, IsComplete}
 use Rattle.anti_play.specs.Runs.{GoesOn}
 use Rattle.anti_play.specs.inner.Standing.{Chose, Grows, IsObject, WorldStands}
 use Rattle.anti_play.specs.inner.Finishing.{WentOn}
-use Rattle.anti_play.proofs.RunMore.{legal_short}
+use Rattle.anti_kind.proofs.Histories.{few_entries}
 use Rattle.anti_play.proofs.IntoTrace.{histories_are}
 use Rattle.anti_play.proofs.Stepped.{grows_on}
 use Rattle.anti_play.proofs.Tried.{MadeOne, chose_true, chose_false, chose_lost}
@@ -121,7 +121,7 @@ place_less app w n t e s v grows known =
     let after : length (get_or n.objects.items e.object d).history ≡ length (entries_on e.object (put e t)) = ap length new.history in
     let longer : length (entries_on e.object (put e t)) ≡ length (entries_on e.object t) + 1 = ap length grows.here ∙ length-append (entries_on e.object t) (e ∷ []) in
     let start : Start = object_start (get_or n.objects.items e.object d).machine in
-    let short : length (entries_on e.object (put e t)) ≤ MOST_UNITS + 1 = legal_short start (entries_on e.object (put e t)) (v.run.legal e.object start new.start) in
+    let short : length (entries_on e.object (put e t)) ≤ MOST_UNITS + 1 = few_entries start (entries_on e.object (put e t)) (v.run.histories e.object start new.start) in
     omega arith)
 
 pub turn_less : (app : App) (sound : IsTrue (is_sound app)) (trace : List Entry) (w : World) (reached : Reached app trace w)

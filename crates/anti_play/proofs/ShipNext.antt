@@ -26,7 +26,7 @@ use Rattle.anti_object.specs.Starts.{start_of, store_start, tries_of}
 use Rattle.anti_object.proofs.Starts.{start_of-store, start_sound}
 use Rattle.anti_trace.specs.Traces.{entries_on}
 use Rattle.anti_play.specs.Schedule.{carrying, chosen, first_of, next_entry, ships_at, ships_of, ships_to}
-use Rattle.anti_play.specs.Runs.{IsRun}
+use Rattle.anti_trace.specs.Legal.{IsLegalTrace}
 use Rattle.anti_kind.specs.Records.{Record}
 use Rattle.anti_object.specs.declared.object.Object.{Object}
 use Rattle.anti_object.specs.Standing.{object_start}
@@ -68,7 +68,7 @@ ships_are kind o g (r ∷ rs) =
     ∙ sym (map-append (ship_of o g) (shipments kind r) (flat_map (shipments kind) rs))
     ∙ ap (map (ship_of o g)) (sym (flat_map-cons (shipments kind) r rs))
 
-module _ (app : App) (sound : IsTrue (is_sound app)) (trace : List Entry) (run : IsRun app trace) (o : ℕ) where
+module _ (app : App) (sound : IsTrue (is_sound app)) (trace : List Entry) (run : IsLegalTrace app trace) (o : ℕ) where
   abbrev h : List Entry
   h = entries_on o trace
 
@@ -76,7 +76,7 @@ module _ (app : App) (sound : IsTrue (is_sound app)) (trace : List Entry) (run :
     -- a shipment needs no units
     has_units : (x : ℕ × ℕ) → fits (store s) h (calls.Ship g x.0 x.1) ≡ true
     has_units x =
-        let units : held h + owed (store s) h ≤ MOST_UNITS = within_units (store s) h (start_sound app o (store s) sound there) (run.legal o (store s) there) in
+        let units : held h + owed (store s) h ≤ MOST_UNITS = within_units (store s) h (start_sound app o (store s) sound there) (run.histories o (store s) there) in
         le-leb (held h + owed (store s) h + 0) MOST_UNITS (omega arith)
 
     abbrev ship : ℕ × ℕ → Asking

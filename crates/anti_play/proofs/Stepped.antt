@@ -10,19 +10,20 @@ use Rattle.anti_app.specs.declared.app.App.{App}
 use Rattle.anti_app.specs.Sound.{is_sound}
 use Rattle.anti_object.proofs.Starts.{start_known, start_there}
 use Rattle.anti_trace.specs.Traces.{entries_on, entries_by, put}
-use Rattle.anti_proc.specs.Known.{IsCallAt, IsEntryOf, IsReplyAt}
+use Rattle.anti_proc.specs.Known.{IsEntryOf, IsReplyAt}
 use Rattle.anti_proc.specs.Tasks.{task_of}
 use Rattle.anti_app.specs.Objects.{object_count}
 use Rattle.anti_play.specs.declared.world.World.{World}
 use Rattle.anti_play.specs.Schedule.{clock_of, next_entry, made_at}
-use Rattle.anti_play.specs.Runs.{IsRun, GoesOn, bears}
-use Rattle.anti_play.specs.inner.Standing.{Grows, IsBorn, MayGrow, WorldStands}
+use Rattle.anti_trace.specs.Legal.{IsLegalTrace, bears}
+use Rattle.anti_play.specs.Runs.{GoesOn}
+use Rattle.anti_play.specs.inner.Standing.{Grows, IsAsked, MayGrow, WorldStands}
 use Rattle.anti_play.proofs.MadeAt.{Made, made_of}
-use Rattle.anti_play.proofs.Starting.{starts}
+use Rattle.anti_trace.proofs.Starting.{starts}
 use Rattle.anti_play.proofs.RunMore.{entry_follows, it_known, run_more, run_history, run_others, run_actor, run_other_actors, own_before, decide}
 
 pub record Stepped (app : App) (trace : List Entry) (q : Asking) (e : Entry) : Type 0 where
-  pub run : IsRun app (put e trace)
+  pub run : IsLegalTrace app (put e trace)
   pub grows : Grows app trace (put e trace) e
   pub own : entries_by e.actor (put e trace) ≡ entries_by e.actor trace ++ e ∷ []
   pub others : (a : Actor) → (e.actor ≡ a → ⊥) → entries_by a (put e trace) ≡ entries_by a trace
@@ -34,26 +35,26 @@ pub record Stepped (app : App) (trace : List Entry) (q : Asking) (e : Entry) : T
   pub known : q.object < object_count app
   pub entry : IsEntryOf app e
 
-pub stepped : (app : App) (trace : List Entry) (q : Asking) (e : Entry) → IsTrue (is_sound app) → IsRun app trace → IsBorn q.actor trace → q.clock ≡ clock_of q.actor trace → IsCallAt app q.object q.call
+pub stepped : (app : App) (trace : List Entry) (q : Asking) (e : Entry) → IsTrue (is_sound app) → IsLegalTrace app trace → IsAsked app trace q → q.clock ≡ clock_of q.actor trace
     → Made app trace q e → Stepped app trace q e
-stepped app trace q e sound run born clock call m =
+stepped app trace q e sound run asks clock m =
     subst (λ (x : Entry). Stepped app trace q x) (sym m.is) (record {
-      run = run_more app trace run q m.start m.there m.is_ready m.is_fit born clock sound call;
+      run = run_more app trace run q m.start m.there m.is_ready m.is_fit asks clock;
       grows = record {
-        here = run_history app trace run q m.start m.there m.is_ready m.is_fit born clock;
-        others = run_others app trace run q m.start m.there m.is_ready m.is_fit born clock;
+        here = run_history app trace run q m.start m.there m.is_ready m.is_fit asks clock;
+        others = run_others app trace run q m.start m.there m.is_ready m.is_fit asks clock;
         follows = λ start at. subst (λ (s : Start). Follows s (entries_on q.object trace) (next_entry m.start (entries_on q.object trace) q)) (let same : m.start ≡ start = let both : Some m.start ≡ Some start = sym m.there ∙ at in cc in same)
             (entry_follows m.start (entries_on q.object trace) q m.is_ready m.is_fit);
       };
-      own = run_actor app trace run q m.start m.there m.is_ready m.is_fit born clock;
-      others = run_other_actors app trace run q m.start m.there m.is_ready m.is_fit born clock;
-      before = own_before app trace run q m.start m.there m.is_ready m.is_fit born clock;
+      own = run_actor app trace run q m.start m.there m.is_ready m.is_fit asks clock;
+      others = run_other_actors app trace run q m.start m.there m.is_ready m.is_fit asks clock;
+      before = own_before app trace run q m.start m.there m.is_ready m.is_fit asks clock;
       object = refl;
       actor = refl;
       call = refl;
       place = refl;
       known = start_known app q.object m.start m.there;
-      entry = it_known app trace run q m.start m.there m.is_ready m.is_fit born clock sound call;
+      entry = it_known app trace run q m.start m.there m.is_ready m.is_fit asks clock sound;
     })
 
 -- each object's history goes on
@@ -64,11 +65,10 @@ grows_on app before after e grows o =
       | inr other ↦ ([], grows.others o other ∙ sym (append-nil (entries_on o before)))
     ]
 
-module _ (app : App) (sound : IsTrue (is_sound app)) (w : World) (trace : List Entry) (stands : WorldStands app w trace) (q : Asking) (born : IsBorn q.actor trace) (clock : q.clock ≡ clock_of q.actor trace)
-    (call : IsCallAt app q.object q.call)
+module _ (app : App) (sound : IsTrue (is_sound app)) (w : World) (trace : List Entry) (stands : WorldStands app w trace) (q : Asking) (asks : IsAsked app trace q) (clock : q.clock ≡ clock_of q.actor trace)
     (e : Entry) (m : made_at app trace q ≡ Some e) where
   pub step : Stepped app trace q e
-  step = stepped app trace q e sound stands.run born clock call (made_of app trace q e m)
+  step = stepped app trace q e sound stands.run asks clock (made_of app trace q e m)
 
   -- its reply is known
   pub reply_of : IsReplyAt app e.object e.reply
@@ -78,7 +78,7 @@ module _ (app : App) (sound : IsTrue (is_sound app)) (w : World) (trace : List E
   pub starts_task : bears q.call ≡ true → task_of app e ≡ None → ⊥
   starts_task bearing =
       let there = start_there app e.object (let at : e.object ≡ q.object = step.object in let known : q.object < object_count app = step.known in omega arith) in
-      starts app sound (entries_on e.object trace) e (ap bears step.call ∙ bearing) reply_of there.0 (stands.run.legal e.object there.0 there.1) (step.grows.follows there.0 there.1) there.1
+      starts app sound (entries_on e.object trace) e (ap bears step.call ∙ bearing) reply_of there.0 (stands.run.histories e.object there.0 there.1) (step.grows.follows there.0 there.1) there.1
 
   pub may_grow : MayGrow w.objects.items e
   may_grow = record {

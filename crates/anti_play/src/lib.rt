@@ -10,6 +10,6 @@ mod processes;
 mod tracing;
 mod world;
 
-pub use laws::{finish_completes, nothing_is_foreign};
+pub use laws::finish_completes;
 pub use player::{Played, Waits, play};
 pub use world::World;

@@ -2,7 +2,7 @@ ghost use Rattle.std.specs.Prelude.{◌≡◌, ℕ, IfOk, IsTrue};
 ghost use Rattle.anti_ids.specs.List.{plain};
 ghost use Rattle.anti_app.specs.Sound.{is_sound, is_sound_choice};
 ghost use Rattle.anti_play.specs.Schedule.{Run, trace_of, waits_of};
-ghost use Rattle.anti_play.specs.Runs.{IsRun};
+ghost use Rattle.anti_trace.specs.Legal.{IsLegalTrace};
 ghost use Rattle.anti_play.specs.inner.Standing.{IsWorldOf, WorldStands};
 ghost use Rattle.anti_play.specs.inner.Closing.{Steps};
 
@@ -48,7 +48,7 @@ pub fn play(alloc: Global, app: &App) -> Result<Played, NoMemory>
     requires { IsTrue (is_sound app.now) }
     ensures trace { IfOk result (λ p. p.trace ≡ trace_of app.now) }
     ensures waits { IfOk result (λ p. p.waits ≡ plain (waits_of app.now)) }
-    ensures legal { IfOk result (λ p. IsRun app.now p.trace) }
+    ensures legal { IfOk result (λ p. IsLegalTrace app.now p.trace) }
 {
     let mut world = World::new(alloc, app)?;
     let mut waits = List::new(alloc);

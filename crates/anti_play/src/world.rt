@@ -1,7 +1,7 @@
-ghost use Rattle.std.specs.Prelude.{◌≡◌, ◌<◌, length, vec_len, slice_get, position, Some, Err, IfOk, OnOk, OnErr, IsTrue};
+ghost use Rattle.std.specs.Prelude.{◌≡◌, ◌<◌, length, vec_len, slice_get, position, Some, true, Err, IfOk, OnOk, OnErr, IsTrue};
 ghost use Rattle.anti_app.specs.declared.app.App.{App};
 ghost use Rattle.anti_app.specs.Sound.{is_sound, is_sound_choice};
-ghost use Rattle.anti_proc.specs.Known.{IsCallAt};
+ghost use Rattle.anti_trace.specs.Legal.{carries};
 ghost use Rattle.anti_app.specs.Objects.{inbox_number};
 ghost use Rattle.anti_play.specs.Schedule.{carrying, chosen, clock_of, made_at};
 ghost use Rattle.anti_play.specs.Runs.{Entries};
@@ -90,7 +90,7 @@ impl World {
 
     // Makes a call of the carrier at an object.
     pub(crate) fn carry(&mut self, object: u32, call: Call) -> Result<bool, NoMemory>
-        requires known { (app : App) → IsCallAt app object call }
+        requires carried { carries call ≡ true }
         requires world { IsSoundWorld self.old }
         ensures { (app : App) (trace : Entries) → IsTrue (is_sound app)
             → WorldStands app self.old trace

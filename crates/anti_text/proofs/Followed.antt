@@ -13,8 +13,8 @@ use Rattle.anti_proc.specs.declared.end.ProcFault.{ProcFault}
 use Rattle.anti_proc.specs.declared.end.ProcFault.TheVariants.{Foreign}
 use Rattle.anti_proc.specs.declared.process.Process.{Process}
 use Rattle.anti_proc.specs.Meaning.{reply_of}
-use Rattle.anti_proc.specs.Trees.{Tree, Ends, Want, Make, after}
-use Rattle.anti_trace.specs.Traces.{entries_by, entries_on}
+use Rattle.anti_proc.specs.Trees.{Tree, Asks, Ends, Want, Make, after, ask_of, branch}
+use Rattle.anti_trace.specs.Traces.{entries_by, entries_on, is_by}
 use Rattle.anti_text.specs.Processes.{ended_in, is_full_after}
 use Rattle.anti_text.specs.inner.Following.{Stands, left_after}
 
@@ -28,6 +28,16 @@ not_foreign result fault foreign known told is which =
 after_end : (end : BodyEnd) (replies : List Reply) → after (Ends end) replies ≡ Ends end
 after_end end [] = refl
 after_end end (reply ∷ replies) = after_end end replies
+
+-- a process that has ended has nothing left to do
+pub left_ended : (actor : Actor) (entries : List Entry) (tree : Tree) → ask_of tree ≡ None → left_after actor entries tree ≡ tree
+left_ended actor entries (Asks ask go) none = absurd (cc)
+left_ended actor entries (Ends end) none = after_end end (map reply_of (entries_by actor entries))
+
+-- a process goes on by the reply to its next entry
+pub left_more : (actor : Actor) (first : Entry) (entries rest : List Entry) (tree : Tree) → entries ≡ first ∷ rest
+    → is_by actor first ≡ true → left_after actor rest (branch tree first.reply) ≡ left_after actor entries tree
+left_more actor first entries rest tree is by = rw (is, by) refl
 
 -- what starts nothing has nothing left to do
 pub nothing_left : (app : App) (tree : Tree) (started : Option Process) (actor : Actor) (entries : List Entry)

@@ -1,11 +1,11 @@
-ghost use Rattle.std.specs.Prelude.{◌≡◌, List, All, None, IfOk, OnOk};
+ghost use Rattle.std.specs.Prelude.{◌≡◌, List, All, None, IfOk, OnOk, IsTrue};
 ghost use Rattle.anti_kind.specs.declared.entry.Entry.{Entry};
 ghost use Rattle.anti_app.specs.declared.app.App.{App};
 ghost use Rattle.anti_object.specs.Starts.{start_of};
 ghost use Rattle.anti_trace.specs.Traces.{entries_by, entries_on};
 ghost use Rattle.anti_proc.specs.Known.{IsEntryOf};
 ghost use Rattle.anti_proc.specs.Meaning.{process_after, tree_of};
-ghost use Rattle.anti_proc.specs.Trees.{branch, want_of};
+ghost use Rattle.anti_proc.specs.Trees.{ask_of, branch, want_of};
 ghost use Rattle.anti_proc.specs.inner.Standing.{full_of, process_of};
 ghost use Rattle.anti_app.specs.Objects.{object_count};
 ghost use Rattle.anti_app.specs.Running.{CanRun};
@@ -49,7 +49,14 @@ fn follow(process: &mut Process, app: &App, entry: &Entry) -> Result<(), NoMemor
     }
 }
 
-// The process that an entry starts, after what its actor did in the later entries.
+// Whether a process has ended, so that it takes no reply any more.
+fn is_over(process: &Process) -> bool
+    ensures { IsTrue result → (app : App) → ask_of (process_of app process.now) ≡ None }
+{
+    process.next().is_none()
+}
+
+// The process that an entry starts, after what its actor did in the later entries. Behind its end none is looked at.
 fn process_from(
     alloc: Global,
     app: &App,
@@ -65,9 +72,15 @@ fn process_from(
     let Some(mut process) = born(alloc, app, first)? else {
         return Ok(None);
     };
+    if is_over(&process) {
+        return Ok(Some(process));
+    }
     for entry in later {
         if is_by(actor, entry) {
             follow(&mut process, app, entry)?;
+            if is_over(&process) {
+                return Ok(Some(process));
+            }
         }
     }
     Ok(Some(process))

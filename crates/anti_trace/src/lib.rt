@@ -2,13 +2,17 @@
 //!
 //! Each object has a history of its own, and a trace holds the entries of all of them by stamp, and by object number where
 //! two stamps are equal. A history is read off a trace as what the trace holds on its object.
+//!
+//! Which traces are runs of an application is said by their parts, in `specs/Legal.antt`.
 #![tactic(auto)]
 
+mod laws;
 mod mark;
 mod merging;
 mod owners;
 mod trace;
 
+pub use laws::{legal_traces_are_known, nothing_is_foreign};
 pub use mark::Mark;
 pub use merging::{Histories, merge};
 pub use owners::{is_by, is_on};

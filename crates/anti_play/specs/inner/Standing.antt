@@ -2,7 +2,7 @@
 use Rattle.std.specs.Prelude.{◌≡◌, ℕ, ◌<◌, ◌≤◌, Bool, true, false, List, [], ◌∷◌, length, map, slice_index_or, slice_get, slice_set, vec_len, vec_capacity, Option, None, Some, IfSome, IsTrue, position, Result, Ok, Err, MatchResult, ◌++◌}
 use Rattle.anti_kind.specs.declared.asking.Asking.{Asking}
 use Rattle.anti_kind.specs.declared.actor.Actor.{Actor}
-use Rattle.anti_kind.specs.declared.actor.Actor.TheVariants.{Carrier, Process as Acting}
+use Rattle.anti_kind.specs.declared.actor.Actor.TheVariants.{Carrier, Process as Acting, Newborn}
 use Rattle.anti_kind.specs.declared.actor.Birth.{Birth}
 use Rattle.anti_kind.specs.declared.call.Call.{Call}
 use Rattle.anti_kind.specs.declared.entry.Entry.{Entry}
@@ -31,14 +31,19 @@ use Rattle.anti_play.specs.declared.processes.Processes.{Processes}
 use Rattle.anti_play.specs.declared.world.World.{World}
 use Rattle.anti_play.specs.Schedule.{asking_at, made_at, next_call}
 use Rattle.anti_app.specs.Objects.{object_count}
-use Rattle.anti_play.specs.Runs.{IsRun}
+use Rattle.anti_trace.specs.Legal.{IsLegalTrace, bears, carries}
 
 -- ---- what is asked
 
--- a process that acts is born already; a carrier is always there, and a newborn process is yet to be born
-abbrev pub IsBorn : Actor → List Entry → Type 0
-IsBorn (Acting b) trace = entries_by (Acting b) trace ≡ [] → ⊥
-IsBorn _ trace = Unit {0}
+-- A carrier may ask to ship and to deliver again, in no span; a process for its next call; and one that is yet to be born for a call by which
+-- it is born, in its first span.
+abbrev pub MayAsk : App → List Entry → Actor → ℕ → ℕ → Call → Type 0
+MayAsk app trace (Carrier number) object span call = (carries call ≡ true) × (span ≡ 0)
+MayAsk app trace (Acting b) object span call = want_of (process_after app (entries_by (Acting b) trace)) ≡ Make object span call
+MayAsk app trace Newborn object span call = (bears call ≡ true) × (span ≡ 1)
+
+abbrev pub IsAsked : App → List Entry → Asking → Type 0
+IsAsked app trace q = MayAsk app trace q.actor q.object q.span q.call
 
 -- what is asked, with the clock that its actor has in the trace
 abbrev pub asked_in : List Entry → Asking → Asking
@@ -211,7 +216,7 @@ pub record AllStand (app : App) (objects : List (Record Object)) (trace : List E
 
 -- the world stands for the trace
 pub record WorldStands (app : App) (w : World) (trace : List Entry) : Type 0 where
-  pub run : IsRun app trace
+  pub run : IsLegalTrace app trace
   pub objects : AllStand app w.objects.items trace
   pub lists : length w.processes.items ≡ object_count app
   pub born : AreBorn w.processes.items trace

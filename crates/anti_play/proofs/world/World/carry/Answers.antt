@@ -19,7 +19,7 @@ pub make_entry-requires : goal.make_entry-requires
 make_entry-requires c =
     let w = c.requires.world in
     let q = carrying w.trace c.args.object c.args.call in
-    may_grow w.app w.sound c.args.self.now w.trace w.stands q tt refl (c.requires.known w.app) c.in-Ok.entry
+    may_grow w.app w.sound c.args.self.now w.trace w.stands q (c.requires.carried, refl) refl c.in-Ok.entry
     (outcome_is w.app w.trace q c.in_ok-entry.field-0 (Ok c.in-Ok.entry) c.in-Ok.is (c.in_ok-entry.ensures w.app w.trace w.sound w.stands w.stands.carrier))
 
 pub returns-in_err-make_entry : goal.returns-in_err-make_entry
@@ -29,6 +29,6 @@ returns-in_err-make_entry c = λ app trace sound s.
 pub returns : goal.returns
 returns c = λ app trace sound s.
     let q = carrying trace c.args.object c.args.call in
-    carry_done app sound c.args.self.now _ trace c.args.object c.args.call c.in-Ok.entry s (c.requires.known app)
+    carry_done app sound c.args.self.now _ trace c.args.object c.args.call c.in-Ok.entry s c.requires.carried
     (outcome_is app trace q c.in_ok-entry.field-0 (Ok c.in-Ok.entry) c.in-Ok.is (c.in_ok-entry.ensures app trace sound s s.carrier))
     (c.in_ok-make_entry.ensures.stand app) (same_itself _ _ refl) s.ended refl

@@ -14,7 +14,7 @@ use Rattle.anti_play.specs.inner.Standing.{IsOutcome, MayMeetFull, WorldStands, 
 use Rattle.anti_play.proofs.Changed.{room_then}
 use Rattle.anti_play.proofs.NextEntry.{outcome_is}
 use Rattle.anti_play.proofs.Stepped.{reply_of, may_grow}
-use Rattle.anti_play.proofs.GoOn.{IsFound, found_again, may_meet_full, goes_run, goes_clock, goes_born, goes_call, go_over, go_done, go_waits, go_ended, go_lost, stops_over, stops_made, stops_waits, stops_ended}
+use Rattle.anti_play.proofs.GoOn.{IsFound, found_again, may_meet_full, goes_run, goes_clock, goes_asked, go_over, go_done, go_waits, go_ended, go_lost, stops_over, stops_made, stops_waits, stops_ended}
 use Rattle.anti_play.proofs.world.World.make_next.Goals as goal
 use Rattle.anti_play.proofs.world.World.make_next.Goals.{After-process-process, In_ok-copy, In_ok-entry, After-process}
 
@@ -69,8 +69,7 @@ advance-requires-clause-known c =
     let p = c.process-process.result.now in
     let g = goes ((goal.at.advance-requires-clause-known c).After-process-process) in
     reply_of app c.requires.sound w trace s (asks ((goal.at.advance-requires-clause-known c).In_ok-copy) trace)
-    (goes_born app w trace c.args.birth c.args.at p s g) refl
-    (goes_call app w trace c.args.birth c.args.at p s g c.in-Some.asked.object c.in-Some.asked.span c.in_ok-copy.field-0 c.in-Some.ensures.going (wants ((goal.at.advance-requires-clause-known c).In_ok-copy)) c.requires.sound)
+    (goes_asked app w trace c.args.birth c.args.at p s g c.in-Some.asked.object c.in-Some.asked.span c.in_ok-copy.field-0 c.in-Some.ensures.going (wants ((goal.at.advance-requires-clause-known c).In_ok-copy))) refl
     c.in-Ok.entry (came ((goal.at.advance-requires-clause-known c).In_ok-entry) trace s g (Ok c.in-Ok.entry) c.in-Ok.is)
 
 pub make_entry-requires : goal.make_entry-requires
@@ -82,8 +81,7 @@ make_entry-requires c =
     let p = c.process-process.result.now in
     let g = goes ((goal.at.make_entry-requires c).After-process-process) in
     may_grow app c.requires.sound w trace s (asks ((goal.at.make_entry-requires c).In_ok-copy) trace)
-    (goes_born app w trace c.args.birth c.args.at p s g) refl
-    (goes_call app w trace c.args.birth c.args.at p s g c.in-Some.asked.object c.in-Some.asked.span c.in_ok-copy.field-0 c.in-Some.ensures.going (wants ((goal.at.make_entry-requires c).In_ok-copy)) c.requires.sound)
+    (goes_asked app w trace c.args.birth c.args.at p s g c.in-Some.asked.object c.in-Some.asked.span c.in_ok-copy.field-0 c.in-Some.ensures.going (wants ((goal.at.make_entry-requires c).In_ok-copy))) refl
     c.in-Ok.entry (came ((goal.at.make_entry-requires c).In_ok-entry) trace s g (Ok c.in-Ok.entry) c.in-Ok.is)
 
 pub returns-in_err-make_room_at-in-Ok-clause-chose : goal.returns-in_err-make_room_at-in-Ok-clause-chose

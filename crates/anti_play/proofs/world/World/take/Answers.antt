@@ -24,14 +24,14 @@ pub born-requires-clause-starts : goal.born-requires-clause-starts
 born-requires-clause-starts c =
     let trace = c.requires.world.trace in
     let s = c.requires.world.stands in
-    starts_task c.args.app.now c.requires.sound c.args.self.now trace s (bearing trace c.inbox_number.result (Take c.args.nth)) tt refl tt c.in-Ok.entry
+    starts_task c.args.app.now c.requires.sound c.args.self.now trace s (bearing trace c.inbox_number.result (Take c.args.nth)) (refl, refl) refl c.in-Ok.entry
     (made ((goal.at.born-requires-clause-starts c).In-Ok) trace s) refl
 
 pub make_entry-requires : goal.make_entry-requires
 make_entry-requires c =
     let trace = c.requires.world.trace in
     let s = c.requires.world.stands in
-    may_grow c.args.app.now c.requires.sound c.args.self.now trace s (bearing trace c.inbox_number.result (Take c.args.nth)) tt refl tt c.in-Ok.entry
+    may_grow c.args.app.now c.requires.sound c.args.self.now trace s (bearing trace c.inbox_number.result (Take c.args.nth)) (refl, refl) refl c.in-Ok.entry
     (made ((goal.at.make_entry-requires c).In-Ok) trace s)
 
 pub reserve_at-requires : goal.reserve_at-requires
@@ -40,7 +40,7 @@ reserve_at-requires c =
     let s = c.requires.world.stands in
     let count : vec_len c.args.self.now.processes ≡ length c.args.self.now.processes.items = c.args.self.now.processes.ok.0 in
     let within : c.in-Ok.entry.object < length c.args.self.now.processes.items =
-    has_list c.args.app.now c.requires.sound c.args.self.now trace s (bearing trace c.inbox_number.result (Take c.args.nth)) tt refl tt c.in-Ok.entry (made ((goal.at.reserve_at-requires c).In-Ok) trace s) in
+    has_list c.args.app.now c.requires.sound c.args.self.now trace s (bearing trace c.inbox_number.result (Take c.args.nth)) (refl, refl) refl c.in-Ok.entry (made ((goal.at.reserve_at-requires c).In-Ok) trace s) in
     omega arith
 
 pub returns-in_err-reserve_at : goal.returns-in_err-reserve_at

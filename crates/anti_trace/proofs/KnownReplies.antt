@@ -34,7 +34,6 @@ use Rattle.anti_kind.specs.Objects.{Start, store, IsLegal, ready, due}
 use Rattle.anti_kind.specs.Store.{Store, store_of, absent, has_keys, is_visible, is_written, key_for, next, or_absent, scanned, shown_row, store_due, store_ready}
 use Rattle.anti_kind.specs.Stored.{is_in, rows, row_of, wrote}
 use Rattle.anti_kind.proofs.Bounds.{length_within}
-use Rattle.anti_kind.proofs.Histories.{by_entries}
 use Rattle.anti_kind.proofs.Finding.{Found, find_found}
 use Rattle.anti_kind.proofs.Sources.{rows_have_sources}
 use Rattle.anti_kind.specs.Laws.{IsOfWrite, RowsHaveSources}
@@ -54,7 +53,7 @@ use Rattle.anti_proc.specs.Local.{id_at}
 use Rattle.anti_app.specs.declared.objects.ObjectAt.{ObjectAt}
 use Rattle.anti_app.specs.declared.objects.ObjectAt.TheVariants.{Store as AStore, Inbox as AnInbox}
 use Rattle.anti_app.specs.Objects.{IsStore, object_at, service_at}
-use Rattle.anti_play.proofs.Numbers.{inbox_is, store_is}
+use Rattle.anti_trace.proofs.Numbers.{inbox_is, store_is}
 
 -- ---- facts of each item of a list
 
@@ -62,10 +61,6 @@ module _ {X : Type 0} (P : X → Type 0) where
   each_append : (xs ys : List X) → Each P xs → Each P ys → Each P (xs ++ ys)
   each_append [] ys one two = two
   each_append (x ∷ xs) ys one two = (one.0, each_append xs ys one.1 two)
-
-  each_parts : (xs ys : List X) → Each P (xs ++ ys) → Each P xs × Each P ys
-  each_parts [] ys all = (tt, all)
-  each_parts (x ∷ xs) ys all = let parts = each_parts xs ys all.1 in ((all.0, parts.0), parts.1)
 
   each_in : (xs : List X) (i : ℕ) (d : X) → Each P xs → i < length xs → P (get_or xs i d)
   each_in [] i d each lt = absurd (omega arith)
@@ -321,13 +316,3 @@ pub due_known : (app : App) (o : ℕ) (start : Start) (h : List Entry) (c : Call
     → IsCallAt app o c → ready start h c ≡ true → IsReplyAt app o (due start h c)
 due_known app o start h c sound there legal known call is_ready =
     is_due app o h known c call start there (length_within start h (start_sound app o start sound there) legal) legal is_ready
-
--- So it is enough that the calls are known.
-pub entries_known : (app : App) (o : ℕ) (start : Start) (h : List Entry) → IsTrue (is_sound app) → start_of app o ≡ Some start → IsLegal start h → Each (λ e. IsCallAt app o e.call) h → Each (KnownAt app o) h
-entries_known app o start h sound there legal = by_entries start (λ x. Each (λ e. IsCallAt app o e.call) x → Each (KnownAt app o) x) (λ none. tt)
-    (λ x e before follows known all.
-    let parts = each_parts (λ e. IsCallAt app o e.call) x (e ∷ []) all in
-    let earlier = known parts.0 in
-    each_append (KnownAt app o) x (e ∷ []) earlier
-    ((parts.1.0, subst (IsReplyAt app o) (sym follows.reply) (due_known app o start x e.call sound there before earlier parts.1.0 follows.is_ready)), tt))
-    h legal

@@ -1,8 +1,8 @@
--- Each entry of a run by whose call a process is born starts one.
+-- An entry that may come next at its object, by whose call a process is born, starts one.
 use Rattle.std.proofs.Common.{◌≡◌, ℕ, ◌-◌, ◌≤◌, Bool, true, false, not, cond, List, [], ◌∷◌, length, get_or, refl, sym, ap, ◌∙◌, subst, arith}
-use Rattle.std.specs.Prelude.{All, IsTrue, Option, None, Some, nat_le, option_map, option_and_then, slice_get}
-use Rattle.std.proofs.lemmas.Bool.{and_parts, leb-true, lt-ltb, eq-eqb}
-use Rattle.std.proofs.lemmas.List.Elements.{All-nil, All-cons, All-append, All-filter}
+use Rattle.std.specs.Prelude.{IsTrue, Option, None, Some, nat_le, option_map, option_and_then, slice_get}
+use Rattle.std.proofs.lemmas.Bool.{and_parts, leb-true, lt-ltb}
+use Rattle.std.proofs.lemmas.List.Elements.{All-filter}
 use Rattle.std.proofs.lemmas.Option.{slice_get-get_or}
 use Rattle.anti_kind.specs.declared.call.Call.{Call}
 use Rattle.anti_kind.specs.declared.call.Call.TheVariants as calls
@@ -14,7 +14,6 @@ use Rattle.anti_kind.specs.Inbox.{deliveries, free, got_of, handed, inbox_due, i
 use Rattle.anti_kind.specs.Objects.{Start, store, inbox, Follows, IsLegal, due, ready}
 use Rattle.anti_kind.specs.Store.{Store, next, pulled_next, is_there, is_topic, store_of, store_ready, was_pulled}
 use Rattle.anti_kind.proofs.Deliveries.{counted}
-use Rattle.anti_kind.proofs.Histories.{by_entries}
 use Rattle.anti_kind.proofs.Pulls.{no_sub_pulled}
 use Rattle.anti_app.specs.declared.app.App.{App}
 use Rattle.anti_app.specs.declared.app.ServiceDef.{ServiceDef}
@@ -25,15 +24,13 @@ use Rattle.anti_app.specs.Objects.{IsInbox, object_at}
 use Rattle.anti_app.specs.Sound.{is_sound}
 use Rattle.anti_app.specs.Subs.{subs_on}
 use Rattle.anti_object.specs.Starts.{inbox_start, requests_to, start_at, start_of, store_start, tries_of}
-use Rattle.anti_object.proofs.Starts.{no_subs, start_there}
-use Rattle.anti_trace.specs.Traces.{entries_on, is_on}
-use Rattle.anti_trace.proofs.Puts.{All-from_filter}
+use Rattle.anti_object.proofs.Starts.{no_subs}
 use Rattle.anti_proc.specs.declared.task.Task.{Task}
 use Rattle.anti_proc.specs.Known.{IsReplyAt}
 use Rattle.anti_proc.specs.Tasks.{task_of}
 use Rattle.anti_proc.proofs.Knowing.{birth_known, taken_known}
-use Rattle.anti_play.specs.Runs.{IsRun, bears}
-use Rattle.anti_play.proofs.Numbers.{inbox_is}
+use Rattle.anti_trace.specs.Legal.{bears}
+use Rattle.anti_trace.proofs.Numbers.{inbox_is}
 
 -- ---- what an inbox hands out
 
@@ -126,22 +123,3 @@ module _ (app : App) (sound : IsTrue (is_sound app)) where
         by_object None at is = absurd (cc)
         by_object (Some (AStore n)) at is = at_store n (slice_get app.stores.items n) is
         by_object (Some (AnInbox service)) at is = at_inbox (inbox_is app e.object service at).1 service (slice_get app.services.items service) is none
-
-  -- ---- each entry of a run
-
-  -- it came behind a legal history
-  abbrev Came : Start → Entry → Type 0
-  Came start e = (before : List Entry) × IsLegal start before × Follows start before e
-
-  all_came : (start : Start) (h : List Entry) → IsLegal start h → All (Came start) h
-  all_came start h legal =
-      by_entries start (All (Came start)) (All-nil (Came start))
-      (λ x e before follows came. All-append (Came start) x (e ∷ []) came (All-cons (Came start) e [] (x, before, follows) (All-nil (Came start)))) h legal
-
-  pub all_start : (trace : List Entry) → IsRun app trace → All (λ e. bears e.call ≡ true → task_of app e ≡ None → ⊥) trace
-  all_start trace run k d lt bearing none =
-      let e : Entry = get_or trace k d in
-      let there : (start : Start) × (start_of app e.object ≡ Some start) = start_there app e.object (run.there k d lt) in
-      let came : Came there.0 e =
-      All-from_filter (Came there.0) (is_on e.object) trace (all_came there.0 (entries_on e.object trace) (run.legal e.object there.0 there.1)) k d lt (eq-eqb e.object e.object refl) in
-      starts came.0 e bearing (run.known k d lt).reply there.0 came.1 came.2 there.1 none
