@@ -1,4 +1,4 @@
-//! The tests of the library crates, a file for each crate that they are about. The crates themselves have none, so that each is
+//! The tests of all crates, a file for each crate or matter that they are about. The crates themselves have none, so that each is
 //! proved once.
 #![tactic(auto)]
 
@@ -8,6 +8,10 @@ mod app;
 mod baggage;
 #[cfg(test)]
 mod blob;
+#[cfg(test)]
+mod calling;
+#[cfg(test)]
+mod command;
 #[cfg(test)]
 mod edge;
 #[cfg(test)]
@@ -21,11 +25,21 @@ mod lang;
 #[cfg(test)]
 mod made;
 #[cfg(test)]
+mod refusals;
+#[cfg(test)]
+mod rules;
+#[cfg(test)]
+mod runs;
+#[cfg(test)]
 mod sending;
+#[cfg(test)]
+mod services;
 #[cfg(test)]
 mod shim;
 #[cfg(test)]
 mod steps;
+#[cfg(test)]
+mod stores;
 #[cfg(test)]
 mod table;
 #[cfg(test)]

@@ -1,5 +1,1 @@
 pub mod Words
-pub mod Lines
-pub mod Faults
-pub mod Runs
-pub mod Causes

@@ -4,30 +4,13 @@
 ghost use Rattle.std.specs.Prelude.{◌≡◌, IfOk};
 ghost use Rattle.antipode.specs.Words.{word_of};
 
-#[cfg(test)]
-mod call_tests;
-mod command;
-mod fault;
-#[cfg(test)]
-mod kind_tests;
-mod outcome;
-mod preparing;
-#[cfg(test)]
-mod rule_tests;
-mod telling;
-#[cfg(test)]
-mod tests;
-mod top;
-
+use anti_command::{TopFault, antipode_plain, status_of, tell};
 use anti_edge::{RealSink, RealSource};
 use anti_ids::{List, NoMemory, Value, ValueFault};
-use fault::{TopFault, status_of};
 use std::alloc::Global;
 use std::process::ExitCode;
 use std::rt::Env;
 use std::{env, io};
-use telling::tell;
-use top::antipode_plain;
 
 // The word for an argument: its bytes where they are a value, else none.
 fn word_of(alloc: Global, argument: &[u8]) -> Result<Value, NoMemory>

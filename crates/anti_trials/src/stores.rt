@@ -1,5 +1,5 @@
 // Stores of each kind that is built, through the top call.
-use crate::tests::{ends_as, step};
+use crate::calling::{ends_as, step};
 use std::test::Fail;
 
 // A scan behind a barrier shows what was shipped.

@@ -18,7 +18,7 @@ pub struct RunKept {
 pub struct Outcome {
     /// The status that the program ends with.
     pub status: u8,
-    /// The run whose text was written, or begun.
+    /// The run, where one was played and a text was written, or begun.
     pub kept: Option<RunKept>,
     /// Why not all was written, where it was not.
     pub fault: Option<TopFault>,

@@ -1,7 +1,9 @@
+// Services that call each other and send to each other, through the top call, and messages that start no process.
 ghost use Rattle.std.specs.Prelude.{IfSome, IsTrue};
 ghost use Rattle.anti_app.specs.Sound.{is_sound};
 
-use crate::tests::{ends_as, step, step_to};
+use crate::calling::{ends_as, step, step_to};
+use crate::made::name;
 use anti_app::{App, read_app};
 use anti_ids::{Bytes, Copies, Name};
 use anti_kind::{Entry, Message, Reply};
@@ -75,75 +77,8 @@ name = 'd'
 region = 'us'
 handler = [{name = 'tell', body = ['repeat 16', 'repeat 16', 'send c ask x', 'end', 'end']}]";
 
-// A picture that comes back with a reply, so that a reader's barrier waits for it: the document of `examples/service_calls.toml`.
-const PICTURE: &str =
-    "# A front service has a picture kept by another service, writes a post, and sends word of it to a reader in another region. The write of the
-# picture comes back with the reply to the call. So the reader's barrier waits for the picture, too, which the front service never wrote.
-regions = [\"us\", \"eu\"]
-choices = [
-  \"take front 1\", \"go front.1\",
-  \"repost pics 1\", # the call is delivered twice ..
-  \"take pics 1\", \"go pics.3\", \"go pics.3\",
-  \"take pics 1\", # .. and starts one process
-  \"go front.1\", \"go front.1\", \"go front.1\",
-  \"ship posts eu 1\",
-  \"take reader 1\", \"go reader.2\",
-  \"go reader.2\", # the barrier has to wait: the picture is not in eu yet
-  \"finish\",
-]
-store = [
-  { name = \"posts\", kind = \"kv\", replicas = [\"us\", \"eu\"] },
-  { name = \"media\", kind = \"kv\", replicas = [\"us\", \"eu\"] },
-]
-request = [{ service = \"front\", handler = \"post\", value = \"sunset\" }]
-
-[[service]]
-name = \"front\"
-region = \"us\"
-handler = [{ name = \"post\", body = [\"call pics put $in as m\", \"write posts p1 $m\", \"send reader note p1\"] }]
-
-[[service]]
-name = \"pics\"
-region = \"us\"
-handler = [{ name = \"put\", body = [\"write media m1 $in\", \"reply m1\"] }]
-
-[[service]]
-name = \"reader\"
-region = \"eu\"
-handler = [{ name = \"note\", body = [\"barrier\", \"read posts $in as p\", \"read media $p as m\"] }]
-";
-
-// Its record.
-const PICTURE_SEEN: &str = "record 1
-1 front.1 front.1/1 take 1 = got 1 request post 0 \"sunset\" 1;
-2 pics.1 front.1/1 post call put 1 \"sunset\" 1; = posted 1
-3 pics.2 ~0 repost 1 = done
-4 pics.3 pics.3/1 take 1 = got 1 call put 1 \"sunset\" 1;
-5 media.1 pics.3/1 write m1 \"sunset\" 1; = m1@1
-6 pics.4 pics.3/1 post reply 1 \"m1\" 1;media/m1@1 = done
-7 pics.5 front.1/1 takereply 1 = got \"m1\" 1;media/m1@1
-8 posts.1 front.1/1 write p1 \"m1\" 1;media/m1@1 = p1@1
-9 posts.2 ~0 ship eu 1 1 = moved
-9 reader.1 front.1/1 post send note 1 \"p1\" 1;posts/p1@1,media/m1@1 = posted 1
-10 reader.2 reader.2/1 take 1 = got 1 send note 1 \"p1\" 1;posts/p1@1,media/m1@1
-11 posts.3 reader.2/1 look eu 1;posts/p1@1 = clear
-12 posts.4 ~0 ship us 1 1 = moved
-13 media.2 ~0 ship us 1 1 = moved
-14 media.3 ~0 ship eu 1 1 = moved
-15 media.4 reader.2/1 look eu 1;media/m1@1 = clear
-16 posts.5 reader.2/1 read eu p1 = p1@1 \"m1\" 1;media/m1@1
-17 media.5 reader.2/1 read eu m1 = m1@1 \"sunset\" 1;
-wait 7 take pics 1
-wait 14 go reader.2
-process front.1 front post fine
-process pics.3 pics put fine
-process reader.2 reader note fine
-end 18
-";
-
 // Documents with calls and sends, and the record of each.
-static RECORDS: [(&str, &str); 8] = [
-    (PICTURE, PICTURE_SEEN),
+static RECORDS: [(&str, &str); 7] = [
     (
         REPEATED,
         "record 1
@@ -366,7 +301,7 @@ fn changed(
 }
 
 // What comes of a process that is to be born by an entry whose message is changed. `None` where memory runs out.
-#[tactic(auto, using(crate::proofs::Objects::runs))]
+#[tactic(auto, using(crate::proofs::Sound::runs))]
 fn birth(
     alloc: Global,
     app: &App,
@@ -390,8 +325,8 @@ fn a_foreign_message_starts_no_process(rt: HostRuntime) -> Result<(), Fail> {
     let app = application(alloc, REPEATED.as_bytes()).ok_or("no application")?;
     let Played { trace, .. } = play(alloc, &app)?;
     let entry = trace.as_slice().get(4).ok_or("an entry")?;
-    let tell = Name::new(b"tell").ok().ok_or("a name")?;
-    let none = Name::new(b"none").ok().ok_or("a name")?;
+    let tell = name(b"tell")?;
+    let none = name(b"none")?;
     let foreign = Some(Err(ProcFault::Foreign));
     assert_eq!(rt; birth(alloc, &app, entry, tell, 1, b"1;"), Some(Ok(())));
     assert_eq!(rt; birth(alloc, &app, entry, tell, 8, b"1;"), Some(Ok(())));

@@ -1,7 +1,7 @@
 ghost use Rattle.std.specs.Prelude.{◌≡◌};
 ghost use Rattle.anti_ids.specs.Counts.{Rose};
 ghost use Rattle.anti_edge.specs.Outside.{AddsFront, with_bytes};
-ghost use Rattle.antipode.specs.Lines.{line_of};
+ghost use Rattle.anti_command.specs.Lines.{line_of};
 
 use crate::fault::{TopFault, line_of};
 use anti_edge::{Failed, Sink, write_all};

@@ -1,9 +1,9 @@
--- The status of a fault, and which faults leave a run behind.
+-- The status of a fault, and with which the text is written.
 use Rattle.std.specs.Prelude.{ℕ, Option, None, Some, Bool, true, false}
 use Rattle.anti_app.specs.declared.app.AppFault.{AppFault}
 use Rattle.anti_app.specs.declared.app.AppFault.TheVariants as app
-use Rattle.antipode.specs.declared.fault.TopFault.{TopFault}
-use Rattle.antipode.specs.declared.fault.TopFault.TheVariants.{Usage, ReadFault, WriteFault, TooLong, NotToml, BadApp, BadChoice, NoMemory}
+use Rattle.anti_command.specs.declared.fault.TopFault.{TopFault}
+use Rattle.anti_command.specs.declared.fault.TopFault.TheVariants.{Usage, ReadFault, WriteFault, TooLong, NotToml, BadApp, BadChoice, NoMemory}
 
 -- the fault of the call for the fault of its bytes
 abbrev pub fault_of : AppFault → TopFault
@@ -23,8 +23,8 @@ status_of (Some (BadApp rule place)) = 5
 status_of (Some (BadChoice number)) = 5
 status_of (Some NoMemory) = 6
 
--- a run is kept where its text was written, or begun
-abbrev pub keeps_run : Option TopFault → Bool
-keeps_run None = true
-keeps_run (Some WriteFault) = true
-keeps_run _ = false
+-- the text was written, or begun
+abbrev pub writes : Option TopFault → Bool
+writes None = true
+writes (Some WriteFault) = true
+writes _ = false

@@ -2,8 +2,8 @@
 use Rattle.std.specs.Prelude.{ℕ, List, ◌++◌, codes, decimal}
 use Rattle.anti_rules.specs.declared.place.Part.{Part}
 use Rattle.anti_rules.specs.declared.place.Part.TheVariants as parts
-use Rattle.antipode.specs.declared.fault.TopFault.{TopFault}
-use Rattle.antipode.specs.declared.fault.TopFault.TheVariants.{Usage, ReadFault, WriteFault, TooLong, NotToml, BadApp, BadChoice, NoMemory}
+use Rattle.anti_command.specs.declared.fault.TopFault.{TopFault}
+use Rattle.anti_command.specs.declared.fault.TopFault.TheVariants.{Usage, ReadFault, WriteFault, TooLong, NotToml, BadApp, BadChoice, NoMemory}
 
 abbrev pub part_word : Part → List ℕ
 part_word parts.Top = codes "top"

@@ -1,5 +1,5 @@
 ghost use Rattle.std.specs.Prelude.{◌≡◌};
-ghost use Rattle.antipode.specs.Words.{command_of};
+ghost use Rattle.anti_command.specs.Words.{command_of};
 
 use anti_ids::Value;
 

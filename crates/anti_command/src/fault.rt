@@ -1,6 +1,6 @@
 ghost use Rattle.std.specs.Prelude.{◌≡◌, ◌≤◌, ◌++◌, length, codes, decimal};
-ghost use Rattle.antipode.specs.Faults.{fault_of, status_of};
-ghost use Rattle.antipode.specs.Lines.{line_of, part_word};
+ghost use Rattle.anti_command.specs.Faults.{fault_of, status_of};
+ghost use Rattle.anti_command.specs.Lines.{line_of, part_word};
 
 use anti_app::{AppFault, Part, Place};
 use anti_ids::LONGEST_LINE;

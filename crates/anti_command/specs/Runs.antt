@@ -6,9 +6,9 @@ use Rattle.anti_app.specs.declared.app.AppFault.{AppFault}
 use Rattle.anti_app.specs.Sound.{is_sound}
 use Rattle.anti_app.specs.Stated.{app_of}
 use Rattle.anti_text.specs.Record.{text_of}
-use Rattle.anti_play.specs.Runs.{IsRun}
+use Rattle.anti_trace.specs.Legal.{IsLegalTrace}
 use Rattle.anti_play.specs.Schedule.{trace_of, waits_of}
-use Rattle.antipode.specs.declared.outcome.RunKept.{RunKept}
+use Rattle.anti_command.specs.declared.outcome.RunKept.{RunKept}
 use Rattle.anti_ids.specs.declared.limits.TheConstants.{LONGEST_DOCUMENT}
 
 -- the application that bytes state, or why they state none
@@ -23,9 +23,9 @@ IsPlayable app = IsTrue (is_sound app)
 unfoldable pub IsPlayed : RunKept → Type 0
 IsPlayed kept = (kept.trace ≡ trace_of kept.app) × (kept.waits ≡ plain (waits_of kept.app))
 
--- the entries stand in their order, and the history of each object is legal
+-- the trace is a legal one of the application
 unfoldable pub IsLegalRun : RunKept → Type 0
-IsLegalRun kept = IsRun kept.app kept.trace
+IsLegalRun kept = IsLegalTrace kept.app kept.trace
 
 -- the record of the run
 unfoldable pub printed : RunKept → List ℕ

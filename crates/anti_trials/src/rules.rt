@@ -1,4 +1,5 @@
-use crate::tests::{ends_as, step};
+// Each rule of documents, told through the top call with its place.
+use crate::calling::{ends_as, step};
 
 // A text eight times between two others.
 macro_rules! eight {

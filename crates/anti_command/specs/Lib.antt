@@ -1,0 +1,6 @@
+pub mod Words
+pub mod Lines
+pub mod Faults
+pub mod Runs
+pub mod Commands
+pub mod Causes

@@ -1,0 +1,133 @@
+ghost use Rattle.std.specs.Prelude.{◌≡◌, ℕ, ◌≤◌, length, None, Some, false, true, Ok, Err, IfOk, IfErr, IfSome, Option, is_some};
+ghost use Rattle.anti_ids.specs.Counts.{Rose};
+ghost use Rattle.anti_command.specs.Words.{command_of};
+ghost use Rattle.anti_command.specs.Faults.{writes};
+ghost use Rattle.anti_command.specs.Commands.{reads_source, plays, IsDone};
+ghost use Rattle.anti_command.specs.Causes.{HasCause, IsFaultOf};
+ghost use Rattle.anti_command.specs.Runs.{application_of, IsPlayable, IsLegalRun, IsPlayed, IsRunOf, printed};
+
+use crate::command::{Command, asked_for};
+use crate::fault::{TopFault, fault_of};
+use crate::outcome::RunKept;
+use anti_app::{App, read_app};
+use anti_edge::{ReadRefused, Source, read_all};
+use anti_ids::{Bytes, LONGEST_DOCUMENT, NoMemory, Value};
+use anti_play::{Played, play};
+use anti_text::text;
+use std::alloc::Global;
+
+/// All that is made before the first byte is written.
+#[derive(Drop)]
+pub struct Prepared {
+    /// The run, where one was played.
+    pub kept: Option<RunKept>,
+    /// The text to be written.
+    pub text: Bytes,
+}
+
+// The bytes of the document, for a command that reads the source.
+fn document<S: Source>(alloc: Global, src: &mut S) -> Result<Bytes, TopFault>
+    ensures all { IfOk result (λ bytes. IfSome (S.left src.old) (λ left. bytes.items ≡ left)) }
+    ensures short { IfOk result (λ bytes. length bytes.items ≤ LONGEST_DOCUMENT) }
+    ensures cause { (asked : Option Command) → reads_source asked ≡ true →
+        IfErr result (HasCause asked (S.left src.old) (S.left src.new)
+        (Rose (S.faults src.old) (S.faults src.new)) ⊥) }
+    ensures unwritten { IfErr result (λ fault. writes (Some fault) ≡ false) }
+{
+    match read_all(alloc, src, LONGEST_DOCUMENT) {
+        Ok(bytes) => Ok(bytes),
+        Err(ReadRefused::Fault) => Err(TopFault::ReadFault),
+        Err(ReadRefused::TooLong) => Err(TopFault::TooLong),
+        Err(ReadRefused::NoMemory) => Err(TopFault::NoMemory),
+    }
+}
+
+// The application that the bytes state.
+#[tactic(auto, unfolding(crate::specs::Runs::application_of, crate::specs::Runs::IsPlayable))]
+fn application(alloc: Global, bytes: &[u8]) -> Result<App, TopFault>
+    ensures states { IfOk result (λ app. application_of bytes.now ≡ Ok app) }
+    ensures sound { IfOk result IsPlayable }
+    ensures cause { IfErr result (IsFaultOf bytes.now) }
+{
+    match read_app(alloc, bytes) {
+        Ok(app) => Ok(app),
+        Err(fault) => Err(fault_of(fault)),
+    }
+}
+
+// The run of the application.
+#[tactic(auto, unfolding(crate::specs::Runs::IsPlayable, crate::specs::Runs::IsPlayed, crate::specs::Runs::IsLegalRun))]
+fn run(alloc: Global, app: App) -> Result<RunKept, NoMemory>
+    requires { IsPlayable app }
+    ensures app { IfOk result (λ run. run.app ≡ app) }
+    ensures played { IfOk result IsPlayed }
+    ensures legal { IfOk result IsLegalRun }
+{
+    let Played { trace, waits } = play(alloc, &app)?;
+    Ok(RunKept { app, trace, waits })
+}
+
+// The record of the run.
+#[tactic(auto, unfolding(crate::specs::Runs::IsPlayable, crate::specs::Runs::IsLegalRun, crate::specs::Runs::printed))]
+fn record_of(alloc: Global, run: &RunKept) -> Result<Bytes, NoMemory>
+    requires playable { IsPlayable run.now.app }
+    requires legal { IsLegalRun run.now }
+    ensures { IfOk result (λ text. text.items ≡ printed run.now) }
+{
+    text(alloc, &run.app, &run.trace, &run.waits)
+}
+
+// The run of the document that the source has.
+fn run_of<S: Source>(alloc: Global, src: &mut S) -> Result<RunKept, TopFault>
+    ensures run { IfOk result (IsRunOf (S.left src.old)) }
+    ensures playable { IfOk result (λ run. IsPlayable run.app) }
+    ensures cause { (asked : Option Command) → reads_source asked ≡ true →
+        IfErr result (HasCause asked (S.left src.old) (S.left src.new)
+        (Rose (S.faults src.old) (S.faults src.new)) ⊥) }
+    ensures unwritten { IfErr result (λ fault. writes (Some fault) ≡ false) }
+{
+    let bytes = document(alloc, src)?;
+    let app = application(alloc, bytes.bytes())?;
+    match run(alloc, app) {
+        Ok(run) => Ok(run),
+        Err(NoMemory) => Err(TopFault::NoMemory),
+    }
+}
+
+// Plays the choices of the document, and makes the record of the run.
+fn step<S: Source>(alloc: Global, src: &mut S) -> Result<Prepared, TopFault>
+    ensures done { IfOk result (λ p.
+        IsDone (Some Command.Step) (S.left src.old) p.kept p.text.items) }
+    ensures plays { IfOk result (λ p. is_some p.kept ≡ true) }
+    ensures cause { IfErr result (HasCause (Some Command.Step) (S.left src.old) (S.left src.new)
+        (Rose (S.faults src.old) (S.faults src.new)) ⊥) }
+    ensures unwritten { IfErr result (λ fault. writes (Some fault) ≡ false) }
+{
+    let run = run_of(alloc, src)?;
+    match record_of(alloc, &run) {
+        Ok(text) => Ok(Prepared {
+            kept: Some(run),
+            text,
+        }),
+        Err(NoMemory) => Err(TopFault::NoMemory),
+    }
+}
+
+/// Does all that the words ask for, up to the first byte to be written.
+pub fn prepare<S: Source>(alloc: Global, words: &[Value], src: &mut S) -> Result<Prepared, TopFault>
+    ensures done { IfOk result (λ p.
+        IsDone (command_of words.now) (S.left src.old) p.kept p.text.items) }
+    ensures plays { IfOk result (λ p. is_some p.kept ≡ plays (command_of words.now)) }
+
+    // Each fault has its cause, and none is of writing.
+    ensures cause { IfErr result (HasCause (command_of words.now) (S.left src.old) (S.left src.new)
+        (Rose (S.faults src.old) (S.faults src.new)) ⊥) }
+    ensures unwritten { IfErr result (λ fault. writes (Some fault) ≡ false) }
+    ensures usage { command_of words.now ≡ None → result ≡ Err TopFault.Usage }
+    ensures src { reads_source (command_of words.now) ≡ false → src.new ≡ src.old }
+{
+    match asked_for(words) {
+        Some(Command::Step) => step(alloc, src),
+        None => Err(TopFault::Usage),
+    }
+}
