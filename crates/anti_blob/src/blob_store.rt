@@ -89,15 +89,15 @@ impl Machine for Blob {
         }
     }
 
-    fn apply(&mut self, c: &Call) -> Result<Reply, NoMemory> {
+    fn apply(&mut self, c: &Call) -> Result<(), NoMemory> {
         match c {
             Call::Write {
                 key,
                 value,
                 lineage,
             } => {
-                let version = self.base.write(*key, value, lineage)?;
-                Ok(Reply::Written { key: *key, version })
+                self.base.write(*key, value, lineage)?;
+                Ok(())
             }
             Call::Ship {
                 region,
@@ -105,12 +105,11 @@ impl Machine for Blob {
                 part,
             } => {
                 self.base.ship(*region, *version, *part);
-                Ok(Reply::Moved)
+                Ok(())
             }
             _ => {
-                let reply = self.due(c)?;
                 self.base.note(1);
-                Ok(reply)
+                Ok(())
             }
         }
     }

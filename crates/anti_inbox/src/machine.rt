@@ -148,12 +148,11 @@ impl Machine for Inbox {
         }
     }
 
-    fn apply(&mut self, c: &Call) -> Result<Reply, NoMemory> {
-        let reply = self.due(c)?;
+    fn apply(&mut self, c: &Call) -> Result<(), NoMemory> {
         let need = self.need(c);
         self.note(c)?;
         self.held += 1;
         self.owed = self.owed + need - 1;
-        Ok(reply)
+        Ok(())
     }
 }

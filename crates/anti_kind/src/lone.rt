@@ -77,13 +77,17 @@ impl<M: Machine> Lone<M> {
         if let Err(refusal) = self.recorded.judge(&asking) {
             return refused(refusal);
         }
+        // one for the entry, one for the caller
         let Ok(due) = self.recorded.due(&asking.call) else {
+            return Answer::NoMemory;
+        };
+        let Ok(reply) = self.recorded.due(&asking.call) else {
             return Answer::NoMemory;
         };
         let entry = self.recorded.entry(0, asking, due);
         let place = entry.place;
         let stamp = entry.stamp;
-        let Ok(reply) = self.recorded.make(entry) else {
+        let Ok(()) = self.recorded.make(entry) else {
             return Answer::NoMemory;
         };
         Answer::Made {

@@ -43,11 +43,10 @@ pub trait Machine {
         ensures due { (h : List Entry) → StandsFor (start self.now) (Stands self.now) h → IfOk result (λ r. r ≡ due (start self.now) h c.now) }
         ensures ship { IsShip c.now → IsOk result };
 
-    /// Makes a call that is ready and fits, and answers the reply that it is due. Where there is no memory it stands for what it
-    /// stood for. A `Ship` takes no memory.
-    fn apply(&mut self, c: &Call) -> Result<Reply, NoMemory>
+    /// Makes a call that is ready and fits. The reply that it is due is told by `due` before. Where there is no memory it stands for what
+    /// it stood for. A `Ship` takes no memory.
+    fn apply(&mut self, c: &Call) -> Result<(), NoMemory>
         requires { MayMake (start self.old) (Stands self.old) c.now }
-        ensures due { (h : List Entry) → StandsFor (start self.old) (Stands self.old) h → IfOk result (λ r. r ≡ due (start self.old) h c.now) }
         ensures stands { (h : List Entry) (e : Entry) → StandsFor (start self.old) (Stands self.old) h → Follows (start self.old) h e → e.call ≡ c.now → OnOk result (Stands self.new (h ++ e ∷ [])) }
         ensures err { (h : List Entry) → Stands self.old h → OnErr result (Stands self.new h) }
         ensures start { start self.new ≡ start self.old }

@@ -140,12 +140,10 @@ impl<M: Machine> Recorded<M> {
         }
     }
 
-    /// Makes the call of an entry that may come next, and answers its reply. Without memory nothing was made. A `Ship` takes no
-    /// memory.
-    pub fn make(&mut self, entry: Entry) -> Result<Reply, NoMemory>
+    /// Makes the call of an entry that may come next. Without memory nothing was made. A `Ship` takes no memory.
+    pub fn make(&mut self, entry: Entry) -> Result<(), NoMemory>
         requires { Follows (M.start self.old.machine) self.old.history entry }
         ensures made { OnOk result (self.new.history ≡ self.old.history ++ entry ∷ []) }
-        ensures reply { IfOk result (λ r. r ≡ entry.reply) }
         ensures err { OnErr result (self.new.history ≡ self.old.history) }
         ensures legal { IsLegal (M.start self.old.machine) self.new.history }
         ensures start { M.start self.new.machine ≡ M.start self.old.machine }
@@ -153,9 +151,9 @@ impl<M: Machine> Recorded<M> {
     {
         let room = self.machine.owed() + self.machine.need(&entry.call);
         self.history.reserve(room)?;
-        let reply = self.machine.apply(&entry.call)?;
+        self.machine.apply(&entry.call)?;
         self.last = entry.stamp;
         self.history.put(entry);
-        Ok(reply)
+        Ok(())
     }
 }

@@ -88,15 +88,15 @@ impl Machine for Kv {
         }
     }
 
-    fn apply(&mut self, c: &Call) -> Result<Reply, NoMemory> {
+    fn apply(&mut self, c: &Call) -> Result<(), NoMemory> {
         match c {
             Call::Write {
                 key,
                 value,
                 lineage,
             } => {
-                let version = self.base.write(*key, value, lineage)?;
-                Ok(Reply::Written { key: *key, version })
+                self.base.write(*key, value, lineage)?;
+                Ok(())
             }
             Call::Ship {
                 region,
@@ -104,12 +104,11 @@ impl Machine for Kv {
                 part,
             } => {
                 self.base.ship(*region, *version, *part);
-                Ok(Reply::Moved)
+                Ok(())
             }
             _ => {
-                let reply = self.due(c)?;
                 self.base.note(1);
-                Ok(reply)
+                Ok(())
             }
         }
     }

@@ -70,7 +70,7 @@ impl Machine for Object {
         each!(self, machine => machine.due(c))
     }
 
-    fn apply(&mut self, c: &Call) -> Result<Reply, NoMemory> {
+    fn apply(&mut self, c: &Call) -> Result<(), NoMemory> {
         each!(self, machine => machine.apply(c))
     }
 }

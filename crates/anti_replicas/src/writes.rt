@@ -61,14 +61,12 @@ impl Replicas {
         }
     }
 
-    /// Writes a value to the key that it gets, and tells its version. The shipments of its parts are owed from now on.
-    pub fn write(&mut self, key: Name, value: &Value, lineage: &Lineage) -> Result<u64, NoMemory>
+    /// Writes a value to the key that it gets, in the next version. The shipments of its parts are owed from now on.
+    pub fn write(&mut self, key: Name, value: &Value, lineage: &Lineage) -> Result<(), NoMemory>
         requires { MayWrite self.old value.now lineage.now }
         ensures stands { (s : Store) (h : List Entry) (e : Entry) (name : List ℕ) → At self.old s h
             → Follows (store s) h e → e.call ≡ Write name value.now lineage.now
             → key ≡ key_for s.kind h name → OnOk result (Stands self.new s (h ++ e ∷ [])) }
-        ensures version { (s : Store) (h : List Entry) → At self.old s h
-            → IfOk result (λ v. v ≡ length (rows h) + 1) }
         ensures err { (s : Store) (h : List Entry) → Stands self.old s h → OnErr result (Stands self.new s h) }
         ensures kind { kind_of self.new ≡ kind_of self.old }
         ensures number { number_of self.new ≡ number_of self.old }
@@ -78,20 +76,19 @@ impl Replicas {
     }
 
     // Keeps one more write.
-    fn keep(&mut self, key: Name, value: &Value, lineage: &Lineage) -> Result<u64, NoMemory>
+    fn keep(&mut self, key: Name, value: &Value, lineage: &Lineage) -> Result<(), NoMemory>
         requires { self.old.held + self.old.owed + self.old.replicas * parts_of self.old.kind value.now < MOST_UNITS }
-        ensures ok { IfOk result (λ v. Keeps self.old self.new (record { key = key; version = v; value = value.now; lineage = lineage.now })) }
-        ensures version { IfOk result (λ v. v ≡ length self.old.kept.items + 1) }
+        ensures ok { OnOk result (Keeps self.old self.new
+            (record { key = key; version = length self.old.kept.items + 1; value = value.now; lineage = lineage.now })) }
         ensures err { (s : Store) (h : List Entry) → Stands self.old s h → OnErr result (Stands self.new s h) }
         ensures kind { kind_of self.new ≡ kind_of self.old }
         ensures number { number_of self.new ≡ number_of self.old }
         ensures regions { regions_of self.new ≡ regions_of self.old }
     {
-        let version = self.kept.len() as u64 + 1;
         let parts = parts_of(self.kind, value);
         let row = Row {
             key,
-            version,
+            version: self.kept.len() as u64 + 1,
             value: value.copy(self.alloc)?,
             lineage: lineage.copy(self.alloc)?,
         };
@@ -106,6 +103,6 @@ impl Replicas {
         }
         self.held += 1;
         self.owed += u32::from(self.replicas) * u32::from(parts);
-        Ok(version)
+        Ok(())
     }
 }

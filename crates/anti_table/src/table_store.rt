@@ -91,15 +91,15 @@ impl Machine for Table {
         }
     }
 
-    fn apply(&mut self, c: &Call) -> Result<Reply, NoMemory> {
+    fn apply(&mut self, c: &Call) -> Result<(), NoMemory> {
         match c {
             Call::Write {
                 key,
                 value,
                 lineage,
             } => {
-                let version = self.base.write(*key, value, lineage)?;
-                Ok(Reply::Written { key: *key, version })
+                self.base.write(*key, value, lineage)?;
+                Ok(())
             }
             Call::Ship {
                 region,
@@ -107,13 +107,12 @@ impl Machine for Table {
                 part,
             } => {
                 self.base.ship(*region, *version, *part);
-                Ok(Reply::Moved)
+                Ok(())
             }
             _ => {
                 let units = self.base.need(c);
-                let reply = self.due(c)?;
                 self.base.note(units);
-                Ok(reply)
+                Ok(())
             }
         }
     }

@@ -8,7 +8,7 @@ use Rattle.anti_inbox.proofs.machine.InboxMachine.apply.Goals as goal
 
 pub returns-in_err-note-clause-err : goal.returns-in_err-note-clause-err
 returns-in_err-note-clause-err c = λ h stands.
-    if_err c.from_residual-in_err-note.result (stands_same c.args.self.now c.note.new.self h stands c.note.ensures.keeps (c.in_err-note.ensures.err h stands.knows))
+    if_err c.from_residual.result (stands_same c.args.self.now c.note.new.self h stands c.note.ensures.keeps (c.in_err-note.ensures.err h stands.knows))
 
 pub overflow_sub-self : goal.overflow_sub-self
 overflow_sub-self c =

@@ -41,6 +41,6 @@ returns-clause-gives g c =
     let is = c.entry-entry.ensures in
     let place = ap (λ (e : Entry). e.place) is in
     let stamp = ap (λ (e : Entry). e.stamp) is in
-    let reply = c.in-Ok-make.ensures.reply ∙ ap (λ (e : Entry). e.reply) is in
+    let reply = c.in-Ok-due.ensures.due ∙ sym c.in-Ok.ensures.due in
     let made = c.in-Ok-make.ensures.made ∙ ap (λ (e : Entry). h ++ e ∷ []) is in
     rw (← c.self.view_is) (rw (place, stamp, reply) (follows g d, refl, made))

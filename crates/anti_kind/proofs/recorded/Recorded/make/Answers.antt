@@ -45,4 +45,4 @@ invariant_of-self-2 g c =
     let f = follows g d in
     subst (λ (s : Start). IsRecorded s (g.M.Machine.Stands c.apply.new.self) c.args.entry.stamp c.put.new.self) (sym c.apply.ensures.start)
     (recorded_more start (g.M.Machine.Stands c.self.inside.machine) (g.M.Machine.Stands c.apply.new.self) c.self.inside.last (c.owed.result + c.need.result) c.self.inside.history c.put.new.self c.args.entry
-    c.self.invariant f (c.in_ok-reply.ensures.stands h c.args.entry c.self.invariant.stands_for f refl) (room_is g d) (new_is g (goal.at.invariant_of-self-2 g c).After-put))
+    c.self.invariant f (c.in_ok-apply.ensures.stands h c.args.entry c.self.invariant.stands_for f refl) (room_is g d) (new_is g (goal.at.invariant_of-self-2 g c).After-put))

@@ -4,7 +4,7 @@ use Rattle.anti_replicas.proofs.Standing.{stands_for_own}
 use Rattle.anti_kv.specs.KvStates.{its_store}
 use Rattle.anti_kv.proofs.kv_store.KvMachine.apply.Goals as goal
 
-pub returns-in_ok-version-in-Write-clause-stands : goal.returns-in_ok-version-in-Write-clause-stands
-returns-in_ok-version-in-Write-clause-stands c = λ h e at f is.
-    let wrote = c.in_ok-version-in-Write.ensures in
+pub returns-in_ok-write-in-Write-clause-stands : goal.returns-in_ok-write-in-Write-clause-stands
+returns-in_ok-write-in-Write-clause-stands c = λ h e at f is.
+    let wrote = c.in_ok-write-in-Write.ensures in
     stands_for_own c.write.new.self kv_store _ _ _ _ _ wrote.number wrote.regions (wrote.stands (its_store c.args.self.now) h e c.in-Write.key at f (is ∙ c.in-Write.is) refl)
