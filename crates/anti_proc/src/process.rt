@@ -4,15 +4,15 @@ ghost use Rattle.anti_app.specs.Running.{CanRun};
 ghost use Rattle.anti_proc.specs.Births.{birth_at};
 ghost use Rattle.anti_proc.specs.Foreign.{is_foreign};
 ghost use Rattle.anti_proc.specs.Meaning.{tree_of};
-ghost use Rattle.anti_proc.specs.Tasks.{task_of};
+ghost use Rattle.anti_proc.specs.Tasks.{role_of, task_of};
 ghost use Rattle.anti_proc.specs.Trees.{IsAskedAt, Make, ask_of, branch, end_of, want_of};
 ghost use Rattle.anti_proc.specs.inner.Running.{IsAdvanceOf, IsRunOf};
-ghost use Rattle.anti_proc.specs.inner.Standing.{HasRoom, advanced, birth_of, clock_of, full_by, full_of, process_of};
+ghost use Rattle.anti_proc.specs.inner.Standing.{HasRoom, advanced, birth_of, clock_of, full_by, full_of, its_role, process_of};
 
 use crate::end::{End, ProcFault, end_as};
 use crate::foreign::brought;
 use crate::run::{Advance, Life, begun};
-use crate::task::Task;
+use crate::task::{Role, Task};
 use anti_app::App;
 use anti_ids::NoMemory;
 use anti_kind::{Birth, Call, Entry, Reply};
@@ -32,6 +32,7 @@ pub struct Asked<'a> {
 pub struct Process {
     alloc: Global,
     birth: Birth,
+    role: Role,
     clock: u64,
     life: Life,
 }
@@ -46,11 +47,13 @@ impl Process {
         ensures stands { IfOk result (λ p. process_of app.now p ≡ tree_of app.now entry.now) }
         ensures clock { IfOk result (λ p. clock_of p ≡ entry.now.stamp) }
         ensures birth { IfOk result (λ p. birth_of p ≡ birth_at entry.now) }
+        ensures role { IfOk result (λ p. role_of app.now entry.now ≡ Some (its_role p)) }
         ensures full { IfOk result (λ p. full_of p ≡ None) }
         ensures known { OnOk result (task_of app.now entry.now ≡ None → ⊥) }
         ensures foreign { result ≡ Err ProcFault.Foreign → task_of app.now entry.now ≡ None }
     {
         let task = Task::of(alloc, app, entry)?;
+        let role = task.role;
         let life = begun(alloc, app, task)?;
         Ok(Process {
             alloc,
@@ -58,6 +61,7 @@ impl Process {
                 object: entry.object,
                 place: entry.place,
             },
+            role,
             clock: entry.stamp,
             life,
         })
@@ -125,6 +129,7 @@ impl Process {
             → IsAdvanceOf app self.new a }
         ensures clock { clock_of self.new ≡ clock_of self.old }
         ensures birth { birth_of self.new ≡ birth_of self.old }
+        ensures role { its_role self.new ≡ its_role self.old }
         ensures full { full_of self.new ≡ full_of self.old }
         ensures room { OnOk result (HasRoom self.new) }
         ensures err { OnErr result (self.new ≡ self.old) }
@@ -142,6 +147,7 @@ impl Process {
         ensures run { (app : App) → IsAdvanceOf app self.old advance → IsRunOf app self.new }
         ensures clock { clock_of self.new ≡ stamp }
         ensures birth { birth_of self.new ≡ birth_of self.old }
+        ensures role { its_role self.new ≡ its_role self.old }
         ensures full { full_by advance ≡ full_of self.old → full_of self.new ≡ full_of self.old }
     {
         self.clock = stamp;
@@ -166,6 +172,7 @@ impl Process {
             ≡ branch (process_of app.now self.old) reply.now) }
         ensures clock { OnOk result (clock_of self.new ≡ stamp) }
         ensures birth { birth_of self.new ≡ birth_of self.old }
+        ensures role { its_role self.new ≡ its_role self.old }
         ensures full { full_of self.new ≡ full_of self.old }
         ensures known { OnOk result (is_foreign app.now reply.now ≡ false) }
         ensures foreign { result ≡ Err ProcFault.Foreign → is_foreign app.now reply.now ≡ true }
@@ -185,6 +192,7 @@ impl Process {
         ensures full { full_of self.new ≡ Some object }
         ensures clock { clock_of self.new ≡ clock_of self.old }
         ensures birth { birth_of self.new ≡ birth_of self.old }
+        ensures role { its_role self.new ≡ its_role self.old }
     {
         self.life = Life::Full(object);
     }
@@ -201,5 +209,12 @@ impl Process {
         ensures { result ≡ birth_of self.now }
     {
         self.birth
+    }
+
+    /// Which handler it runs. It takes no memory.
+    pub fn role(&self) -> Role
+        ensures { result ≡ its_role self.now }
+    {
+        self.role
     }
 }

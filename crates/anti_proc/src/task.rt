@@ -198,6 +198,7 @@ fn task_of_message(
     message: &Message,
 ) -> Result<Task, ProcFault>
     requires { CanRun app.now }
+    ensures role { IfOk result (λ task. task.role ≡ role) }
     ensures task { IfOk result (λ task. (object number : ℕ)
         → task_for app.now object (Reply.Got number message.now) role ≡ Some task) }
     ensures foreign { result ≡ Err ProcFault.Foreign
@@ -220,6 +221,7 @@ fn task_of_row(
     store: u32,
     row: &Row,
 ) -> Result<Task, ProcFault>
+    ensures role { IfOk result (λ task. task.role ≡ role) }
     ensures task { IfOk result (λ task. task_for app.now store (Reply.Pulled row.now) role
         ≡ Some task) }
     ensures foreign { result ≡ Err ProcFault.Foreign
@@ -241,6 +243,7 @@ impl Task {
     /// What an entry starts. `Foreign` comes exactly where it starts nothing.
     pub fn of(alloc: Global, app: &App, entry: &Entry) -> Result<Task, ProcFault>
         requires { CanRun app.now }
+        ensures role { IfOk result (λ task. role_of app.now entry.now ≡ Some task.role) }
         ensures task { IfOk result (λ task. task_of app.now entry.now ≡ Some task) }
         ensures foreign { result ≡ Err ProcFault.Foreign → task_of app.now entry.now ≡ None }
     {

@@ -176,6 +176,10 @@ clock_of p = p.clock
 abbrev pub birth_of : Process → Birth
 birth_of p = p.birth
 
+-- which handler it runs
+abbrev pub its_role : Process → Role
+its_role p = p.role
+
 -- ---- one reply more
 
 -- everything that a handler may do that goes on so
