@@ -1,6 +1,6 @@
 -- What a choice made of a world.
-use Rattle.std.proofs.Common.{◌≡◌, ℕ, ◌+◌, ◌<◌, ◌++◌, List, [], ◌∷◌, Bool, true, false, length, map, refl, sym, ap, ◌∙◌, subst, arith}
-use Rattle.std.specs.Prelude.{All, Option, None, Some, Result, Ok, Err, IsErr, IsTrue, position}
+use Rattle.std.proofs.Common.{◌≡◌, ℕ, ◌+◌, ◌<◌, ◌++◌, List, [], ◌∷◌, Bool, true, false, length, refl, sym, ap, ◌∙◌, subst, arith}
+use Rattle.std.specs.Prelude.{All, Option, None, Some, Result, Ok, Err, IsErr, IsTrue}
 use Rattle.anti_ids.specs.declared.memory.NoMemory.{NoMemory}
 use Rattle.anti_kind.specs.declared.actor.Actor.{Actor}
 use Rattle.anti_kind.specs.declared.actor.Actor.TheVariants.{Carrier, Process as Acting}
@@ -16,37 +16,21 @@ use Rattle.anti_proc.specs.declared.process.Process.{Process}
 use Rattle.anti_trace.specs.Legal.{carries}
 use Rattle.anti_trace.proofs.OfLegal.{unborn_of_legal}
 use Rattle.anti_proc.specs.Births.{birth_at}
-use Rattle.anti_proc.specs.Meaning.{tree_of}
 use Rattle.anti_app.specs.Objects.{inbox_number}
-use Rattle.anti_proc.specs.inner.Standing as standing
-use Rattle.anti_proc.specs.inner.Running.{IsRunOf}
-use Rattle.anti_proc.specs.inner.Standing.{process_of, birth_of, full_of}
-use Rattle.anti_play.specs.declared.processes.Processes.{Processes}
 use Rattle.anti_play.specs.declared.world.World.{World}
 use Rattle.anti_play.specs.Schedule.{bearing, carrying, made_at}
-use Rattle.anti_play.specs.inner.Standing.{AllStand, AllLive, AreBorn, AreEnded, born_at, Changes, SameBorn, Lives, is_named, WorldStands, Chose, Grows}
-use Rattle.anti_play.proofs.Stepped.{Stepped, step, goes_on}
-use Rattle.anti_play.proofs.AllLive.{live_born, live_kept}
-use Rattle.anti_play.proofs.AreBorn.{is_birth_itself, no_birth, born_kept, born_more}
-use Rattle.anti_play.proofs.Changed.{ended_pushed}
+use Rattle.anti_trace.specs.inner.Living.{AreProcessesOf, born_at, Changes, Grows, IsNewOf, lists}
+use Rattle.anti_play.specs.inner.Standing.{AllStand, WorldStands, Chose}
+use Rattle.anti_play.proofs.Stepped.{Stepped, step}
+use Rattle.anti_trace.proofs.Followed.{born_are, carried_are}
 
--- the same processes stand for a trace in lists that may have more room
-kept_live : (app : App) (ps ns : List Processes) (trace : List Entry) → SameBorn ps ns → AllLive app ps trace → AllLive app ns trace
-kept_live app ps ns trace same live b =
-    subst (λ (xs : List Process). Lives app trace xs (position (is_named b) xs) (entries_by (Acting b) trace)) (sym (same.same b.object)) (live b)
-
-kept_born : (ps ns : List Processes) (trace : List Entry) → SameBorn ps ns → AreBorn ps trace → AreBorn ns trace
-kept_born ps ns trace same born o = ap (λ (xs : List Process). map birth_of xs) (same.same o) ∙ born o
-
+-- the world stands for the same trace, where its objects and its processes do
 pub kept_stands : (app : App) (w n : World) (trace : List Entry) → WorldStands app w trace → AllStand app n.objects.items trace
-    → SameBorn w.processes.items n.processes.items → AreEnded app n.processes.items → n.carrier ≡ w.carrier → WorldStands app n trace
-kept_stands app w n trace s objects same ended carrier = record {
+    → AreProcessesOf app (lists n.processes) trace → n.carrier ≡ w.carrier → WorldStands app n trace
+kept_stands app w n trace s objects processes carrier = record {
   run = s.run;
   objects = objects;
-  lists = same.count ∙ s.lists;
-  born = kept_born w.processes.items n.processes.items trace same s.born;
-  ended = ended;
-  processes = kept_live app w.processes.items n.processes.items trace same s.processes;
+  processes = processes;
   carrier = carrier ∙ s.carrier;
 }
 
@@ -57,8 +41,8 @@ chose_lost app n trace None (Err x) err s = s
 chose_lost app n trace (Some e) (Err x) err s = s
 
 pub chose_kept : (app : App) (w n : World) (trace : List Entry) (o : Option Entry) (r : Result Bool NoMemory) → IsErr r → WorldStands app w trace
-    → AllStand app n.objects.items trace → SameBorn w.processes.items n.processes.items → AreEnded app n.processes.items → n.carrier ≡ w.carrier → Chose app trace o r n
-chose_kept app w n trace o r err s objects same ended carrier = chose_lost app n trace o r err (kept_stands app w n trace s objects same ended carrier)
+    → AllStand app n.objects.items trace → AreProcessesOf app (lists n.processes) trace → n.carrier ≡ w.carrier → Chose app trace o r n
+chose_kept app w n trace o r err s objects processes carrier = chose_lost app n trace o r err (kept_stands app w n trace s objects processes carrier)
 
 pub chose_made : (app : App) (n : World) (trace : List Entry) (o : Option Entry) (e : Entry) → o ≡ Some e → WorldStands app n (put e trace) → Chose app trace o (Ok true) n
 chose_made app n trace o e is s = subst (λ (x : Option Entry). Chose app trace x (Ok true) n) (sym is) (refl, s)
@@ -69,10 +53,9 @@ chose_none app w trace o is s = subst (λ (x : Option Entry). Chose app trace x 
 pub take_done : (app : App) (sound : IsTrue (is_sound app)) (w n : World) (trace : List Entry) (object service nth : ℕ) (e : Entry) (p : Process)
     → WorldStands app w trace → object ≡ inbox_number app service → made_at app trace (bearing trace object (calls.Take nth)) ≡ Some e
     → ((before after : List Entry) → AllStand app w.objects.items before → Grows app before after e → AllStand app n.objects.items after)
-    → Changes w.processes.items n.processes.items e.object (born_at w.processes.items e.object ++ p ∷ []) → n.carrier ≡ w.carrier
-    → process_of app p ≡ tree_of app e → standing.clock_of p ≡ e.stamp → birth_of p ≡ birth_at e → full_of p ≡ None → IsRunOf app p
+    → Changes (lists w.processes) (lists n.processes) e.object (born_at (lists w.processes) e.object ++ p ∷ []) → n.carrier ≡ w.carrier → IsNewOf app e p
     → Chose app trace (made_at app trace (bearing trace (inbox_number app service) (calls.Take nth))) (Ok true) n
-take_done app sound w n trace object service nth e p s same m objects processes carrier tree clock birth full runs =
+take_done app sound w n trace object service nth e p s same m objects changes carrier new =
     let st : Stepped app trace (bearing trace object (calls.Take nth)) e = step app sound w trace s (bearing trace object (calls.Take nth)) (refl, refl) refl e m in
     let at : e.actor ≡ Acting (birth_at e) = st.actor in
     let unborn : entries_by (Acting (birth_at e)) trace ≡ [] = unborn_of_legal app trace s.run (birth_at e)
@@ -83,36 +66,26 @@ take_done app sound w n trace object service nth e p s same m objects processes 
     (sym (ap (λ (x : ℕ). made_at app trace (bearing trace x (calls.Take nth))) same) ∙ m)
     (record {
       run = st.run;
-      objects = objects trace (put e trace) s.objects st.grows;
-      lists = processes.count ∙ s.lists;
-      born = born_more app w.processes.items trace (put e trace) e s.born st.grows n.processes.items p (is_birth_itself e at) birth processes;
-      ended = ended_pushed app w.processes.items n.processes.items e.object s.ended p processes;
-      processes = live_born app w.processes.items trace s.processes e (goes_on app sound w trace s (bearing trace object (calls.Take nth)) (refl, refl) refl e m) st.own st.others (birth_at e) at p birth unborn tree clock full runs
-          n.processes.items processes;
-      carrier = carrier ∙ s.carrier ∙ sym (ap (λ (x : List Entry). last_stamp x) (st.others (Carrier 0) none));
+      objects = objects trace (put e trace) s.objects st.gets.grows;
+      processes = born_are app (lists w.processes) trace (put e trace) s.processes e st.gets (lists n.processes) p at unborn new changes;
+      carrier = carrier ∙ s.carrier ∙ sym (ap (λ (x : List Entry). last_stamp x) (st.gets.others (Carrier 0) none));
     })
 
 pub carry_done : (app : App) (sound : IsTrue (is_sound app)) (w n : World) (trace : List Entry) (object : ℕ) (call : Call) (e : Entry)
     → WorldStands app w trace → carries call ≡ true → made_at app trace (carrying trace object call) ≡ Some e
     → ((before after : List Entry) → AllStand app w.objects.items before → Grows app before after e → AllStand app n.objects.items after)
-    → SameBorn w.processes.items n.processes.items → AreEnded app n.processes.items → n.carrier ≡ e.stamp
+    → AreProcessesOf app (lists n.processes) trace → n.carrier ≡ e.stamp
     → Chose app trace (made_at app trace (carrying trace object call)) (Ok true) n
-carry_done app sound w n trace object call e s is m objects processes ended carrier =
+carry_done app sound w n trace object call e s is m objects processes carrier =
     let st : Stepped app trace (carrying trace object call) e = step app sound w trace s (carrying trace object call) (is, refl) refl e m in
     let at : e.actor ≡ Carrier 0 = st.actor in
-    let own : entries_by (Carrier 0) (put e trace) ≡ entries_by (Carrier 0) trace ++ e ∷ [] = subst (λ (a : Actor). entries_by a (put e trace) ≡ entries_by a trace ++ e ∷ []) at st.own in
+    let own : entries_by (Carrier 0) (put e trace) ≡ entries_by (Carrier 0) trace ++ e ∷ [] = subst (λ (a : Actor). entries_by a (put e trace) ≡ entries_by a trace ++ e ∷ []) at st.gets.own in
     let before : All (λ d. d.stamp < e.stamp) (entries_by (Carrier 0) trace) = subst (λ (a : Actor). All (λ d. d.stamp < e.stamp) (entries_by a trace)) at st.before in
     chose_made app n trace (made_at app trace (carrying trace object call)) e m
     (record {
       run = st.run;
-      objects = objects trace (put e trace) s.objects st.grows;
-      lists = processes.count ∙ s.lists;
-      born = born_kept app w.processes.items trace (put e trace) e s.born st.grows n.processes.items
-          (no_birth e (λ is. let both : Acting (birth_at e) ≡ Carrier 0 = sym is ∙ at in absurd (cc)))
-          (λ o. ap (λ (xs : List Process). map birth_of xs) (processes.same o));
-      ended = ended;
-      processes = kept_live app w.processes.items n.processes.items (put e trace) processes
-          (live_kept app w.processes.items trace s.processes e (goes_on app sound w trace s (carrying trace object call) (is, refl) refl e m) st.own st.others
-          (λ b c. (let both : Acting b ≡ Carrier 0 = sym c ∙ at in absurd (cc))));
+      objects = objects trace (put e trace) s.objects st.gets.grows;
+      processes = carried_are app (lists n.processes) trace (put e trace) processes e st.gets
+          (λ b is. (let both : Acting b ≡ Carrier 0 = sym is ∙ at in absurd (cc)));
       carrier = carrier ∙ sym (last_is (entries_by (Carrier 0) trace) e before) ∙ sym (ap (λ (x : List Entry). last_stamp x) own);
     })

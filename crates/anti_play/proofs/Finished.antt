@@ -27,17 +27,19 @@ use Rattle.anti_app.specs.declared.app.SubDef.{SubDef}
 use Rattle.anti_app.specs.Subs.{position_on}
 use Rattle.anti_play.specs.Schedule.{asking_at, asked_by, bearing, carrying, clock_of, pulling, made_at, chosen, offers, first_made, after_turns, finished, IsComplete}
 use Rattle.anti_trace.specs.Legal.{IsLegalTrace, bears, carries}
-use Rattle.anti_play.specs.Runs.{GoesOn}
-use Rattle.anti_play.specs.inner.Standing.{Grows, IsAsked}
+use Rattle.anti_trace.specs.Traces.{GoesOn}
+use Rattle.anti_trace.specs.inner.Living.{Gets}
+use Rattle.anti_trace.proofs.Followed.{goes_on as histories_go_on}
+use Rattle.anti_play.specs.inner.Standing.{IsAsked}
 use Rattle.anti_play.proofs.MadeAt.{made_of}
-use Rattle.anti_play.proofs.Stepped.{Stepped, stepped, grows_on}
+use Rattle.anti_play.proofs.Stepped.{Stepped, stepped}
 use Rattle.anti_play.proofs.FirstOf.{first_found, none_found}
 
 -- ---- the run goes on behind an entry that a choice makes
 
 pub record Further (app : App) (trace : List Entry) (e : Entry) : Type 0 where
   pub run : IsLegalTrace app (put e trace)
-  pub grows : Grows app trace (put e trace) e
+  pub gets : Gets app trace (put e trace) e
   pub known : e.object < object_count app
 
 module _ (app : App) (sound : IsTrue (is_sound app)) (trace : List Entry) (run : IsLegalTrace app trace) where
@@ -46,7 +48,7 @@ module _ (app : App) (sound : IsTrue (is_sound app)) (trace : List Entry) (run :
       let st : Stepped app trace q e = stepped app trace q e sound run asks clock (made_of app trace q e m) in
       let at : e.object ≡ q.object = st.object in
       let known : q.object < object_count app = st.known in
-      record { run = st.run; grows = st.grows; known = omega arith }
+      record { run = st.run; gets = st.gets; known = omega arith }
 
   module _ (b : Birth) where
     abbrev left : Tree
@@ -145,7 +147,7 @@ module _ (app : App) (sound : IsTrue (is_sound app)) where
           let longer : length (put e trace) ≡ length trace + 1 = length-put e trace in
           let done : Done (put e trace) (after_turns n app (put e trace)) = by_made n (put e trace) next.run (omega arith) (first_made app (put e trace)) refl in
           subst (Done trace) (sym (after_some n app trace e is))
-          (record { run = done.run; goes_on = goes_further trace (put e trace) (after_turns n app (put e trace)) (grows_on app trace (put e trace) e next.grows) done.goes_on; none = done.none })
+          (record { run = done.run; goes_on = goes_further trace (put e trace) (after_turns n app (put e trace)) (histories_go_on app trace (put e trace) e next.gets) done.goes_on; none = done.none })
 
   -- an entry that is made first
   pub finished_next : (trace : List Entry) (e : Entry) → IsLegalTrace app trace → first_made app trace ≡ Some e → finished app (put e trace) ≡ finished app trace

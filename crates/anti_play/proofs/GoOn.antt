@@ -25,28 +25,26 @@ use Rattle.anti_proc.specs.Meaning.{process_after}
 use Rattle.anti_proc.specs.inner.Standing as standing
 use Rattle.anti_proc.specs.inner.Running.{IsAdvanceOf, IsRunOf}
 use Rattle.anti_proc.specs.inner.Standing.{advanced, process_of, birth_of, full_by, full_of}
-use Rattle.anti_play.specs.declared.processes.Processes.{Processes}
+use Rattle.anti_trace.specs.declared.processes.AtObject.{AtObject}
 use Rattle.anti_play.specs.declared.world.World.{World}
 use Rattle.anti_play.specs.Schedule.{asking_at, asked_by, next_call, clock_of, made_at}
-use Rattle.anti_play.specs.inner.Standing.{IsAsked, WasFull, IsEnded, IsFullAt, IsStopped, Stops, AllStand, HasEnded, Becomes, MakesRoom, MayMeetFull, MetFull, TakesOver, born_at, Lives, LivesOn, is_named, WorldStands, Chose, Grows}
+use Rattle.anti_trace.specs.inner.Living.{WasFull, IsEnded, HasEnded, Becomes, MakesRoom, MayMeetFull, MetFull, TakesOver, born_at, Lives, LivesOn, is_named, lists, Grows}
+use Rattle.anti_play.specs.inner.Standing.{IsAsked, IsFullAt, IsStopped, Stops, AllStand, WorldStands, Chose}
 use Rattle.anti_play.proofs.MadeAt.{none_fits}
-use Rattle.anti_play.proofs.FullStays.{unfit, full_makes_none}
-use Rattle.anti_play.proofs.Stepped.{Stepped, step, goes_on}
-use Rattle.anti_play.proofs.AllLive.{no_more, position_set, live_here, live_set, live_with, live_went}
-use Rattle.anti_play.proofs.AreBorn.{no_birth, born_kept, births_set}
-use Rattle.anti_play.proofs.Changed.{ended_set}
-use Rattle.anti_play.proofs.Chose.{chose_made, chose_none, chose_lost}
+use Rattle.anti_trace.proofs.FullStays.{unfit}
+use Rattle.anti_play.proofs.FullStays.{full_makes_none}
+use Rattle.anti_play.proofs.Stepped.{Stepped, step}
+use Rattle.anti_trace.proofs.AllLive.{no_more, position_set, live_here, live_set, live_with}
+use Rattle.anti_trace.proofs.AreBorn.{births_set}
+use Rattle.anti_trace.proofs.Changed.{ended_set}
+use Rattle.anti_trace.proofs.Followed.{found_lives, roomy_are, still_asks, went_are}
+use Rattle.anti_play.proofs.Chose.{chose_made, chose_none, chose_lost, kept_stands}
 
 -- ---- a process
 
 asked_at : (object span : ℕ) (call : Call) (tree : Tree) → want_of tree ≡ Make object span call → IsAskedAt object tree
 asked_at object span call (Asks ask go) is = cc
 asked_at object span call (Ends end) is = absurd (cc)
-
--- one that asks for a call has not ended
-still_asks : (tree : Tree) (object span : ℕ) (call : Call) → want_of tree ≡ Make object span call → ask_of tree ≡ None → ⊥
-still_asks (Asks ask go) object span call is none = absurd (cc)
-still_asks (Ends end) object span call is none = absurd (cc)
 
 -- one that has ended asks for nothing
 asks_none : (trace : List Entry) (b : Birth) (tree : Tree) → ask_of tree ≡ None → asked_by trace b (want_of tree) ≡ None
@@ -57,27 +55,20 @@ asks_none trace b (Ends end) none = refl
 pub found_again : (xs : List Process) (i : ℕ) (p q : Process) → slice_get xs i ≡ Some p → slice_get xs i ≡ Some q → q ≡ p
 found_again xs i p q one two = let both : Some q ≡ Some p = sym two ∙ one in cc
 
--- a process that was found lives on
-pub lives_found : (app : App) (w : World) (trace : List Entry) (b : Birth) (i : ℕ) (p : Process) → WorldStands app w trace → position (is_named b) (born_at w.processes.items b.object) ≡ Some i
-    → slice_get (born_at w.processes.items b.object) i ≡ Some p → LivesOn app trace p (entries_by (Acting b) trace)
-lives_found app w trace b i p s found is =
-    subst (λ (x : Process). LivesOn app trace x (entries_by (Acting b) trace)) (get_or_from_slice_get (born_at w.processes.items b.object) i p p is)
-    ((subst (λ (o : Option ℕ). Lives app trace (born_at w.processes.items b.object) o (entries_by (Acting b) trace)) found (s.processes b)) p)
-
 -- the process that goes on is the one that was found
 pub record IsFound (w : World) (b : Birth) (i : ℕ) (p : Process) : Type 0 where
-  pub found : position (is_named b) (born_at w.processes.items b.object) ≡ Some i
-  pub is : slice_get (born_at w.processes.items b.object) i ≡ Some p
+  pub found : position (is_named b) (born_at (lists w.processes) b.object) ≡ Some i
+  pub is : slice_get (born_at (lists w.processes) b.object) i ≡ Some p
 
 module _ (app : App) (w : World) (trace : List Entry) (b : Birth) (i : ℕ) (p : Process) (s : WorldStands app w trace) (g : IsFound w b i p) where
   abbrev ps : List Process
-  ps = born_at w.processes.items b.object
+  ps = born_at (lists w.processes) b.object
 
   at_p : (d : Process) → get_or ps i d ≡ p
   at_p d = get_or_from_slice_get ps i p d g.is
 
   pub on_p : LivesOn app trace p (entries_by (Acting b) trace)
-  on_p = lives_found app w trace b i p s g.found g.is
+  on_p = found_lives app (lists w.processes) trace s.processes b i g.found p g.is
 
   pub goes_run : IsRunOf app p
   goes_run = on_p.run
@@ -123,14 +114,11 @@ module _ (app : App) (w : World) (trace : List Entry) (b : Birth) (i : ℕ) (p :
     -- it made the call
     pub go_done : IsTrue (is_sound app) → (n : World) (e : Entry) (a : Advance) → made_at app trace it ≡ Some e
         → ((before after : List Entry) → AllStand app w.objects.items before → Grows app before after e → AllStand app n.objects.items after)
-        → Becomes (TakesOver e.stamp a) w.processes.items n.processes.items b.object i → n.carrier ≡ w.carrier
+        → Becomes (TakesOver e.stamp a) (lists w.processes) (lists n.processes) b.object i → n.carrier ≡ w.carrier
         → advanced app p a ≡ branch (process_of app p) e.reply → IsAdvanceOf app p a → full_by a ≡ full_of p
         → Chose app trace chosen_next (Ok true) n
     go_done sound n e a m objects becomes carrier goes spans full =
-        let then : Process = becomes.new in
-        let old_is : becomes.old ≡ p = found_again ps i p becomes.old g.is becomes.was in
-        let by : TakesOver e.stamp a p then = subst (λ (x : Process). TakesOver e.stamp a x then) old_is becomes.by in
-        let still : full_of then ≡ None = by.full full ∙ going in
+        let old : p ≡ becomes.old = found_again ps i becomes.old p becomes.was g.is in
         let st : Stepped app trace it e = step app sound w trace s it goes_asked refl e m in
         let actor : e.actor ≡ Acting b = st.actor in
         let before : All (λ d. d.stamp < e.stamp) (entries_by (Acting b) trace) = subst (λ (x : Actor). All (λ d. d.stamp < e.stamp) (entries_by x trace)) actor st.before in
@@ -138,18 +126,15 @@ module _ (app : App) (w : World) (trace : List Entry) (b : Birth) (i : ℕ) (p :
         chose_made app n trace chosen_next e (asks_next ∙ m)
         (record {
           run = st.run;
-          objects = objects trace (put e trace) s.objects st.grows;
-          lists = becomes.changes.count ∙ s.lists;
-          born = born_kept app w.processes.items trace (put e trace) e s.born st.grows n.processes.items
-              (no_birth e (λ is. was_born e st.place st.object (let both : Acting b ≡ Acting (birth_at e) = sym actor ∙ is in cc)))
-              (births_set w.processes.items n.processes.items b i then becomes.changes (λ d. by.birth ∙ ap (λ (x : Process). birth_of x) (sym (at_p d))));
-          ended = ended_set app w.processes.items n.processes.items b.object s.ended i p then g.is becomes.changes (λ ended. absurd (not_ended ended));
-          processes = live_went app w.processes.items trace s.processes e (goes_on app sound w trace s it goes_asked refl e m) st.own st.others b actor then i g.found
-              (λ d. by.birth ∙ ap (λ (x : Process). birth_of x) (sym (at_p d)))
-              (λ d. by.tree app ∙ goes ∙ ap (λ (x : Process). branch (process_of app x) e.reply) (sym (at_p d))) by.clock still
-              (λ d. ap (λ (x : Process). full_of x) (at_p d) ∙ going) before (by.run app spans)
-              n.processes.items becomes.changes;
-          carrier = carrier ∙ s.carrier ∙ sym (ap (λ (x : List Entry). last_stamp x) (st.others (Carrier 0) none));
+          objects = objects trace (put e trace) s.objects st.gets.grows;
+          processes = went_are app (lists w.processes) trace (put e trace) s.processes e st.gets b actor i g.found (was_born e st.place st.object) before
+              (lists n.processes) a becomes
+              (subst (λ (x : Process). full_of x ≡ None) old going)
+              (subst (λ (x : Process). advanced app x a ≡ branch (process_of app x) e.reply) old goes)
+              (subst (λ (x : Process). IsAdvanceOf app x a) old spans)
+              (subst (λ (x : Process). full_by a ≡ full_of x) old full)
+              (subst (λ (x : Process). HasEnded app x → ⊥) old not_ended);
+          carrier = carrier ∙ s.carrier ∙ sym (ap (λ (x : List Entry). last_stamp x) (st.gets.others (Carrier 0) none));
         })
 
     -- its call makes nothing
@@ -171,7 +156,7 @@ module _ (app : App) (w : World) (trace : List Entry) (b : Birth) (i : ℕ) (p :
     }
 
     pub go_ended : (n : World) → (made_at app trace it ≡ None) × IsFullAt app trace it
-        → n.objects.items ≡ w.objects.items → Becomes (MetFull object) w.processes.items n.processes.items b.object i → n.carrier ≡ w.carrier
+        → n.objects.items ≡ w.objects.items → Becomes (MetFull object) (lists w.processes) (lists n.processes) b.object i → n.carrier ≡ w.carrier
         → Chose app trace chosen_next (Ok false) n
     go_ended n full objects becomes carrier =
         let then : Process = becomes.new in
@@ -181,22 +166,25 @@ module _ (app : App) (w : World) (trace : List Entry) (b : Birth) (i : ℕ) (p :
         (record {
           run = s.run;
           objects = subst (λ (os : List (Record Object)). AllStand app os trace) (sym objects) s.objects;
-          lists = becomes.changes.count ∙ s.lists;
-          born = λ o. births_set w.processes.items n.processes.items b i then becomes.changes (λ d. by.birth ∙ ap (λ (x : Process). birth_of x) (sym (at_p d))) o ∙ s.born o;
-          ended = ended_set app w.processes.items n.processes.items b.object s.ended i p then g.is becomes.changes (λ ended. absurd (not_ended ended));
-          processes = live_with app trace trace (no_more trace) w.processes.items n.processes.items (slice_set ps i then) b s.processes becomes.changes (λ c off. refl)
-              (live_set app trace trace (no_more trace) ps b (live_here app w.processes.items trace s.processes b.object) (λ c off. refl) then i g.found
-              (λ d. by.birth ∙ ap (λ (x : Process). birth_of x) (sym (at_p d)))
-              (record {
-                birth = on_p.birth;
-                later = on_p.later;
-                entries_are = on_p.entries_are;
-                run = by.run app;
-                tree = λ none. (let both : None ≡ Some object = sym none ∙ by.full in absurd (cc));
-                clock = by.clock ∙ on_p.clock;
-                full = subst (λ (o : Option ℕ). IfSome o (IsEnded app trace left)) (sym by.full)
-                    (subst (λ (x : Want). IsEnded app trace x object) (sym left_is) (refl, was_full full.1));
-              }));
+          processes = record {
+            count = becomes.changes.count ∙ s.processes.count;
+            born = λ o. births_set (lists w.processes) (lists n.processes) b i then becomes.changes (λ d. by.birth ∙ ap (λ (x : Process). birth_of x) (sym (at_p d))) o ∙ s.processes.born o;
+            ended = ended_set app (lists w.processes) (lists n.processes) b.object s.processes.ended i p then g.is becomes.changes (λ ended. absurd (not_ended ended));
+            live = live_with app trace trace (no_more trace) (lists w.processes) (lists n.processes) (slice_set ps i then) b s.processes.live becomes.changes (λ c off. refl)
+                (live_set app trace trace (no_more trace) ps b (live_here app (lists w.processes) trace s.processes.live b.object) (λ c off. refl) then i g.found
+                (λ d. by.birth ∙ ap (λ (x : Process). birth_of x) (sym (at_p d)))
+                (record {
+                  birth = on_p.birth;
+                  later = on_p.later;
+                  entries_are = on_p.entries_are;
+                  run = by.run app;
+                  role = on_p.role ∙ ap Some (sym by.role);
+                  tree = λ none. (let both : None ≡ Some object = sym none ∙ by.full in absurd (cc));
+                  clock = by.clock ∙ on_p.clock;
+                  full = subst (λ (o : Option ℕ). IfSome o (IsEnded app trace left)) (sym by.full)
+                      (subst (λ (x : Want). IsEnded app trace x object) (sym left_is) (refl, was_full full.1));
+                }));
+          };
           carrier = carrier ∙ s.carrier;
         })
 
@@ -204,17 +192,17 @@ module _ (app : App) (w : World) (trace : List Entry) (b : Birth) (i : ℕ) (p :
     is_going : (q : Asking) → next_call app trace b ≡ Some q → q ≡ it
     is_going q next = let both : Some q ≡ Some it = sym next ∙ ap (asked_by trace b) left_is in cc
 
-    pub stops_made : (ns : List Processes) (e : Entry) → made_at app trace it ≡ Some e → Stops app trace b ns
+    pub stops_made : (ns : List AtObject) (e : Entry) → made_at app trace it ≡ Some e → Stops app trace b ns
     stops_made ns e m q next full =
         let at : IsFullAt app trace it = subst (IsFullAt app trace) (is_going q next) full in
         let none : made_at app trace it ≡ None = none_fits app trace it at.start at.there
         (unfit at.start (entries_on object trace) call at.held_units at.owed_units at.need_units at.full) in
         absurd (let both : None ≡ Some e = sym none ∙ m in cc)
 
-    pub stops_waits : (ns : List Processes) → (IsFullAt app trace it → ⊥) → Stops app trace b ns
+    pub stops_waits : (ns : List AtObject) → (IsFullAt app trace it → ⊥) → Stops app trace b ns
     stops_waits ns not q next full = absurd (not (subst (IsFullAt app trace) (is_going q next) full))
 
-    pub stops_ended : (ns : List Processes) → Becomes (MetFull object) w.processes.items ns b.object i → Stops app trace b ns
+    pub stops_ended : (ns : List AtObject) → Becomes (MetFull object) (lists w.processes) ns b.object i → Stops app trace b ns
     stops_ended ns becomes q next full =
         let then : Process = becomes.new in
         let old_is : becomes.old ≡ p = found_again ps i p becomes.old g.is becomes.was in
@@ -244,53 +232,31 @@ module _ (app : App) (w : World) (trace : List Entry) (b : Birth) (i : ℕ) (p :
   pub go_over : IsTrue (is_sound app) → HasEnded app p → Chose app trace chosen_next (Ok false) w
   go_over sound over = chose_none app w trace chosen_next (makes_none sound over) s
 
-  stops_by : HasEnded app p → (o : Option ℕ) → full_of p ≡ o → Stops app trace b w.processes.items
+  stops_by : HasEnded app p → (o : Option ℕ) → full_of p ≡ o → Stops app trace b (lists w.processes)
   stops_by over None is q next full = absurd (let both : None ≡ Some q = sym (next_none over is) ∙ next in cc)
   stops_by over (Some at) is q next full = subst (IsStopped ps) (sym g.found) (λ d. (at, ap full_of (at_p d) ∙ is))
 
-  pub stops_over : HasEnded app p → Stops app trace b w.processes.items
+  pub stops_over : HasEnded app p → Stops app trace b (lists w.processes)
   stops_over over = stops_by over (full_of p) refl
 
   -- room was made for its reply
-  pub room_stands : (n : World) → AllStand app n.objects.items trace → Becomes MakesRoom w.processes.items n.processes.items b.object i → n.carrier ≡ w.carrier → WorldStands app n trace
+  room_stands : (n : World) → AllStand app n.objects.items trace → Becomes MakesRoom (lists w.processes) (lists n.processes) b.object i → n.carrier ≡ w.carrier → WorldStands app n trace
   room_stands n objects becomes carrier =
-      let then : Process = becomes.new in
-      let old_is : becomes.old ≡ p = found_again ps i p becomes.old g.is becomes.was in
-      let by : MakesRoom p then = subst (λ (x : Process). MakesRoom x then) old_is becomes.by in
-      record {
-        run = s.run;
-        objects = objects;
-        lists = becomes.changes.count ∙ s.lists;
-        born = λ o. births_set w.processes.items n.processes.items b i then becomes.changes (λ d. by.birth ∙ ap (λ (x : Process). birth_of x) (sym (at_p d))) o ∙ s.born o;
-        ended = ended_set app w.processes.items n.processes.items b.object s.ended i p then g.is becomes.changes (λ ended. ap ask_of (by.tree app) ∙ ended);
-        processes = live_with app trace trace (no_more trace) w.processes.items n.processes.items (slice_set ps i then) b s.processes becomes.changes (λ c off. refl)
-            (live_set app trace trace (no_more trace) ps b (live_here app w.processes.items trace s.processes b.object) (λ c off. refl) then i g.found
-            (λ d. by.birth ∙ ap (λ (x : Process). birth_of x) (sym (at_p d)))
-            (record {
-              birth = on_p.birth;
-              later = on_p.later;
-              entries_are = on_p.entries_are;
-              run = by.run app on_p.run;
-              tree = λ none. by.tree app ∙ on_p.tree (sym by.full ∙ none);
-              clock = by.clock ∙ on_p.clock;
-              full = subst (λ (o : Option ℕ). IfSome o (IsEnded app trace left)) (sym by.full) on_p.full;
-            }));
-        carrier = carrier ∙ s.carrier;
-      }
+      kept_stands app w n trace s objects (roomy_are app (lists w.processes) trace s.processes b i g.found (lists n.processes) becomes) carrier
 
-  pub go_lost : (n : World) (r : Result Bool NoMemory) → IsErr r → AllStand app n.objects.items trace → Becomes MakesRoom w.processes.items n.processes.items b.object i → n.carrier ≡ w.carrier
+  pub go_lost : (n : World) (r : Result Bool NoMemory) → IsErr r → AllStand app n.objects.items trace → Becomes MakesRoom (lists w.processes) (lists n.processes) b.object i → n.carrier ≡ w.carrier
       → Chose app trace chosen_next r n
   go_lost n r err objects becomes carrier = chose_lost app n trace chosen_next r err (room_stands n objects becomes carrier)
 
 -- a process that is not there asks for nothing
-module _ (app : App) (w : World) (trace : List Entry) (b : Birth) (s : WorldStands app w trace) (absent : position (is_named b) (born_at w.processes.items b.object) ≡ None) where
+module _ (app : App) (w : World) (trace : List Entry) (b : Birth) (s : WorldStands app w trace) (absent : position (is_named b) (born_at (lists w.processes) b.object) ≡ None) where
   absent_none : next_call app trace b ≡ None
   absent_none =
-      let unborn : entries_by (Acting b) trace ≡ [] = subst (λ (o : Option ℕ). Lives app trace (born_at w.processes.items b.object) o (entries_by (Acting b) trace)) absent (s.processes b) in
+      let unborn : entries_by (Acting b) trace ≡ [] = subst (λ (o : Option ℕ). Lives app trace (born_at (lists w.processes) b.object) o (entries_by (Acting b) trace)) absent (s.processes.live b) in
       ap (λ (es : List Entry). asked_by trace b (want_of (process_after app es))) unborn
 
   pub none_goes : Chose app trace (option_and_then (made_at app trace) (next_call app trace b)) (Ok false) w
   none_goes = chose_none app w trace (option_and_then (made_at app trace) (next_call app trace b)) (ap (option_and_then (made_at app trace)) absent_none) s
 
-  pub stops_none : Stops app trace b w.processes.items
+  pub stops_none : Stops app trace b (lists w.processes)
   stops_none q next full = absurd (let both : None ≡ Some q = sym absent_none ∙ next in cc)

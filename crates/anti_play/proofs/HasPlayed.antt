@@ -2,7 +2,6 @@
 use Rattle.std.proofs.Common.{◌≡◌, ℕ, suc, ◌+◌, ◌<◌, ◌++◌, ◌∷◌, List, [], Bool, true, false, cond, length, take, get_or, refl, sym, ap, ◌∙◌, subst, arith}
 use Rattle.std.specs.Prelude.{IsTrue, IfOk, Option, None, Some, Result, Ok, Err}
 use Rattle.std.proofs.lemmas.List.{take_more, length-take-le}
-use Rattle.std.proofs.Math.Seq.{take-length}
 use Rattle.std.specs.List.{AllPass}
 use Rattle.std.proofs.lemmas.Bool.{and_parts}
 use Rattle.std.proofs.lemmas.List.Sums.{AllPass-from_list_all}
@@ -14,7 +13,7 @@ use Rattle.anti_ids.specs.declared.memory.NoMemory.{NoMemory}
 use Rattle.anti_kind.specs.declared.entry.Entry.{Entry}
 use Rattle.anti_app.specs.Sound.{is_sound, is_sound_choice, are_sound_regions, are_sound_stores, are_sound_services, are_sound_requests, are_sound_choices}
 use Rattle.anti_play.specs.declared.world.World.{World}
-use Rattle.anti_play.specs.Schedule.{Run, chosen, run_from, stepped, turned, played}
+use Rattle.anti_play.specs.Schedule.{Run, chosen, run_from, stepped, turned}
 use Rattle.anti_play.specs.inner.Standing.{Chose, WorldStands}
 use Rattle.anti_play.specs.inner.Closing.{HasPlayed, Steps, run_until}
 
@@ -98,7 +97,3 @@ module _ (app : App) (i : ℕ) (c d : Choice) (lt : i < length app.choices.items
         added ∙ ap (λ (ns : Listed ℕ). plain (ns.items ++ (i + 1) ∷ [])) are
         ∙ ap (λ (ns : List ℕ). plain ns) (sym steps.waits_are ∙ ap (λ (r : Run). r.waits) (sym run_more));
   }
-
--- all choices were made
-pub run_whole : (app : App) → run_until app (length app.choices.items) ≡ played app
-run_whole app = ap (run_from app (record { trace = []; waits = [] }) 1) (take-length app.choices.items)

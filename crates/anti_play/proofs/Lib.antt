@@ -1,9 +1,6 @@
 pub mod MadeAt
 pub mod RunMore
 pub mod FullStays
-pub mod AllLive
-pub mod Changed
-pub mod AreBorn
 pub mod Stepped
 pub mod MakeEntry
 pub mod NextEntry
@@ -15,6 +12,8 @@ pub mod IntoTrace
 pub mod HasPlayed
 pub mod FirstOf
 pub mod Finished
+pub mod Arrived
+pub mod Complete
 pub mod Tried
 pub mod GoFirst
 pub mod ShipNext

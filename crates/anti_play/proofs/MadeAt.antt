@@ -1,13 +1,23 @@
 -- The entry that is made of what is asked, and what is asked that makes none.
-use Rattle.std.proofs.Common.{◌≡◌, Bool, true, false, cond, ◌&&◌, List, refl, ap, ◌∙◌}
+use Rattle.std.proofs.Common.{◌≡◌, ◌+◌, ◌≤◌, Bool, true, false, cond, ◌&&◌, List, refl, ap, ◌∙◌, arith}
 use Rattle.std.specs.Prelude.{Option, None, Some, option_and_then}
+use Rattle.std.proofs.lemmas.Bool.{le-leb}
+use Rattle.anti_ids.specs.declared.limits.TheConstants.{MOST_UNITS}
 use Rattle.anti_kind.specs.declared.asking.Asking.{Asking}
+use Rattle.anti_kind.specs.declared.call.Call.{Call}
 use Rattle.anti_kind.specs.declared.entry.Entry.{Entry}
-use Rattle.anti_kind.specs.Objects.{Start, ready, fits}
+use Rattle.anti_kind.specs.Objects.{Start, ready, fits, held, need, owed, IsLegal, IsStart}
+use Rattle.anti_kind.proofs.Bounds.{within_units}
 use Rattle.anti_app.specs.declared.app.App.{App}
 use Rattle.anti_object.specs.Starts.{start_of}
 use Rattle.anti_trace.specs.Traces.{entries_on}
 use Rattle.anti_play.specs.Schedule.{next_entry, made, made_at}
+
+-- a call that needs no units fits
+pub free_fits : (start : Start) (h : List Entry) (c : Call) → IsStart start → IsLegal start h → need start h c ≡ 0 → fits start h c ≡ true
+free_fits start h c sane legal none =
+    let units : held h + owed start h ≤ MOST_UNITS = within_units start h sane legal in
+    le-leb (held h + owed start h + need start h c) MOST_UNITS (omega arith)
 
 none_unfit : (is_ready : Bool) (e : Entry) → cond (is_ready && false) (Some e) None ≡ None
 none_unfit true e = refl

@@ -10,8 +10,9 @@ use Rattle.anti_app.specs.declared.app.App.{App}
 use Rattle.anti_object.specs.declared.object.Object.{Object}
 use Rattle.anti_object.specs.Standing.{object_start}
 use Rattle.anti_trace.specs.Traces.{entries_on}
-use Rattle.anti_play.specs.inner.Standing.{AllStand, Grows, IsObject, MayGrow}
-use Rattle.anti_play.proofs.RunMore.{decide}
+use Rattle.anti_trace.specs.inner.Living.{Grows}
+use Rattle.anti_play.specs.inner.Standing.{AllStand, IsObject, MayGrow}
+use Rattle.anti_trace.proofs.Living.{decide}
 
 -- what is found within a list does not depend on what is taken past its end
 pub any_default : {T : Type 0} (xs : List T) (i : ℕ) (c d : T) → i < length xs → get_or xs i c ≡ get_or xs i d

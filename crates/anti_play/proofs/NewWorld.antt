@@ -1,7 +1,6 @@
 -- The objects of an application before anything has happened.
-use Rattle.std.proofs.Common.{◌≡◌, ℕ, ◌+◌, ◌<◌, ◌≤◌, max, ◌-◌, ◌++◌, ◌⊎◌, ◌∷◌, List, [], length, map, refl, sym, ap, ◌∙◌, subst, arith, inl, inr}
-use Rattle.std.specs.Prelude.{Option, None, Some, MatchOption, position, slice_get}
-use Rattle.std.proofs.lemmas.Option.{slice_get-get_or, slice_get_past}
+use Rattle.std.proofs.Common.{◌≡◌, ℕ, ◌+◌, ◌<◌, ◌≤◌, max, ◌-◌, ◌++◌, ◌∷◌, List, [], length, refl, sym, ap, ◌∙◌, subst, arith, inl, inr}
+use Rattle.std.specs.Prelude.{Option, None, Some, MatchOption}
 use Rattle.std.proofs.lemmas.Bool.{cases_lt}
 use Rattle.std.proofs.lemmas.List.{length_push, get_or_push, get_or_append_left}
 use Rattle.anti_ids.specs.List.{Listed, plain, pushed, reserved}
@@ -13,14 +12,12 @@ use Rattle.anti_kind.specs.Records.{Record}
 use Rattle.anti_object.specs.Standing.{object_start, IsNew}
 use Rattle.anti_object.proofs.Starts.{start_there, start_known}
 use Rattle.anti_app.specs.Objects.{object_count}
-use Rattle.anti_play.specs.declared.processes.Processes.{Processes}
 use Rattle.anti_trace.proofs.PutLegal.{legal_none}
-use Rattle.anti_proc.specs.declared.process.Process.{Process}
-use Rattle.anti_proc.specs.inner.Standing.{birth_of}
 use Rattle.anti_play.specs.declared.world.World.{World}
-use Rattle.anti_play.specs.inner.Standing.{IsObject, Lives, WorldStands, born_in, ended_at, ended_in, is_named}
-use Rattle.anti_play.specs.inner.Closing.{AreFirst, NoneBorn}
-use Rattle.anti_play.proofs.RunMore.{decide}
+use Rattle.anti_play.specs.inner.Standing.{IsObject, WorldStands}
+use Rattle.anti_trace.specs.inner.Living.{NoneBorn, lists}
+use Rattle.anti_play.specs.inner.Closing.{AreFirst}
+use Rattle.anti_trace.proofs.NoneBorn.{none_are}
 
 -- an item put into the room that was made for it leaves no room
 pub added : {T : Type 0} (l : Listed T) (x : T) (more : List T) → l.spare ≡ 0 → x ∷ [] ≡ more → pushed (reserved l 1) x ≡ plain (l.items ++ more)
@@ -34,31 +31,6 @@ at_first object = record { machine = object; history = [] }
 
 new_object : (app : App) (o : ℕ) (object : Object) → IsNew app o object → IsObject app o (at_first object) []
 new_object app o object new = record { start = new.start; history = refl }
-
--- an object at which no process was born
-abbrev NoneAt : Option Processes → Type 0
-NoneAt here = (born_in here ≡ []) × (ended_in here ≡ 0)
-
--- one object more, at which no process was born
-pub none_born_more : (count : ℕ) (all : List Processes) (new : Processes) → new.born.items ≡ [] → new.ended ≡ 0 → NoneBorn count all → NoneBorn (count + 1) (all ++ new ∷ [])
-none_born_more count all new no_process none_ended none = record {
-  many = length_push all new ∙ ap (λ (n : ℕ). n + 1) none.many;
-  none = λ o. (each o).0;
-  not_ended = λ o. (each o).1;
-}
-  where
-    at_end : (o : ℕ) → length all ≤ o → (o ≡ length all) ⊎ (o ≡ length all → ⊥) → NoneAt (slice_get (all ++ new ∷ []) o)
-    at_end o past (inl last) =
-        subst NoneAt (sym (slice_get-get_or (all ++ new ∷ []) o new (omega (arith, length_push all new)) ∙ ap Some (get_or_push all new new o (sym last)))) (no_process, none_ended)
-    at_end o past (inr other) = subst NoneAt (sym (slice_get_past (all ++ new ∷ []) o (omega (arith, length_push all new)))) (refl, refl)
-
-    each : (o : ℕ) → NoneAt (slice_get (all ++ new ∷ []) o)
-    each o = elim (cases_lt o (length all)) as (λ _. NoneAt (slice_get (all ++ new ∷ []) o)) [
-      | inl low ↦
-          subst NoneAt (sym (slice_get-get_or (all ++ new ∷ []) o new (omega (arith, length_push all new)) ∙ ap Some (get_or_append_left all (new ∷ []) new o low) ∙ sym (slice_get-get_or all o new low)))
-          (none.none o, none.not_ended o)
-      | inr past ↦ at_end o past (decide o (length all))
-    ]
 
 -- where there is none at a number it is past them all
 past_all : (app : App) (count : ℕ) → start_of app count ≡ None → object_count app ≤ count
@@ -108,17 +80,11 @@ module _ (app : App) (objects : List (Record Object)) (first : AreFirst app (len
       subst (λ (n : ℕ). AreFirst app n objects) count first
 
 -- the whole, of which nothing has happened
-pub world_new : (app : App) (w : World) (count : ℕ) → AreFirst app (object_count app) w.objects.items → NoneBorn count w.processes.items → count ≡ object_count app
+pub world_new : (app : App) (w : World) (count : ℕ) → AreFirst app (object_count app) w.objects.items → NoneBorn count (lists w.processes) → count ≡ object_count app
     → w.carrier ≡ 0 → WorldStands app w []
 world_new app w count first none all carrier = record {
   run = legal_none app;
   objects = record { count = first.many; each = λ o d lt. first.each o d lt };
-  lists = none.many ∙ all;
-  born = λ o. ap (λ (ps : List Process). map birth_of ps) (none.none o);
-  ended = record {
-    within = λ o. let ended : ended_at w.processes.items o ≡ 0 = none.not_ended o in omega arith;
-    ended = λ o i p lt is. absurd (let ended : ended_at w.processes.items o ≡ 0 = none.not_ended o in omega arith);
-  };
-  processes = λ b. subst (λ (ps : List Process). Lives app [] ps (position (is_named b) ps) []) (sym (none.none b.object)) refl;
+  processes = none_are app (lists w.processes) count none all;
   carrier = carrier;
 }

@@ -1,16 +1,14 @@
 -- What comes of what is asked at an object of a world.
 use Rattle.std.proofs.Common.{◌≡◌, ℕ, ◌+◌, ◌-◌, ◌*◌, ◌<◌, ◌≤◌, ◌^◌, max, List, true, false, length, get_or, sym, ap, ◌∙◌, subst, arith}
-use Rattle.std.specs.Prelude.{None, Some, option_and_then, Result, Ok, Err, IsTrue}
+use Rattle.std.specs.Prelude.{None, Some, option_and_then, Result, Err, IsTrue}
 use Rattle.std.proofs.Math.Nat.{le_trans, mul-le-mul_right}
 use Rattle.anti_ids.specs.declared.limits.TheConstants.{MOST_UNITS}
 use Rattle.anti_kind.specs.declared.asking.Asking.{Asking}
 use Rattle.anti_kind.specs.declared.recorded.Refusal.{Refusal}
 use Rattle.anti_kind.specs.declared.recorded.Refusal.TheVariants.{NotYet, Full, Spent}
 use Rattle.anti_kind.specs.declared.entry.Entry.{Entry}
-use Rattle.anti_kind.specs.declared.call.Reply.{Reply}
-use Rattle.anti_kind.specs.Objects.{Start, ready, due, fits, last_stamp}
-use Rattle.anti_kind.specs.Ports.{entry_of}
-use Rattle.anti_kind.specs.Records.{Record, Goes, IsRefusal}
+use Rattle.anti_kind.specs.Objects.{Start, ready, last_stamp}
+use Rattle.anti_kind.specs.Records.{Record, IsRefusal}
 use Rattle.anti_app.specs.declared.app.App.{App}
 use Rattle.anti_app.specs.Sound.{is_sound}
 use Rattle.anti_app.proofs.SoundLemmas.{SoundApp, app_known}
@@ -20,11 +18,11 @@ use Rattle.anti_object.specs.Starts.{start_of}
 use Rattle.anti_object.proofs.Starts.{start_past}
 use Rattle.anti_trace.specs.Traces.{entries_on}
 use Rattle.anti_app.specs.Objects.{object_count}
-use Rattle.anti_play.specs.Schedule.{clock_of, made, made_at, next_entry}
+use Rattle.anti_play.specs.Schedule.{clock_of, made, made_at}
 use Rattle.anti_trace.specs.Legal.{IsLegalTrace}
 use Rattle.anti_play.specs.inner.Standing.{AllStand, IsObject, IsOutcome, asked_in}
-use Rattle.anti_play.proofs.MadeAt.{unready, none_fits, ready_made}
-use Rattle.anti_play.proofs.FullStays.{unfit}
+use Rattle.anti_play.proofs.MadeAt.{unready, none_fits}
+use Rattle.anti_trace.proofs.FullStays.{unfit}
 use Rattle.anti_trace.proofs.OfLegal.{history_stamps, legal_short}
 use Rattle.anti_play.proofs.RunMore.{clock_within}
 
@@ -98,15 +96,3 @@ module _ (app : App) (sound : IsTrue (is_sound app)) (trace : List Entry) (run :
       pub outcome_refused : (refusal : Refusal) → IsRefusal start r.history q refusal → IsOutcome app trace (asked_in trace q) (Err refusal)
       outcome_refused refusal cause =
           in_trace (Err refusal) (refused refusal (subst (λ (h : List Entry). IsRefusal start h q refusal) here.history cause))
-
-      made_here : (h : List Entry) → h ≡ entries_on q.object trace → ready start h q.call ≡ true → fits start h q.call ≡ true → made_at app trace q ≡ Some (next_entry start h q)
-      made_here h same_history on fit =
-          ready_made app trace q start here.start (subst (λ (x : List Entry). ready start x q.call ≡ true) same_history on) (subst (λ (x : List Entry). fits start x q.call ≡ true) same_history fit)
-          ∙ ap (λ (x : List Entry). Some (next_entry start x q)) (sym same_history)
-
-      pub outcome_made : (reply : Reply) (e : Entry) → Goes start r.history q → reply ≡ due start r.history q.call
-          → e ≡ entry_of q 0 (length r.history + 1) (max q.clock (last_stamp r.history) + 1) reply → IsOutcome app trace (asked_in trace q) (Ok e)
-      outcome_made reply e goes is_due made =
-          in_trace (Ok e)
-          (made_here r.history here.history goes.is_ready goes.fits
-          ∙ ap Some (sym (made ∙ ap (λ (x : Reply). entry_of q 0 (length r.history + 1) (max q.clock (last_stamp r.history) + 1) x) is_due)))

@@ -17,12 +17,13 @@ use Rattle.anti_trace.specs.Traces.{entries_on, put}
 use Rattle.anti_trace.proofs.Sames.{same_trace}
 use Rattle.anti_play.specs.declared.world.World.{World}
 use Rattle.anti_play.specs.Schedule.{first_made, finished, IsComplete}
-use Rattle.anti_play.specs.Runs.{GoesOn}
-use Rattle.anti_play.specs.inner.Standing.{Chose, Grows, IsObject, WorldStands}
+use Rattle.anti_trace.specs.Traces.{GoesOn}
+use Rattle.anti_trace.specs.inner.Living.{Gets}
+use Rattle.anti_trace.proofs.Followed.{goes_on as histories_go_on}
+use Rattle.anti_play.specs.inner.Standing.{Chose, IsObject, WorldStands}
 use Rattle.anti_play.specs.inner.Finishing.{WentOn}
 use Rattle.anti_kind.proofs.Histories.{few_entries}
 use Rattle.anti_play.proofs.IntoTrace.{histories_are}
-use Rattle.anti_play.proofs.Stepped.{grows_on}
 use Rattle.anti_play.proofs.Tried.{MadeOne, chose_true, chose_false, chose_lost}
 use Rattle.anti_play.proofs.Finished.{Further, made_further, goes_further, finished_next, finished_none}
 
@@ -52,7 +53,7 @@ module _ (app : App) (sound : IsTrue (is_sound app)) (trace : List Entry) (w : W
   reached_more n chose =
       let made : MadeOne app now (first_made app now) n = chose_true app now (first_made app now) n chose in
       let next : Further app now made.entry = made_further app sound now made.entry reached.stands.run made.is in
-      let goes : GoesOn now (put made.entry now) = grows_on app now (put made.entry now) made.entry next.grows in
+      let goes : GoesOn now (put made.entry now) = histories_go_on app now (put made.entry now) made.entry next.gets in
       record {
         after = put made.entry now;
         stands = made.stands;
@@ -101,16 +102,16 @@ sum_less f (x ∷ xs) (y ∷ ys) same le (suc i) lt less =
     omega (arith, sum_by-cons f x xs, sum_by-cons f y ys)
 
 -- with an entry more there is one place less
-pub place_less : (app : App) (w n : World) (t : List Entry) (e : Entry) → WorldStands app w t → WorldStands app n (put e t) → Grows app t (put e t) e → e.object < object_count app
+pub place_less : (app : App) (w n : World) (t : List Entry) (e : Entry) → WorldStands app w t → WorldStands app n (put e t) → Gets app t (put e t) e → e.object < object_count app
     → places_left n < places_left w
-place_less app w n t e s v grows known =
+place_less app w n t e s v gets known =
     let one : length w.objects.items ≡ object_count app = s.objects.count in
     let two : length n.objects.items ≡ object_count app = v.objects.count in
     sum_less places w.objects.items n.objects.items (omega arith)
     (λ k d lt.
     let before : length (get_or w.objects.items k d).history ≡ length (entries_on k t) = ap length (s.objects.each k d lt).history in
     let after : length (get_or n.objects.items k d).history ≡ length (entries_on k (put e t)) = ap length (v.objects.each k d (omega arith)).history in
-    let goes = grows_on app t (put e t) e grows k in
+    let goes = histories_go_on app t (put e t) e gets k in
     let longer : length (entries_on k (put e t)) ≡ length (entries_on k t) + length goes.0 = ap length goes.1 ∙ length-append (entries_on k t) goes.0 in
     omega arith)
     e.object (omega arith)
@@ -119,7 +120,7 @@ place_less app w n t e s v grows known =
     let new : IsObject app e.object (get_or n.objects.items e.object d) (entries_on e.object (put e t)) = v.objects.each e.object d (omega arith) in
     let before : length (get_or w.objects.items e.object d).history ≡ length (entries_on e.object t) = ap length old.history in
     let after : length (get_or n.objects.items e.object d).history ≡ length (entries_on e.object (put e t)) = ap length new.history in
-    let longer : length (entries_on e.object (put e t)) ≡ length (entries_on e.object t) + 1 = ap length grows.here ∙ length-append (entries_on e.object t) (e ∷ []) in
+    let longer : length (entries_on e.object (put e t)) ≡ length (entries_on e.object t) + 1 = ap length gets.grows.here ∙ length-append (entries_on e.object t) (e ∷ []) in
     let start : Start = object_start (get_or n.objects.items e.object d).machine in
     let short : length (entries_on e.object (put e t)) ≤ MOST_UNITS + 1 = few_entries start (entries_on e.object (put e t)) (v.run.histories e.object start new.start) in
     omega arith)
@@ -130,7 +131,7 @@ turn_less app sound trace w reached n chose =
     let now : List Entry = reached.after in
     let made : MadeOne app now (first_made app now) n = chose_true app now (first_made app now) n chose in
     let next : Further app now made.entry = made_further app sound now made.entry reached.stands.run made.is in
-    place_less app w n now made.entry reached.stands made.stands next.grows next.known
+    place_less app w n now made.entry reached.stands made.stands next.gets next.known
 
 -- ---- the whole
 

@@ -1,6 +1,5 @@
 -- How a legal trace grows by the entry that is made of what is asked.
-use Rattle.std.proofs.Common.{◌≡◌, ℕ, ◌+◌, ◌<◌, ◌≤◌, ◌++◌, ◌⊎◌, inl, inr, max, List, [], ◌∷◌, Bool, true, false, length, get_or, nat_eq, refl, sym, ap, ◌∙◌, subst, arith}
-use borrow.Author.Tests.{eqb-true, eqb-false}
+use Rattle.std.proofs.Common.{◌≡◌, ℕ, ◌+◌, ◌<◌, ◌≤◌, ◌++◌, max, List, [], ◌∷◌, true, length, get_or, refl, sym, ap, ◌∙◌, subst, arith}
 use Rattle.std.specs.Prelude.{All, IsTrue, Some}
 use Rattle.std.proofs.lemmas.List.Elements.{All-push}
 use Rattle.anti_kind.specs.declared.actor.Actor.{Actor}
@@ -35,15 +34,6 @@ stamp_above start h q k d lt = let below : (get_or h k d).stamp ≤ last_stamp h
 pub entry_follows : (start : Start) (h : List Entry) (q : Asking) → ready start h q.call ≡ true → fits start h q.call ≡ true
     → Follows start h (next_entry start h q)
 entry_follows start h q r f = record { place = refl; is_ready = r; fits = f; reply = refl; stamp = stamp_above start h q }
-
--- ---- objects
-
-pub decide : (a b : ℕ) → (a ≡ b) ⊎ (a ≡ b → ⊥)
-decide a b = by_test (nat_eq a b) refl
-  where
-    by_test : (t : Bool) → t ≡ nat_eq a b → (a ≡ b) ⊎ (a ≡ b → ⊥)
-    by_test true e = inl (eqb-true a b (sym e))
-    by_test false e = inr (λ same. eqb-false a b (sym e) same)
 
 -- ---- clocks
 

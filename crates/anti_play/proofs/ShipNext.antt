@@ -1,21 +1,18 @@
 -- The first shipment that is left on the way to a region is the next one there.
-use Rattle.std.proofs.Common.{◌≡◌, ℕ, ◌+◌, ◌≤◌, Bool, true, false, cond, List, [], ◌∷◌, ◌++◌, map, refl, sym, ap, ◌∙◌, arith}
+use Rattle.std.proofs.Common.{◌≡◌, ℕ, Bool, true, false, cond, List, [], ◌∷◌, ◌++◌, map, refl, sym, ap, ◌∙◌}
 use Rattle.std.specs.Prelude.{IsTrue, Option, None, Some, find, flat_map, option_map, option_and_then, slice_get}
 use Rattle.std.specs.Option.{option_or, option_map_or}
-use Rattle.std.proofs.lemmas.Bool.{le-leb}
 use Rattle.std.proofs.lemmas.List.{map-append}
 use Rattle.std.proofs.lemmas.List.Concat.{flat_map-cons}
 use Rattle.std.proofs.lemmas.Option.{slice_get_within}
-use Rattle.anti_ids.specs.declared.limits.TheConstants.{MOST_UNITS}
 use Rattle.anti_kind.specs.declared.asking.Asking.{Asking}
 use Rattle.anti_kind.specs.declared.call.Call.TheVariants as calls
 use Rattle.anti_kind.specs.declared.row.Row.{Row}
 use Rattle.anti_kind.specs.declared.store_kind.StoreKind.{StoreKind}
 use Rattle.anti_kind.specs.declared.entry.Entry.{Entry}
-use Rattle.anti_kind.specs.Objects.{Start, store, fits, held, owed, next_ship}
+use Rattle.anti_kind.specs.Objects.{Start, store, fits, next_ship}
 use Rattle.anti_kind.specs.Store.{Store, store_of, can_ship, shipment, shipments, next_shipment}
 use Rattle.anti_kind.specs.Stored.{parts, rows}
-use Rattle.anti_kind.proofs.Bounds.{within_units}
 use Rattle.anti_app.specs.declared.app.App.{App}
 use Rattle.anti_app.specs.declared.app.Choice.{Choice}
 use Rattle.anti_app.specs.declared.app.Choice.TheVariants.{Ship}
@@ -32,7 +29,7 @@ use Rattle.anti_object.specs.declared.object.Object.{Object}
 use Rattle.anti_object.specs.Standing.{object_start}
 use Rattle.anti_play.specs.inner.Standing.{IsObject}
 use Rattle.anti_play.specs.inner.Finishing.{next_shipped, shipped, ships_from}
-use Rattle.anti_play.proofs.MadeAt.{unready, ready_made}
+use Rattle.anti_play.proofs.MadeAt.{free_fits, unready, ready_made}
 use Rattle.anti_play.proofs.FirstOf.{first_of-flat_map, first_of-map, first_of-same}
 
 -- ---- the first that passes a test
@@ -76,8 +73,7 @@ module _ (app : App) (sound : IsTrue (is_sound app)) (trace : List Entry) (run :
     -- a shipment needs no units
     has_units : (x : ℕ × ℕ) → fits (store s) h (calls.Ship g x.0 x.1) ≡ true
     has_units x =
-        let units : held h + owed (store s) h ≤ MOST_UNITS = within_units (store s) h (start_sound app o (store s) sound there) (run.histories o (store s) there) in
-        le-leb (held h + owed (store s) h + 0) MOST_UNITS (omega arith)
+        free_fits (store s) h (calls.Ship g x.0 x.1) (start_sound app o (store s) sound there) (run.histories o (store s) there) refl
 
     abbrev ship : ℕ × ℕ → Asking
     ship x = carrying trace o (calls.Ship g x.0 x.1)

@@ -1,8 +1,7 @@
 -- What stands behind the entry that is made of what is asked.
-use Rattle.std.proofs.Common.{◌≡◌, ℕ, ◌+◌, ◌<◌, ◌++◌, inl, inr, List, [], ◌∷◌, length, true, refl, sym, ap, ◌∙◌, subst, arith, append-nil}
+use Rattle.std.proofs.Common.{◌≡◌, ◌+◌, ◌<◌, List, length, true, refl, sym, ap, ◌∙◌, subst, arith}
 use Rattle.std.specs.Prelude.{All, None, Some, IsTrue}
 use Rattle.anti_kind.specs.declared.asking.Asking.{Asking}
-use Rattle.anti_kind.specs.declared.actor.Actor.{Actor}
 use Rattle.anti_kind.specs.declared.entry.Entry.{Entry}
 use Rattle.anti_kind.specs.Objects.{Start, Follows}
 use Rattle.anti_kind.specs.Ports.{named}
@@ -16,17 +15,15 @@ use Rattle.anti_app.specs.Objects.{object_count}
 use Rattle.anti_play.specs.declared.world.World.{World}
 use Rattle.anti_play.specs.Schedule.{clock_of, next_entry, made_at}
 use Rattle.anti_trace.specs.Legal.{IsLegalTrace, bears}
-use Rattle.anti_play.specs.Runs.{GoesOn}
-use Rattle.anti_play.specs.inner.Standing.{Grows, IsAsked, MayGrow, WorldStands}
+use Rattle.anti_trace.specs.inner.Living.{Gets, lists}
+use Rattle.anti_play.specs.inner.Standing.{IsAsked, MayGrow, WorldStands}
 use Rattle.anti_play.proofs.MadeAt.{Made, made_of}
 use Rattle.anti_trace.proofs.Starting.{starts}
-use Rattle.anti_play.proofs.RunMore.{entry_follows, it_known, run_more, run_history, run_others, run_actor, run_other_actors, own_before, decide}
+use Rattle.anti_play.proofs.RunMore.{entry_follows, it_known, run_more, run_history, run_others, run_actor, run_other_actors, own_before}
 
 pub record Stepped (app : App) (trace : List Entry) (q : Asking) (e : Entry) : Type 0 where
   pub run : IsLegalTrace app (put e trace)
-  pub grows : Grows app trace (put e trace) e
-  pub own : entries_by e.actor (put e trace) ≡ entries_by e.actor trace ++ e ∷ []
-  pub others : (a : Actor) → (e.actor ≡ a → ⊥) → entries_by a (put e trace) ≡ entries_by a trace
+  pub gets : Gets app trace (put e trace) e
   pub before : All (λ d. d.stamp < e.stamp) (entries_by e.actor trace)
   pub object : e.object ≡ q.object
   pub actor : e.actor ≡ named q.actor e.object e.place
@@ -40,14 +37,16 @@ pub stepped : (app : App) (trace : List Entry) (q : Asking) (e : Entry) → IsTr
 stepped app trace q e sound run asks clock m =
     subst (λ (x : Entry). Stepped app trace q x) (sym m.is) (record {
       run = run_more app trace run q m.start m.there m.is_ready m.is_fit asks clock;
-      grows = record {
-        here = run_history app trace run q m.start m.there m.is_ready m.is_fit asks clock;
-        others = run_others app trace run q m.start m.there m.is_ready m.is_fit asks clock;
-        follows = λ start at. subst (λ (s : Start). Follows s (entries_on q.object trace) (next_entry m.start (entries_on q.object trace) q)) (let same : m.start ≡ start = let both : Some m.start ≡ Some start = sym m.there ∙ at in cc in same)
-            (entry_follows m.start (entries_on q.object trace) q m.is_ready m.is_fit);
+      gets = record {
+        grows = record {
+          here = run_history app trace run q m.start m.there m.is_ready m.is_fit asks clock;
+          others = run_others app trace run q m.start m.there m.is_ready m.is_fit asks clock;
+          follows = λ start at. subst (λ (s : Start). Follows s (entries_on q.object trace) (next_entry m.start (entries_on q.object trace) q)) (let same : m.start ≡ start = let both : Some m.start ≡ Some start = sym m.there ∙ at in cc in same)
+              (entry_follows m.start (entries_on q.object trace) q m.is_ready m.is_fit);
+        };
+        own = run_actor app trace run q m.start m.there m.is_ready m.is_fit asks clock;
+        others = run_other_actors app trace run q m.start m.there m.is_ready m.is_fit asks clock;
       };
-      own = run_actor app trace run q m.start m.there m.is_ready m.is_fit asks clock;
-      others = run_other_actors app trace run q m.start m.there m.is_ready m.is_fit asks clock;
       before = own_before app trace run q m.start m.there m.is_ready m.is_fit asks clock;
       object = refl;
       actor = refl;
@@ -56,14 +55,6 @@ stepped app trace q e sound run asks clock m =
       known = start_known app q.object m.start m.there;
       entry = it_known app trace run q m.start m.there m.is_ready m.is_fit asks clock sound;
     })
-
--- each object's history goes on
-pub grows_on : (app : App) (before after : List Entry) (e : Entry) → Grows app before after e → GoesOn before after
-grows_on app before after e grows o =
-    elim (decide e.object o) as (λ _. (rest : List Entry) × (entries_on o after ≡ entries_on o before ++ rest)) [
-      | inl here ↦ (e ∷ [], subst (λ (n : ℕ). entries_on n after ≡ entries_on n before ++ e ∷ []) here grows.here)
-      | inr other ↦ ([], grows.others o other ∙ sym (append-nil (entries_on o before)))
-    ]
 
 module _ (app : App) (sound : IsTrue (is_sound app)) (w : World) (trace : List Entry) (stands : WorldStands app w trace) (q : Asking) (asks : IsAsked app trace q) (clock : q.clock ≡ clock_of q.actor trace)
     (e : Entry) (m : made_at app trace q ≡ Some e) where
@@ -78,7 +69,7 @@ module _ (app : App) (sound : IsTrue (is_sound app)) (w : World) (trace : List E
   pub starts_task : bears q.call ≡ true → task_of app e ≡ None → ⊥
   starts_task bearing =
       let there = start_there app e.object (let at : e.object ≡ q.object = step.object in let known : q.object < object_count app = step.known in omega arith) in
-      starts app sound (entries_on e.object trace) e (ap bears step.call ∙ bearing) reply_of there.0 (stands.run.histories e.object there.0 there.1) (step.grows.follows there.0 there.1) there.1
+      starts app sound (entries_on e.object trace) e (ap bears step.call ∙ bearing) reply_of there.0 (stands.run.histories e.object there.0 there.1) (step.gets.grows.follows there.0 there.1) there.1
 
   pub may_grow : MayGrow w.objects.items e
   may_grow = record {
@@ -86,13 +77,10 @@ module _ (app : App) (sound : IsTrue (is_sound app)) (w : World) (trace : List E
     before = trace;
     after = put e trace;
     stand = stands.objects;
-    grows = step.grows;
+    grows = step.gets.grows;
     known = let a : e.object ≡ q.object = step.object in let b : q.object < object_count app = step.known in let count : length w.objects.items ≡ object_count app = stands.objects.count in omega arith;
   }
 
   -- its object has a list of processes
-  pub has_list : e.object < length w.processes.items
-  has_list = let a : e.object ≡ q.object = step.object in let b : q.object < object_count app = step.known in let count : length w.processes.items ≡ object_count app = stands.lists in omega arith
-
-  pub goes_on : GoesOn trace (put e trace)
-  goes_on = grows_on app trace (put e trace) e step.grows
+  pub has_list : e.object < length (lists w.processes)
+  has_list = let a : e.object ≡ q.object = step.object in let b : q.object < object_count app = step.known in let count : length (lists w.processes) ≡ object_count app = stands.processes.count in omega arith

@@ -1,3 +1,3 @@
 pub mod Schedule
-pub mod Runs
+pub mod Over
 pub mod inner

@@ -3,14 +3,14 @@ ghost use Rattle.anti_app.specs.Sound.{is_sound};
 ghost use Rattle.anti_app.specs.Objects.{object_count};
 ghost use Rattle.anti_play.specs.inner.Standing.{WorldStands};
 ghost use Rattle.anti_object.specs.Standing.{ObjectAt};
-ghost use Rattle.anti_play.specs.inner.Closing.{AreFirst, NoneBorn};
+ghost use Rattle.anti_play.specs.inner.Closing.{AreFirst};
 
-use crate::processes::Processes;
 use crate::world::World;
 use anti_app::App;
 use anti_ids::NoMemory;
 use anti_kind::Recorded;
 use anti_object::Object;
+use anti_trace::Processes;
 use std::alloc::Global;
 
 impl World {
@@ -20,7 +20,7 @@ impl World {
         ensures { IfOk result (λ w. WorldStands app.now w []) }
     {
         let objects = objects(alloc, app)?;
-        let processes = no_processes(alloc, objects.len())?;
+        let processes = Processes::new(alloc, objects.len())?;
         Ok(World {
             objects,
             processes,
@@ -40,20 +40,6 @@ fn objects(alloc: Global, app: &App) -> Result<Vec<Recorded<Object>>, NoMemory>
         keep(alloc, &mut objects, object)?;
     }
     Ok(objects)
-}
-
-// For each of so many objects the processes that were born at it: none.
-fn no_processes(alloc: Global, count: usize) -> Result<Vec<Processes>, NoMemory>
-    ensures { IfOk result (λ v. NoneBorn count v.items) }
-{
-    let mut processes = Vec::new(alloc);
-    for _ in 0..count {
-        match processes.push(Processes::new(alloc)) {
-            Ok(()) => {}
-            Err(_) => return Err(NoMemory),
-        }
-    }
-    Ok(processes)
 }
 
 // One object more at the end, on which nothing has happened yet.

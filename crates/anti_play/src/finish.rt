@@ -1,19 +1,18 @@
-ghost use Rattle.std.specs.Prelude.{◌≡◌, ◌<◌, length, map, slice_get, vec_len, Some, OnOk, OnErr, IsTrue};
+ghost use Rattle.std.specs.Prelude.{◌<◌, map, vec_len, OnOk, OnErr, IsTrue};
 ghost use Rattle.anti_trace.specs.Traces.{entries_on};
 ghost use Rattle.anti_proc.specs.Births.{births};
 ghost use Rattle.anti_app.specs.Objects.{IsStore, object_count};
 ghost use Rattle.anti_app.specs.declared.app.App.{App};
 ghost use Rattle.anti_app.specs.Sound.{is_sound};
 ghost use Rattle.anti_play.specs.Schedule.{IsComplete, chosen, finished, first_made, first_of, go_of, goes, ships, takes};
-ghost use Rattle.anti_play.specs.Runs.{Entries};
-ghost use Rattle.anti_play.specs.inner.Standing.{Chose, IsSoundWorld, IsWorldOf, WorldStands, born_at};
+ghost use Rattle.anti_trace.specs.Traces.{Entries};
+ghost use Rattle.anti_play.specs.inner.Standing.{Chose, IsSoundWorld, IsWorldOf, WorldStands};
 ghost use Rattle.anti_play.specs.inner.Finishing.{WentOn, next_shipped, ships_from};
 
-use crate::processes::pass_ended;
 use crate::world::World;
 use anti_app::App;
 use anti_ids::NoMemory;
-use anti_kind::{Birth, Call, Machine};
+use anti_kind::{Call, Machine};
 
 impl World {
     /// Makes all that can still be made: the next call of each process, ascending by object and place of its birth, the first free
@@ -57,7 +56,7 @@ impl World {
             → Chose app.now trace (first_of (chosen app.now trace) (goes app.now trace))
             result self.new }
     {
-        for object in 0..self.processes.len() as u32 {
+        for object in 0..self.processes.object_count() as u32 {
             if self.go_first_at(app, object)? {
                 return Ok(true);
             }
@@ -75,9 +74,9 @@ impl World {
             (first_of (chosen app.now trace) (map go_of (births (entries_on object trace))))
             result self.new }
     {
-        pass_ended(&mut self.processes, object);
-        for at in self.ended_count(object)..self.born_count(object) {
-            let birth = self.process(object, at).birth();
+        self.processes.pass_ended(object);
+        for at in self.processes.ended_count(object)..self.processes.born_count(object) {
+            let birth = self.processes.get(object, at).birth();
             if self.go_on(app, birth, at)? {
                 return Ok(true);
             }

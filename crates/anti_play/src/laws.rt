@@ -4,10 +4,12 @@ ghost use Rattle.anti_app.specs.declared.app.App.{App};
 ghost use Rattle.anti_app.specs.Sound.{is_sound};
 ghost use Rattle.anti_trace.specs.Legal.{IsLegalTrace};
 ghost use Rattle.anti_play.specs.Schedule.{IsComplete, finished};
-ghost use Rattle.anti_play.specs.Runs.{Entries, GoesOn};
+ghost use Rattle.anti_play.specs.Over.{IsOver};
+ghost use Rattle.anti_trace.specs.Traces.{Entries, GoesOn};
 
 /// What `finish` makes of a legal trace of a sound application is a legal trace, in which the history of each object goes on from what it
-/// was, and after which nothing is left to make.
+/// was, and after which nothing is left to make. This means that no process can go on, no message waits to be taken, and no write is on
+/// its way.
 pub fn finish_completes()
     ensures run { (app : App) (trace : Entries) → IsTrue (is_sound app) → IsLegalTrace app trace
         → IsLegalTrace app (finished app trace) }
@@ -15,4 +17,6 @@ pub fn finish_completes()
         → IsLegalTrace app trace → GoesOn trace (finished app trace) }
     ensures complete { (app : App) (trace : Entries) → IsTrue (is_sound app)
         → IsLegalTrace app trace → IsComplete app (finished app trace) }
+    ensures over { (app : App) (trace : Entries) → IsTrue (is_sound app)
+        → IsLegalTrace app trace → IsComplete app trace → IsOver app trace }
 {}

@@ -2,14 +2,12 @@
 #![tactic(auto)]
 
 mod building;
-mod feeding;
 mod finish;
 mod laws;
 mod player;
-mod processes;
 mod tracing;
 mod world;
 
 pub use laws::finish_completes;
-pub use player::{Played, Waits, play};
+pub use player::{Played, play};
 pub use world::World;

@@ -2,18 +2,16 @@ ghost use Rattle.std.specs.Prelude.{◌≡◌, ℕ, IfOk, IsTrue};
 ghost use Rattle.anti_ids.specs.List.{plain};
 ghost use Rattle.anti_app.specs.Sound.{is_sound, is_sound_choice};
 ghost use Rattle.anti_play.specs.Schedule.{Run, trace_of, waits_of};
+ghost use Rattle.anti_trace.specs.Ends.{ends_of};
 ghost use Rattle.anti_trace.specs.Legal.{IsLegalTrace};
 ghost use Rattle.anti_play.specs.inner.Standing.{IsWorldOf, WorldStands};
 ghost use Rattle.anti_play.specs.inner.Closing.{Steps};
 
 use crate::world::World;
-use anti_app::{App, Choice};
+use anti_app::{App, Choice, Waits};
 use anti_ids::{List, NoMemory};
-use anti_trace::Trace;
+use anti_trace::{Ends, Trace};
 use std::alloc::Global;
-
-/// The numbers, counted from 1, of the choices that made no entry.
-pub type Waits = List<u32>;
 
 /// What the choices of an application made.
 #[derive(Drop)]
@@ -22,6 +20,8 @@ pub struct Played {
     pub trace: Trace,
     /// The choices that were waits.
     pub waits: Waits,
+    /// How each process ended.
+    pub ends: Ends,
 }
 
 impl World {
@@ -48,6 +48,7 @@ pub fn play(alloc: Global, app: &App) -> Result<Played, NoMemory>
     requires { IsTrue (is_sound app.now) }
     ensures trace { IfOk result (λ p. p.trace ≡ trace_of app.now) }
     ensures waits { IfOk result (λ p. p.waits ≡ plain (waits_of app.now)) }
+    ensures ends { IfOk result (λ p. p.ends.items ≡ ends_of app.now p.trace) }
     ensures legal { IfOk result (λ p. IsLegalTrace app.now p.trace) }
 {
     let mut world = World::new(alloc, app)?;
@@ -58,6 +59,7 @@ pub fn play(alloc: Global, app: &App) -> Result<Played, NoMemory>
             waits.put(before as u32 + 1);
         }
     }
+    let ends = world.ends(alloc)?;
     let trace = world.into_trace(alloc)?;
-    Ok(Played { trace, waits })
+    Ok(Played { trace, waits, ends })
 }

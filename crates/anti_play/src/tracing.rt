@@ -1,17 +1,39 @@
-ghost use Rattle.std.specs.Prelude.{◌≡◌, map, IfOk};
+ghost use Rattle.std.specs.Prelude.{◌≡◌, map, IfOk, IsTrue};
 ghost use Rattle.anti_app.specs.declared.app.App.{App};
-ghost use Rattle.anti_play.specs.Runs.{Entries};
-ghost use Rattle.anti_play.specs.inner.Standing.{IsSoundWorld, WorldStands};
+ghost use Rattle.anti_app.specs.Sound.{is_sound};
+ghost use Rattle.anti_trace.specs.Traces.{Entries};
+ghost use Rattle.anti_trace.specs.Ends.{ends_of};
+ghost use Rattle.anti_play.specs.inner.Standing.{IsSoundWorld, WorldIsAfter, WorldStands};
 ghost use Rattle.anti_play.specs.inner.Closing.{histories_of};
 
 use crate::world::World;
 use anti_ids::{List, NoMemory};
-use anti_kind::Recorded;
+use anti_kind::{Call, Machine, Recorded};
 use anti_object::Object;
-use anti_trace::{Histories, Trace, merge};
+use anti_trace::{Ends, Histories, Objects, Trace, merge};
 use std::alloc::Global;
 
+impl Objects for World {
+    ghost After = { WorldIsAfter };
+
+    fn is_full(&self, object: u32, call: &Call) -> bool {
+        match self.objects.get(object as usize) {
+            Some(recorded) => recorded.machine().ready(call) && !recorded.machine().fits(call),
+            None => false,
+        }
+    }
+}
+
 impl World {
+    /// How each process ended by now.
+    pub fn ends(&self, alloc: Global) -> Result<Ends, NoMemory>
+        requires { IsSoundWorld self.now }
+        ensures { (app : App) (trace : Entries) → IsTrue (is_sound app)
+            → WorldStands app self.now trace → IfOk result (λ ends. ends.items ≡ ends_of app trace) }
+    {
+        self.processes.ends(alloc, self)
+    }
+
     /// The trace of all that has happened. The entries are moved, and none is copied.
     pub fn into_trace(self, alloc: Global) -> Result<Trace, NoMemory>
         requires { IsSoundWorld self }

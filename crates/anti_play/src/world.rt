@@ -1,29 +1,25 @@
-ghost use Rattle.std.specs.Prelude.{◌≡◌, ◌<◌, length, vec_len, slice_get, position, Some, true, Err, IfOk, OnOk, OnErr, IsTrue};
+ghost use Rattle.std.specs.Prelude.{◌≡◌, ◌<◌, length, position, Some, true, Err, IfOk, OnOk, OnErr, IsTrue};
 ghost use Rattle.anti_app.specs.declared.app.App.{App};
 ghost use Rattle.anti_app.specs.Sound.{is_sound, is_sound_choice};
 ghost use Rattle.anti_trace.specs.Legal.{carries};
 ghost use Rattle.anti_app.specs.Objects.{inbox_number};
 ghost use Rattle.anti_play.specs.Schedule.{carrying, chosen, clock_of, made_at};
-ghost use Rattle.anti_play.specs.Runs.{Entries};
-ghost use Rattle.anti_play.specs.inner.Standing.{AllStand, Chose, Grows, IsOutcome, IsSoundWorld, IsWorldOf, MayGrow, Stops, StopsBy, WorldStands, asked_in, born_at, ended_at, is_named};
+ghost use Rattle.anti_trace.specs.Traces.{Entries};
+ghost use Rattle.anti_trace.specs.inner.Living.{Grows, born_at, is_named, lists};
+ghost use Rattle.anti_play.specs.inner.Standing.{AllStand, Chose, IsOutcome, IsSoundWorld, IsWorldOf, MayGrow, Stops, StopsBy, WorldStands, asked_in};
 
-use crate::feeding::{advance, born};
-use crate::processes::{
-    Processes, end_at, make_room_at, position, push_at, reserve_at, take_over_at,
-};
 use anti_app::{App, Choice, inbox_number};
 use anti_ids::{Copies, NoMemory};
 use anti_kind::{Actor, Asking, Birth, Call, Entry, Machine, Recorded, Refusal};
 use anti_object::Object;
-use anti_proc::Process;
+use anti_trace::{Processes, advance, born};
 use std::alloc::Global;
 
 /// The objects of an application with their histories, and its processes: one moment of a run.
 #[derive(Drop)]
 pub struct World {
     pub(crate) objects: Vec<Recorded<Object>>,
-    // of each object, the processes that were born at it, in the order of their births
-    pub(crate) processes: Vec<Processes>,
+    pub(crate) processes: Processes,
     // the last stamp of the carrier
     pub(crate) carrier: u64,
     pub(crate) alloc: Global,
@@ -40,8 +36,7 @@ fn make_entry(objects: &mut Vec<Recorded<Object>>, entry: Entry) -> Result<(), N
         → OnErr result (AllStand app objects.new.items before) }
 {
     let at = entry.object as usize;
-    objects[at].make(entry)?;
-    Ok(())
+    objects[at].make(entry)
 }
 
 impl World {
@@ -82,9 +77,9 @@ impl World {
         };
         let process = born(self.alloc, app, &entry)?;
         let object = entry.object;
-        reserve_at(&mut self.processes, object)?;
+        self.processes.reserve(object)?;
         make_entry(&mut self.objects, entry)?;
-        push_at(&mut self.processes, object, process);
+        self.processes.put(object, process);
         Ok(true)
     }
 
@@ -112,31 +107,6 @@ impl World {
         Ok(true)
     }
 
-    // How many processes were born at an object.
-    pub(crate) fn born_count(&self, object: u32) -> usize
-        requires { object < vec_len self.now.processes }
-        ensures { result ≡ length (born_at self.now.processes.items object) }
-    {
-        self.processes[object as usize].born.len()
-    }
-
-    // How many of the first of them are known to have ended.
-    pub(crate) fn ended_count(&self, object: u32) -> usize
-        requires { object < vec_len self.now.processes }
-        ensures { result ≡ ended_at self.now.processes.items object }
-    {
-        self.processes[object as usize].ended
-    }
-
-    // The process at a place among those that were born at an object.
-    pub(crate) fn process(&self, object: u32, at: usize) -> &Process
-        requires object { object < vec_len self.now.processes }
-        requires at { at < length (born_at self.now.processes.items object) }
-        ensures { slice_get (born_at self.now.processes.items object) at ≡ Some result.now }
-    {
-        &self.processes[object as usize].born[at]
-    }
-
     // Whether a call is not ready at its object. At an object that is not there none is.
     fn is_not_ready(&self, object: u32, call: &Call) -> bool
         ensures { (app : App) (trace : Entries) (asking : Asking) → IsTrue (is_sound app)
@@ -154,16 +124,16 @@ impl World {
     pub(crate) fn go_on(&mut self, app: &App, birth: Birth, at: usize) -> Result<bool, NoMemory>
         requires sound { IsTrue (is_sound app.now) }
         requires world { IsWorldOf app.now self.old }
-        requires object { birth.object < vec_len self.old.processes }
-        requires found { position (is_named birth) (born_at self.old.processes.items birth.object)
+        requires object { birth.object < length (lists self.old.processes) }
+        requires found { position (is_named birth) (born_at (lists self.old.processes) birth.object)
             ≡ Some at }
         ensures chose { (trace : Entries) → WorldStands app.now self.old trace
             → Chose app.now trace (chosen app.now trace (Choice.Go birth.object birth.place))
             result self.new }
         ensures ended { (trace : Entries) → WorldStands app.now self.old trace
-            → OnOk result (Stops app.now trace birth self.new.processes.items) }
+            → OnOk result (Stops app.now trace birth (lists self.new.processes)) }
     {
-        let Some(asked) = self.process(birth.object, at).next() else {
+        let Some(asked) = self.processes.get(birth.object, at).next() else {
             return Ok(false);
         };
         if self.is_not_ready(asked.object, asked.call) {
@@ -176,16 +146,16 @@ impl World {
     fn make_next(&mut self, app: &App, birth: Birth, at: usize) -> Result<bool, NoMemory>
         requires sound { IsTrue (is_sound app.now) }
         requires world { IsWorldOf app.now self.old }
-        requires object { birth.object < vec_len self.old.processes }
-        requires found { position (is_named birth) (born_at self.old.processes.items birth.object)
+        requires object { birth.object < length (lists self.old.processes) }
+        requires found { position (is_named birth) (born_at (lists self.old.processes) birth.object)
             ≡ Some at }
         ensures chose { (trace : Entries) → WorldStands app.now self.old trace
             → Chose app.now trace (chosen app.now trace (Choice.Go birth.object birth.place))
             result self.new }
         ensures ended { (trace : Entries) → WorldStands app.now self.old trace
-            → OnOk result (Stops app.now trace birth self.new.processes.items) }
+            → OnOk result (Stops app.now trace birth (lists self.new.processes)) }
     {
-        let process = self.process(birth.object, at);
+        let process = self.processes.get(birth.object, at);
         let Some(asked) = process.next() else {
             return Ok(false);
         };
@@ -199,16 +169,16 @@ impl World {
         };
         match self.next_entry(asking)? {
             Ok(entry) => {
-                let advance = advance(app, self.process(birth.object, at), &entry)?;
-                make_room_at(&mut self.processes, birth.object, at)?;
+                let advance = advance(app, self.processes.get(birth.object, at), &entry)?;
+                self.processes.make_room(birth.object, at)?;
                 let stamp = entry.stamp;
                 make_entry(&mut self.objects, entry)?;
-                take_over_at(&mut self.processes, birth.object, at, stamp, advance);
+                self.processes.take_over(birth.object, at, stamp, advance);
                 Ok(true)
             }
             Err(Refusal::NotYet) => Ok(false),
             Err(Refusal::Full { .. }) => {
-                end_at(&mut self.processes, birth.object, at, object);
+                self.processes.end(birth.object, at, object);
                 Ok(false)
             }
             // stamps are never spent
@@ -224,12 +194,9 @@ impl World {
             → Chose app.now trace (chosen app.now trace (Choice.Go birth.object birth.place))
             result self.new }
         ensures ended { (trace : Entries) → WorldStands app.now self.old trace
-            → OnOk result (Stops app.now trace birth self.new.processes.items) }
+            → OnOk result (Stops app.now trace birth (lists self.new.processes)) }
     {
-        let Some(processes) = self.processes.get(birth.object as usize) else {
-            return Ok(false);
-        };
-        match position(processes.born.as_slice(), birth) {
+        match self.processes.find(birth) {
             Some(at) => self.go_on(app, birth, at),
             None => Ok(false),
         }
@@ -246,7 +213,7 @@ impl World {
         ensures chose { (trace : Entries) → WorldStands app.now self.old trace
             → Chose app.now trace (chosen app.now trace choice.now) result self.new }
         ensures ended { (trace : Entries) → WorldStands app.now self.old trace
-            → OnOk result (StopsBy app.now trace choice.now self.new.processes.items) }
+            → OnOk result (StopsBy app.now trace choice.now (lists self.new.processes)) }
     {
         match *choice {
             Choice::Take { service, nth } => self.take(app, service, nth),

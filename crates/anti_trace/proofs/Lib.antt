@@ -2,10 +2,24 @@ pub mod Orders
 pub mod Puts
 pub mod Sames
 pub mod Bounds
-pub mod Merges
 pub mod Numbers
 pub mod KnownReplies
 pub mod Starting
 pub mod OfLegal
 pub mod PutLegal
+pub mod Living
+pub mod Changed
+pub mod AllLive
+pub mod AreBorn
+pub mod NoneBorn
+pub mod FullStays
+pub mod HeadLemmas
+pub mod Merges
+pub mod ByNumber
+pub mod GonePast
+pub mod Prefix
+pub mod ReadyStays
+pub mod InOrder
+pub mod Followed
+pub mod Ended
 mod Worked

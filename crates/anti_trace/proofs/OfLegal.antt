@@ -66,7 +66,7 @@ bears_known app o _ is = absurd (cc)
 -- ---- what a process did
 
 -- an entry is what the process asked for after those before it
-along_next : (tree : Tree) (xs : List Entry) (e : Entry) (ys : List Entry) → GoAlong tree (xs ++ e ∷ ys)
+pub along_next : (tree : Tree) (xs : List Entry) (e : Entry) (ys : List Entry) → GoAlong tree (xs ++ e ∷ ys)
     → want_of (after tree (map reply_of xs)) ≡ Make e.object e.span e.call
 along_next (Asks ask go) [] e ys along = let object = along.0 in let span = along.1 in let call = along.2 in cc
 along_next (Ends end) [] e ys along = absurd along
@@ -120,7 +120,7 @@ module _ (app : App) (trace : List Entry) (legal : IsLegalTrace app trace) where
   -- ---- an entry of one
 
   module _ (before : List Entry) (e : Entry) (later : List Entry) (is : trace ≡ before ++ e ∷ later) where
-    object_there : (start : Start) × (start_of app e.object ≡ Some start)
+    pub object_there : (start : Start) × (start_of app e.object ≡ Some start)
     object_there = start_there app e.object
         (at_cut (λ x. x.object < object_count app) before e later (subst (All (λ x. x.object < object_count app)) is legal.there))
 

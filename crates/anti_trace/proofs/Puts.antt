@@ -154,7 +154,7 @@ same_actor_itself (Carrier n) = eq-eqb n n refl
 same_actor_itself (Process b) = and_from _ _ (eq-eqb b.object b.object refl) (eq-eqb b.place b.place refl)
 same_actor_itself Newborn = refl
 
-same_birth : (b c : Birth) → b.object ≡ c.object → b.place ≡ c.place → b ≡ c
+pub same_birth : (b c : Birth) → b.object ≡ c.object → b.place ≡ c.place → b ≡ c
 same_birth b c o p =
     let make : ℕ → ℕ → Birth = λ x y. record { object = x; place = y } in
     ap (λ (x : ℕ). make x b.place) o ∙ ap (make c.object) p

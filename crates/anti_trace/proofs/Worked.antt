@@ -1,7 +1,7 @@
 -- A worked trace: two services, each with one request, and a store `s`. Each service takes its request, at one stamp. The process of the
 -- first writes, and the carrier ships what it wrote.
 use Rattle.std.proofs.Common.{◌≡◌, ℕ, ◌<◌, List, [], ◌∷◌, true, false, refl, sym, ap, subst, arith}
-use Rattle.std.specs.Prelude.{None, codes}
+use Rattle.std.specs.Prelude.{None, Some, codes}
 use Rattle.std.proofs.lemmas.Bool.{eqb-false}
 use Rattle.std.proofs.lemmas.List.Elements.{All-nil, All-cons}
 use Rattle.anti_ids.specs.List.{plain}
@@ -26,7 +26,9 @@ use Rattle.anti_app.specs.declared.app.RequestDef.{RequestDef}
 use Rattle.anti_app.specs.declared.app.ServiceDef.{ServiceDef}
 use Rattle.anti_proc.specs.Meaning.{begun, setting_of}
 use Rattle.anti_proc.specs.Tasks.{role_in, task_with}
-use Rattle.anti_proc.specs.Trees.{Tree}
+use Rattle.anti_proc.specs.Trees.{Tree, after, want_of}
+use Rattle.anti_proc.specs.declared.end.End.TheVariants as ends
+use Rattle.anti_trace.specs.Ends.{end_by, end_in}
 use Rattle.anti_trace.specs.Traces.{entries_by, entries_on}
 use Rattle.anti_trace.specs.Legal.{AreStamps, GoAlong, IsBirthOf, IsCarried, IsLegalTrace, IsLife, IsOfActor}
 use Rattle.anti_trace.proofs.PutLegal.{legal_none, legal_put}
@@ -153,6 +155,22 @@ history = refl
 
 life : entries_by (Process (first_on 1)) trace ≡ taken 1 ∷ written ∷ []
 life = refl
+
+-- ---- how its processes ended
+
+-- the first behind its write
+first_ends : end_in app trace (first_on 1) ≡ Some ends.Fine
+first_ends =
+    subst (λ (step : Step). end_by app trace (want_of (after (tree_with step) (written.reply ∷ []))) ≡ Some ends.Fine) (sym (step_again write)) refl
+
+-- the second at once
+second_ends : end_in app trace (first_on 2) ≡ Some ends.Fine
+second_ends = refl
+
+-- the first did not end before it wrote: its call fits
+first_goes_on : end_in app (taken 1 ∷ taken 2 ∷ []) (first_on 1) ≡ None
+first_goes_on =
+    subst (λ (step : Step). end_by app (taken 1 ∷ taken 2 ∷ []) (want_of (tree_with step)) ≡ None) (sym (step_again write)) refl
 
 -- ---- what is not legal
 

@@ -1,3 +1,5 @@
 pub mod Traces
 pub mod Histories
 pub mod Legal
+pub mod Ends
+pub mod inner

@@ -3,17 +3,28 @@
 //! Each object has a history of its own, and a trace holds the entries of all of them by stamp, and by object number where
 //! two stamps are equal. A history is read off a trace as what the trace holds on its object.
 //!
-//! Which traces are runs of an application is said by their parts, in `specs/Legal.antt`.
+//! Which traces are runs of an application is said by their parts, in `specs/Legal.antt`. Who goes along a legal trace has its
+//! processes go past each entry.
 #![tactic(auto)]
 
+mod ends;
+mod feeding;
+mod following;
+mod heads;
 mod laws;
 mod mark;
 mod merging;
+mod objects;
 mod owners;
+mod processes;
 mod trace;
 
+pub use ends::{Ends, ProcessEnd, ends_of};
+pub use feeding::{advance, born};
 pub use laws::{legal_traces_are_known, nothing_is_foreign};
 pub use mark::Mark;
 pub use merging::{Histories, merge};
+pub use objects::{Objects, ObjectsAfter};
 pub use owners::{is_by, is_on};
+pub use processes::{AtObject, Processes};
 pub use trace::Trace;

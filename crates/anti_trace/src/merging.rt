@@ -1,34 +1,41 @@
-ghost use Rattle.std.specs.Prelude.{ℕ, ◌≡◌, ◌++◌, ◌∷◌, [], ◌<◌, ◌^◌, length, IfOk, OnOk, IfSome, IfNone};
+ghost use Rattle.std.specs.Prelude.{ℕ, ◌≡◌, ◌<◌, ◌^◌, length, IfOk};
 ghost use Rattle.anti_trace.specs.Traces.{IsTrace, entries_on};
-ghost use Rattle.anti_trace.specs.Histories.{AreHistories, IsLatest, end_stamp, entry_count, history_of};
+ghost use Rattle.anti_trace.specs.Histories.{AreHistories, all_entries};
 
+use crate::heads::{heads_of, renew_first};
 use crate::trace::Trace;
 use anti_ids::{List, NoMemory};
-use anti_kind::{Entry, History};
+use anti_kind::History;
 use std::alloc::Global;
+use std::collections::VecDeque;
 
-/// The history of each object, in the order of the objects' numbers.
+/// The histories of objects, each of one object and no two of the same.
 pub type Histories = List<History>;
 
-/// The trace that has on each object just the entries of its history. The histories are those of the objects 0, 1 and so
-/// on; the stamps of each ascend. The entries are moved, and none is copied.
+/// The trace that has on each object just the entries of its history. The stamps of each history ascend.
+///
+/// It is made from its end: a heap finds the history whose last entry comes last, so the time is that of the entries times the
+/// logarithm of the number of histories. Each entry is moved once, and none is copied.
 pub fn merge(alloc: Global, histories: Histories) -> Result<Trace, NoMemory>
     requires own { AreHistories histories.items }
-    requires few { entry_count histories.items < 2 ^ 32 }
-    ensures entries { IfOk result (λ t. (o : ℕ) → entries_on o t ≡ history_of histories.items o) }
+    requires few { length (all_entries histories.items) < 2 ^ 32 }
+    ensures entries { IfOk result (λ t. (o : ℕ) → entries_on o t
+        ≡ entries_on o (all_entries histories.items)) }
     ensures order { IfOk result IsTrace }
 {
     let mut left = taken_apart(alloc, histories)?;
-    let mut entries = Vec::new(alloc);
-    while let Some(number) = latest(left.as_slice()) {
+    let mut heads = heads_of(alloc, left.as_slice())?;
+    let mut entries = VecDeque::with_capacity(alloc, entry_count(left.as_slice()))?;
+    while let Some(first) = heads.peek() {
+        let number = first.history;
         let history = &mut left[number];
         match history.pop() {
-            Some(entry) => entries.push(entry)?,
+            Some(entry) => entries.push_front_reserved(entry),
             None => unreachable!(),
         }
+        renew_first(&mut heads, number, history);
     }
-    entries.reverse();
-    Ok(Trace::of(entries))
+    Ok(Trace::of(entries.into_vec()))
 }
 
 // The histories, so that each can be taken from.
@@ -43,31 +50,14 @@ fn taken_apart(alloc: Global, mut histories: Histories) -> Result<Vec<History>, 
     Ok(left)
 }
 
-// The number of the history whose last entry is the last of all, or none where all are empty.
-fn latest(left: &[History]) -> Option<usize>
-    ensures none { IfNone result ((o : ℕ) → history_of left.now o ≡ []) }
-    ensures some { IfSome result (IsLatest left.now (length left.now)) }
+// The number of the entries of all.
+fn entry_count(histories: &[History]) -> usize
+    requires { length (all_entries histories.now) < 2 ^ 32 }
+    ensures { result ≡ length (all_entries histories.now) }
 {
-    let mut found = None;
-    let mut stamp = 0;
-    for (number, history) in left.iter().enumerate() {
-        if let Some(last) = last_stamp(history) {
-            if stamp <= last {
-                found = Some(number);
-                stamp = last;
-            }
-        }
+    let mut count = 0;
+    for history in histories {
+        count += history.len();
     }
-    found
-}
-
-// The stamp of the last entry, where there is one.
-fn last_stamp(history: &History) -> Option<u64>
-    ensures none { IfNone result (history.now.items ≡ []) }
-    ensures some { IfSome result (λ s. (0 < length history.now.items) × (s ≡ end_stamp history.now.items)) }
-{
-    match history.as_slice() {
-        [] => None,
-        [.., last] => Some(last.stamp),
-    }
+    count
 }

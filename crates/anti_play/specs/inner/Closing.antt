@@ -7,21 +7,14 @@ use Rattle.anti_app.specs.declared.app.Choice.{Choice}
 use Rattle.anti_kind.specs.declared.entry.Entry.{Entry}
 use Rattle.anti_kind.specs.Records.{Record}
 use Rattle.anti_object.specs.declared.object.Object.{Object}
-use Rattle.anti_play.specs.declared.processes.Processes.{Processes}
 use Rattle.anti_play.specs.declared.world.World.{World}
 use Rattle.anti_play.specs.Schedule.{Run, stepped, run_from}
-use Rattle.anti_play.specs.inner.Standing.{IsObject, born_at, ended_at, WorldStands}
+use Rattle.anti_play.specs.inner.Standing.{IsObject, WorldStands}
 
 -- the first objects of an application, so many of them, each with no entry
 pub record AreFirst (app : App) (count : ℕ) (objects : List (Record Object)) : Type 0 where
   pub many : length objects ≡ count
   pub each : (o : ℕ) (d : Record Object) → o < length objects → IsObject app o (slice_index_or objects o d) []
-
--- so many objects, at none of which a process was born
-pub record NoneBorn (count : ℕ) (all : List Processes) : Type 0 where
-  pub many : length all ≡ count
-  pub none : (o : ℕ) → born_at all o ≡ []
-  pub not_ended : (o : ℕ) → ended_at all o ≡ 0
 
 -- the run of so many of the first choices
 abbrev pub run_until : App → ℕ → Run

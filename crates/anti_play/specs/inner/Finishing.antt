@@ -10,7 +10,7 @@ use Rattle.anti_object.specs.Starts.{start_of}
 use Rattle.anti_trace.specs.Traces.{entries_on}
 use Rattle.anti_play.specs.declared.world.World.{World}
 use Rattle.anti_play.specs.Schedule.{carrying, made_at, ships_at}
-use Rattle.anti_play.specs.Runs.{GoesOn}
+use Rattle.anti_trace.specs.Traces.{GoesOn}
 use Rattle.anti_play.specs.inner.Standing.{WorldStands}
 
 -- the world stands for a trace that goes on from this one

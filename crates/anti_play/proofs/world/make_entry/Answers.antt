@@ -1,12 +1,16 @@
-use Rattle.anti_play.proofs.MakeEntry.{may_make, all_grow, all_kept, on_err}
+use Rattle.std.proofs.lemmas.Result.{on_err_weaker, on_ok_weaker}
+use Rattle.anti_play.proofs.MakeEntry.{may_make, all_grow, all_kept}
 use Rattle.anti_play.proofs.world.make_entry.Goals as goal
 
 pub make-requires : goal.make-requires
 make-requires c = may_make _ _ _ c.index_mut.ensures.value c.requires
 
-pub returns-in_err-make-clause-err : goal.returns-in_err-make-clause-err
-returns-in_err-make-clause-err c = λ app before all.
-    on_err c.from_residual.result _ (all_kept _ c.args.entry _ _ c.index_mut.ensures.value c.requires.known c.make.ensures.start c.in_err-make.ensures.err app before all)
-
 pub returns-clause-stand : goal.returns-clause-stand
-returns-clause-stand c = all_grow _ _ _ _ c.index_mut.ensures.value c.requires.known c.make.ensures.start c.in_ok-make.ensures.made
+returns-clause-stand c = λ app before after all grows.
+    on_ok_weaker c.make.result
+    (λ made. all_grow _ c.args.entry _ _ c.index_mut.ensures.value c.requires.known c.make.ensures.start made app before after all grows) c.make.ensures.made
+
+pub returns-clause-err : goal.returns-clause-err
+returns-clause-err c = λ app before all.
+    on_err_weaker c.make.result
+    (λ kept. all_kept _ c.args.entry _ _ c.index_mut.ensures.value c.requires.known c.make.ensures.start kept app before all) c.make.ensures.err

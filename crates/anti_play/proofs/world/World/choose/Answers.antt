@@ -1,6 +1,7 @@
 use Rattle.std.proofs.Common.{OnOk, sym, subst}
 use Rattle.anti_app.specs.declared.app.Choice.{Choice}
 use Rattle.anti_app.proofs.Runnable.{can_run}
+use Rattle.anti_trace.specs.inner.Living.{lists}
 use Rattle.anti_play.specs.inner.Standing.{StopsBy}
 use Rattle.anti_app.specs.declared.app.Choice.TheVariants.{Pull, Repull}
 use Rattle.anti_play.proofs.Choose.{take_named, repost_named, choice_is, no_sub_there}
@@ -24,7 +25,7 @@ unreachable-requires-in-Repull c =
 
 pub returns-in-Go-clause-ended : goal.returns-in-Go-clause-ended
 returns-in-Go-clause-ended c = λ trace s.
-    subst (λ (x : Choice). OnOk c.go.result (StopsBy c.args.app.now trace x c.go.new.self.processes.items)) (sym c.in-Go.is) (c.go.ensures.ended trace s)
+    subst (λ (x : Choice). OnOk c.go.result (StopsBy c.args.app.now trace x (lists c.go.new.self.processes))) (sym c.in-Go.is) (c.go.ensures.ended trace s)
 
 pub inbox_number-requires-clause-runs : goal.inbox_number-requires-clause-runs
 inbox_number-requires-clause-runs c = can_run c.args.app.now c.requires.sound

@@ -1,4 +1,4 @@
-use Rattle.std.proofs.Common.{◌≡◌, ℕ, List, Option, length, vec_len, map, true, false, sym, arith}
+use Rattle.std.proofs.Common.{◌≡◌, ℕ, List, Option, length, map, true, false, sym, arith}
 use Rattle.std.specs.List.{range_with_len}
 use Rattle.anti_kind.specs.declared.entry.Entry.{Entry}
 use Rattle.anti_app.specs.declared.app.App.{App}
@@ -6,6 +6,7 @@ use Rattle.anti_trace.specs.Traces.{entries_on}
 use Rattle.anti_proc.specs.Births.{births}
 use Rattle.anti_app.specs.Objects.{object_count}
 use Rattle.anti_play.specs.Schedule.{chosen, first_of, go_of, goes}
+use Rattle.anti_trace.specs.inner.Living.{lists}
 use Rattle.anti_play.specs.inner.Standing.{WorldStands}
 use Rattle.anti_play.proofs.FirstOf.{first_of-flat_map}
 use Rattle.anti_play.proofs.Tried.{none_tried, one_tried, found_one, found_none, tried_world, lost_too, came_as, chose_of, range_same, range_all, range_count}
@@ -24,8 +25,7 @@ go_first_at-requires-clause-world c =
 
 pub go_first_at-requires-clause-object : goal.go_first_at-requires-clause-object
 go_first_at-requires-clause-object c =
-    let lists : length c.args.self.now.processes.items ≡ object_count c.args.app.now = c.requires.world.stands.lists in
-    let len : vec_len c.args.self.now.processes ≡ length c.args.self.now.processes.items = c.args.self.now.processes.ok.0 in
+    let many : length (lists c.args.self.now.processes) ≡ object_count c.args.app.now = c.requires.world.stands.processes.count in
     omega arith
 
 pub returns-in_err-go_first_at : goal.returns-in_err-go_first_at
@@ -38,8 +38,7 @@ returns-then-branch c = λ trace s.
     let app = c.args.app.now in
     let n = object_count app in
     let k = c.loop-object.object in
-    let lists : length c.args.self.now.processes.items ≡ object_count app = s.lists in
-    let len : vec_len c.args.self.now.processes ≡ length c.args.self.now.processes.items = c.args.self.now.processes.ok.0 in
+    let many : length (lists c.args.self.now.processes) ≡ object_count app = s.processes.count in
     chose_of app trace (first_of (gone app trace) (range_with_len 0 n)) (first_of (chosen app trace) (goes app trace)) _ c.go_first_at.new.self
     (sym (first_of-flat_map (chosen app trace) (λ o. map go_of (births (entries_on o trace))) (range_with_len 0 n)))
     (found_one app (WorldStands app c.args.self.now) (gone app) (gone app) (λ trace. range_with_len 0 n) (λ trace of j d lt. range_same (gone app trace) n j d lt) c.loop-object.self c.go_first_at.new.self k
@@ -57,8 +56,7 @@ pub returns : goal.returns
 returns c = λ trace s.
     let app = c.args.app.now in
     let n = object_count app in
-    let lists : length c.args.self.now.processes.items ≡ object_count app = s.lists in
-    let len : vec_len c.args.self.now.processes ≡ length c.args.self.now.processes.items = c.args.self.now.processes.ok.0 in
+    let many : length (lists c.args.self.now.processes) ≡ object_count app = s.processes.count in
     chose_of app trace (first_of (gone app trace) (range_with_len 0 n)) (first_of (chosen app trace) (goes app trace)) _ c.loop-object.self
     (sym (first_of-flat_map (chosen app trace) (λ o. map go_of (births (entries_on o trace))) (range_with_len 0 n)))
     (found_none app (WorldStands app c.args.self.now) (gone app) (gone app) (λ trace. range_with_len 0 n) (λ trace of j d lt. range_same (gone app trace) n j d lt) c.loop-object.self c.loop-object.object

@@ -1,4 +1,4 @@
-use Rattle.std.proofs.Common.{◌≡◌, ◌<◌, ℕ, List, Option, Some, length, get_or, vec_len, map, true, false, refl, sym, ap, ◌∙◌, subst, arith}
+use Rattle.std.proofs.Common.{◌≡◌, ℕ, List, Option, Some, length, get_or, map, true, false, refl, sym, ap, ◌∙◌, subst, arith}
 use Rattle.std.specs.Prelude.{position}
 use Rattle.anti_kind.specs.declared.actor.Birth.{Birth}
 use Rattle.anti_kind.specs.declared.entry.Entry.{Entry}
@@ -11,9 +11,11 @@ use Rattle.anti_proc.specs.inner.Standing.{birth_of}
 use Rattle.anti_proc.specs.declared.process.Process.{Process}
 use Rattle.anti_play.specs.declared.world.World.{World}
 use Rattle.anti_play.specs.Schedule.{chosen, first_of, go_of}
-use Rattle.anti_play.specs.inner.Standing.{WorldStands, born_at, is_named}
+use Rattle.anti_trace.specs.inner.Living.{born_at, is_named, lists}
+use Rattle.anti_play.specs.inner.Standing.{WorldStands}
 use Rattle.anti_play.proofs.FirstOf.{first_of-map}
 use Rattle.anti_play.proofs.MakeEntry.{any_default}
+use Rattle.anti_trace.proofs.Followed.{kept_are}
 use Rattle.anti_play.proofs.Chose.{kept_stands}
 use Rattle.anti_play.proofs.GoFirst.{no_entry, born_length, birth_here, birth_found, going_is, ended_none}
 use Rattle.anti_play.proofs.Tried.{one_tried, found_one, found_none, came_as, chose_of}
@@ -24,15 +26,9 @@ use Rattle.anti_play.proofs.world.World.go_first_at.Goals.{After-birth-birth, Af
 abbrev gone : App → ℕ → List Entry → ℕ → Option Entry
 gone app o trace i = chosen app trace (go_of (get_or (births (entries_on o trace)) i no_entry))
 
-known : (c : After-birth-birth) → c.args.object < object_count c.args.app.now
-known c =
-    let lists : length c.args.self.now.processes.items ≡ object_count c.args.app.now = c.requires.world.stands.lists in
-    let len : vec_len c.args.self.now.processes ≡ length c.args.self.now.processes.items = c.args.self.now.processes.ok.0 in
-    omega (arith, c.requires.object)
-
 -- the world once those in front were passed over
 abbrev passed : (c : After-pass_ended) → World
-passed c = record { objects = c.args.self.now.objects; processes = c.pass_ended.new.all; carrier = c.args.self.now.carrier; alloc = c.args.self.now.alloc }
+passed c = record { objects = c.args.self.now.objects; processes = c.pass_ended.new.self; carrier = c.args.self.now.carrier; alloc = c.args.self.now.alloc }
 
 pub loop-at-init : goal.loop-at-init
 loop-at-init c = record {
@@ -40,11 +36,10 @@ loop-at-init c = record {
       let app = c.args.app.now in
       let n = passed ((goal.at.loop-at-init c).After-pass_ended) in
       let stands : WorldStands app n trace =
-      kept_stands app c.args.self.now n trace s s.objects c.pass_ended.ensures.same (c.pass_ended.ensures.ended app s.ended) refl in
-      let lists : length c.args.self.now.processes.items ≡ object_count app = s.lists in
-      let len : vec_len c.args.self.now.processes ≡ length c.args.self.now.processes.items = c.args.self.now.processes.ok.0 in (
+      kept_stands app c.args.self.now n trace s s.objects
+      (kept_are app (lists c.args.self.now.processes) (lists c.pass_ended.new.self) trace s.processes c.pass_ended.ensures.same (c.pass_ended.ensures.ended app s.processes.ended)) refl in (
         stands,
-        λ j low. ended_none app n trace c.args.object stands (omega (arith, c.requires.object)) c.requires.sound j (omega (arith, c.ended_count-at.ensures)),
+        λ j low. ended_none app n trace c.args.object stands c.requires.sound j (omega (arith, c.ended_count-at.ensures)),
       );
 }
 
@@ -54,24 +49,22 @@ here c = (c.loop-at.invariant.each c.requires.world.trace c.requires.world.stand
 object_is : (c : After-birth-birth) → c.birth-birth.result.object ≡ c.args.object
 object_is c =
     ap (λ (b : Birth). b.object) c.birth-birth.ensures
-    ∙ birth_here c.args.app.now c.loop-at.self c.requires.world.trace c.args.object (here c) c.loop-at.at c.process.result.now c.process.ensures
+    ∙ birth_here c.args.app.now c.loop-at.self c.requires.world.trace c.args.object (here c) c.loop-at.at c.get.result.now c.get.ensures
 
 pub go_on-requires-clause-found : goal.go_on-requires-clause-found
 go_on-requires-clause-found c =
     let at = (goal.at.go_on-requires-clause-found c).After-birth-birth in
-    let found : position (is_named (birth_of c.process.result.now)) (born_at c.loop-at.self.processes.items c.args.object) ≡ Some c.loop-at.at =
-    birth_found c.args.app.now c.loop-at.self c.requires.world.trace c.args.object (here at) (known at) c.loop-at.at c.process.result.now c.process.ensures in
-    subst (λ (b : Birth). position (is_named b) (born_at c.loop-at.self.processes.items c.birth-birth.result.object) ≡ Some c.loop-at.at) (sym c.birth-birth.ensures)
-    (subst (λ (o : ℕ). position (is_named (birth_of c.process.result.now)) (born_at c.loop-at.self.processes.items o) ≡ Some c.loop-at.at) (sym (object_is at)) found)
+    let found : position (is_named (birth_of c.get.result.now)) (born_at (lists c.loop-at.self.processes) c.args.object) ≡ Some c.loop-at.at =
+    birth_found c.args.app.now c.loop-at.self c.requires.world.trace c.args.object (here at) c.loop-at.at c.get.result.now c.get.ensures in
+    subst (λ (b : Birth). position (is_named b) (born_at (lists c.loop-at.self.processes) c.birth-birth.result.object) ≡ Some c.loop-at.at) (sym c.birth-birth.ensures)
+    (subst (λ (o : ℕ). position (is_named (birth_of c.get.result.now)) (born_at (lists c.loop-at.self.processes) o) ≡ Some c.loop-at.at) (sym (object_is at)) found)
 
 pub go_on-requires-clause-object : goal.go_on-requires-clause-object
 go_on-requires-clause-object c =
     let at = (goal.at.go_on-requires-clause-object c).After-birth-birth in
-    let lists : length c.loop-at.self.processes.items ≡ object_count c.args.app.now = (here at).lists in
-    let len : vec_len c.loop-at.self.processes ≡ length c.loop-at.self.processes.items = c.loop-at.self.processes.ok.0 in
+    let many : length (lists c.loop-at.self.processes) ≡ object_count c.args.app.now = (here at).processes.count in
     let same : c.birth-birth.result.object ≡ c.args.object = object_is at in
-    let low : c.args.object < object_count c.args.app.now = known at in
-    omega arith
+    omega (arith, c.requires.object)
 
 pub returns-then-branch : goal.returns-then-branch
 returns-then-branch c = λ trace s.
@@ -84,12 +77,12 @@ returns-then-branch c = λ trace s.
     (found_one app (WorldStands app c.args.self.now) (gone app o) (λ trace e. chosen app trace (go_of e)) (λ trace. births (entries_on o trace))
     (λ trace of j d lt. ap (λ (e : Entry). chosen app trace (go_of e)) (any_default (births (entries_on o trace)) j d no_entry lt)) c.loop-at.self c.go_on.new.self k c.loop-at.invariant
     (λ trace of.
-    let same : length (born_at c.args.self.now.processes.items o) ≡ length (births (entries_on o trace)) = born_length app c.args.self.now trace o of in
-    let still : length (born_at c.pass_ended.new.all.items o) ≡ length (born_at c.args.self.now.processes.items o) = ap (λ (ps : List Process). length ps) (c.pass_ended.ensures.same.same o) in
+    let same : length (born_at (lists c.args.self.now.processes) o) ≡ length (births (entries_on o trace)) = born_length app c.args.self.now trace o of in
+    let still : length (born_at (lists c.pass_ended.new.self) o) ≡ length (born_at (lists c.args.self.now.processes) o) = ap (λ (ps : List Process). length ps) (c.pass_ended.ensures.same.same o) in
     omega (arith, c.born_count-at-end.ensures))
     (λ trace of now.
     chose_of app trace (chosen app trace (Go b.object b.place)) (gone app o trace k) _ c.go_on.new.self
-    (going_is app c.loop-at.self trace o now k c.process.result.now b c.process.ensures c.birth-birth.ensures)
+    (going_is app c.loop-at.self trace o now k c.get.result.now b c.get.ensures c.birth-birth.ensures)
     (came_as app trace (chosen app trace (Go b.object b.place)) c.go_on.new.self c.in_ok-go_on.field-0 true c.if-branch.true (c.in_ok-go_on.ensures.chose trace now))) trace s)
 
 pub loop-at-preserved : goal.loop-at-preserved
@@ -101,7 +94,7 @@ loop-at-preserved c =
     one_tried app (WorldStands app c.args.self.now) (gone app o) c.loop-at.self c.go_on.new.self k c.loop-at.invariant
     (λ trace of now.
     chose_of app trace (chosen app trace (Go b.object b.place)) (gone app o trace k) _ c.go_on.new.self
-    (going_is app c.loop-at.self trace o now k c.process.result.now b c.process.ensures c.birth-birth.ensures)
+    (going_is app c.loop-at.self trace o now k c.get.result.now b c.get.ensures c.birth-birth.ensures)
     (came_as app trace (chosen app trace (Go b.object b.place)) c.go_on.new.self c.in_ok-go_on.field-0 false c.if-branch.false (c.in_ok-go_on.ensures.chose trace now)))
 
 pub returns : goal.returns
@@ -113,7 +106,7 @@ returns c = λ trace s.
     (found_none app (WorldStands app c.args.self.now) (gone app o) (λ trace e. chosen app trace (go_of e)) (λ trace. births (entries_on o trace))
     (λ trace of j d lt. ap (λ (e : Entry). chosen app trace (go_of e)) (any_default (births (entries_on o trace)) j d no_entry lt)) c.loop-at.self c.loop-at.at c.loop-at.invariant
     (λ trace of.
-    let same : length (born_at c.args.self.now.processes.items o) ≡ length (births (entries_on o trace)) = born_length app c.args.self.now trace o of in
-    let still : length (born_at c.pass_ended.new.all.items o) ≡ length (born_at c.args.self.now.processes.items o) = ap (λ (ps : List Process). length ps) (c.pass_ended.ensures.same.same o) in
-    let few = (c.pass_ended.ensures.ended app of.ended).within o in
+    let same : length (born_at (lists c.args.self.now.processes) o) ≡ length (births (entries_on o trace)) = born_length app c.args.self.now trace o of in
+    let still : length (born_at (lists c.pass_ended.new.self) o) ≡ length (born_at (lists c.args.self.now.processes) o) = ap (λ (ps : List Process). length ps) (c.pass_ended.ensures.same.same o) in
+    let few = (c.pass_ended.ensures.ended app of.processes.ended).within o in
     omega (arith, c.born_count-at-end.ensures, c.ended_count-at.ensures, few)) trace s)

@@ -1,34 +1,35 @@
 use Rattle.std.proofs.Common.{refl}
 use Rattle.anti_kind.specs.declared.actor.Actor.TheVariants.{Process as Acting}
+use Rattle.anti_trace.specs.inner.Living.{lists}
 use Rattle.anti_play.specs.Schedule.{asking_at}
 use Rattle.anti_play.proofs.GoOn.{IsFound, go_over, go_waits, stops_over, stops_waits}
 use Rattle.anti_play.proofs.world.World.go_on.Goals as goal
-use Rattle.anti_play.proofs.world.World.go_on.Goals.{After-process}
+use Rattle.anti_play.proofs.world.World.go_on.Goals.{After-get}
 
 -- the process is the one that was found
-goes : (c : After-process) → IsFound c.args.self.now c.args.birth c.args.at c.process.result.now
-goes c = record { found = c.requires.found; is = c.process.ensures }
+goes : (c : After-get) → IsFound c.args.self.now c.args.birth c.args.at c.get.result.now
+goes c = record { found = c.requires.found; is = c.get.ensures }
 
 pub returns-in_default-clause-chose : goal.returns-in_default-clause-chose
 returns-in_default-clause-chose c = λ trace s.
-    go_over c.args.app.now c.args.self.now trace c.args.birth c.args.at c.process.result.now s (goes ((goal.at.returns-in_default-clause-chose c).After-process)) c.requires.sound
+    go_over c.args.app.now c.args.self.now trace c.args.birth c.args.at c.get.result.now s (goes ((goal.at.returns-in_default-clause-chose c).After-get)) c.requires.sound
     (c.in_default.ensures.none c.args.app.now)
 
 pub returns-in_default-clause-ended : goal.returns-in_default-clause-ended
 returns-in_default-clause-ended c = λ trace s.
-    stops_over c.args.app.now c.args.self.now trace c.args.birth c.args.at c.process.result.now s (goes ((goal.at.returns-in_default-clause-ended c).After-process))
+    stops_over c.args.app.now c.args.self.now trace c.args.birth c.args.at c.get.result.now s (goes ((goal.at.returns-in_default-clause-ended c).After-get))
     (c.in_default.ensures.none c.args.app.now)
 
 pub returns-then-is_not_ready-clause-chose : goal.returns-then-is_not_ready-clause-chose
 returns-then-is_not_ready-clause-chose c = λ trace s.
     let asked = c.in-Some.asked in
-    go_waits c.args.app.now c.args.self.now trace c.args.birth c.args.at c.process.result.now s (goes ((goal.at.returns-then-is_not_ready-clause-chose c).After-process))
+    go_waits c.args.app.now c.args.self.now trace c.args.birth c.args.at c.get.result.now s (goes ((goal.at.returns-then-is_not_ready-clause-chose c).After-get))
     asked.object asked.span asked.call.now c.in-Some.ensures.going (c.in-Some.ensures.some c.args.app.now)
     (c.is_not_ready.ensures c.args.app.now trace (asking_at trace asked.object (Acting c.args.birth) asked.span asked.call.now) c.requires.sound s refl refl c.if-is_not_ready.true).0
 
 pub returns-then-is_not_ready-clause-ended : goal.returns-then-is_not_ready-clause-ended
 returns-then-is_not_ready-clause-ended c = λ trace s.
     let asked = c.in-Some.asked in
-    stops_waits c.args.app.now c.args.self.now trace c.args.birth c.args.at c.process.result.now s (goes ((goal.at.returns-then-is_not_ready-clause-ended c).After-process))
-    asked.object asked.span asked.call.now c.in-Some.ensures.going (c.in-Some.ensures.some c.args.app.now) c.args.self.now.processes.items
+    stops_waits c.args.app.now c.args.self.now trace c.args.birth c.args.at c.get.result.now s (goes ((goal.at.returns-then-is_not_ready-clause-ended c).After-get))
+    asked.object asked.span asked.call.now c.in-Some.ensures.going (c.in-Some.ensures.some c.args.app.now) (lists c.args.self.now.processes)
     (c.is_not_ready.ensures c.args.app.now trace (asking_at trace asked.object (Acting c.args.birth) asked.span asked.call.now) c.requires.sound s refl refl c.if-is_not_ready.true).1

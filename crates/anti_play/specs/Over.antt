@@ -1,0 +1,33 @@
+-- What it means that nothing is left to make, said of the processes, the inboxes and the stores themselves.
+use Rattle.std.specs.Prelude.{◌≡◌, ℕ, ◌⊎◌, false, List, [], All, Some, IsTrue}
+use Rattle.anti_kind.specs.declared.actor.Birth.{Birth}
+use Rattle.anti_kind.specs.declared.asking.Asking.{Asking}
+use Rattle.anti_kind.specs.declared.entry.Entry.{Entry}
+use Rattle.anti_kind.specs.declared.message.Message.{Message}
+use Rattle.anti_kind.specs.Inbox.{free}
+use Rattle.anti_kind.specs.Objects.{Start, store, inbox, ready, fits}
+use Rattle.anti_kind.specs.Store.{Store}
+use Rattle.anti_kind.specs.Stored.{rows, is_whole}
+use Rattle.anti_app.specs.declared.app.App.{App}
+use Rattle.anti_object.specs.Starts.{start_of}
+use Rattle.anti_trace.specs.Traces.{entries_on}
+use Rattle.anti_play.specs.Schedule.{next_call}
+
+-- At its object the call that is asked is not ready, or it does not fit.
+abbrev pub IsBlocked : App → List Entry → Asking → Type 0
+IsBlocked app trace q =
+    (start : Start) → start_of app q.object ≡ Some start
+    → (ready start (entries_on q.object trace) q.call ≡ false) ⊎ (fits start (entries_on q.object trace) q.call ≡ false)
+
+-- each write that a store has in its history has arrived, with all its parts, at each of its replicas
+abbrev pub IsEverywhere : Store → List Entry → Type 0
+IsEverywhere s h = All (λ region. All (λ r. IsTrue (is_whole s.kind h region r)) (rows h)) s.regions
+
+-- No process can go on, no message waits to be taken, and no write is on its way.
+pub record IsOver (app : App) (trace : List Entry) : Type 0 where
+  -- a process that has a next call cannot make it
+  pub processes : (b : Birth) (q : Asking) → next_call app trace b ≡ Some q → IsBlocked app trace q
+  -- no delivery of an inbox is free: each message that was delivered was taken
+  pub deliveries : (o : ℕ) (requests : List Message) → start_of app o ≡ Some (inbox requests) → free requests (entries_on o trace) ≡ []
+  -- what was written to a store is whole at each of its replicas
+  pub shipments : (o : ℕ) (s : Store) → start_of app o ≡ Some (store s) → IsEverywhere s (entries_on o trace)

@@ -1,0 +1,6 @@
+use Rattle.anti_trace.specs.inner.After.{AreFirst}
+use Rattle.anti_trace.proofs.objects.first_objects.Given as goal
+
+-- the objects so far
+abbrev pub invariant-loop-number : goal.invariant-loop-number
+invariant-loop-number l = AreFirst l.app l.number l.objects.items

@@ -1,0 +1,4 @@
+pub mod Living
+pub mod After
+pub mod Heads
+pub mod Shown
