@@ -6,6 +6,7 @@ use Rattle.anti_app.specs.declared.app.AppFault.{AppFault}
 use Rattle.anti_app.specs.Sound.{is_sound}
 use Rattle.anti_app.specs.Stated.{app_of}
 use Rattle.anti_text.specs.Record.{text_of}
+use Rattle.anti_text.specs.Report.{told_of}
 use Rattle.anti_trace.specs.Legal.{IsLegalTrace}
 use Rattle.anti_play.specs.Schedule.{trace_of, waits_of}
 use Rattle.anti_command.specs.declared.outcome.RunKept.{RunKept}
@@ -29,7 +30,7 @@ IsLegalRun kept = IsLegalTrace kept.app kept.trace
 
 -- the record of the run
 unfoldable pub printed : RunKept → List ℕ
-printed kept = text_of kept.app kept.trace kept.waits.items
+printed kept = text_of kept.app (told_of kept.app kept.trace kept.waits.items)
 
 -- the run is that of the application which the bytes state, where the source tells them
 pub record IsRunOf (left : Option (List ℕ)) (kept : RunKept) : Type 0 where

@@ -5,6 +5,7 @@ ghost use Rattle.anti_command.specs.Faults.{writes};
 ghost use Rattle.anti_command.specs.Commands.{reads_source, plays, IsDone};
 ghost use Rattle.anti_command.specs.Causes.{HasCause, IsFaultOf};
 ghost use Rattle.anti_command.specs.Runs.{application_of, IsPlayable, IsLegalRun, IsPlayed, IsRunOf, printed};
+ghost use Rattle.anti_trace.specs.Ends.{ends_of};
 
 use crate::command::{Command, asked_for};
 use crate::fault::{TopFault, fault_of};
@@ -13,7 +14,8 @@ use anti_app::{App, read_app};
 use anti_edge::{ReadRefused, Source, read_all};
 use anti_ids::{Bytes, LONGEST_DOCUMENT, NoMemory, Value};
 use anti_play::{Played, play};
-use anti_text::text;
+use anti_text::{Report, print};
+use anti_trace::Ends;
 use std::alloc::Global;
 
 /// All that is made before the first byte is written.
@@ -55,32 +57,49 @@ fn application(alloc: Global, bytes: &[u8]) -> Result<App, TopFault>
     }
 }
 
-// The run of the application.
-#[tactic(auto, unfolding(crate::specs::Runs::IsPlayable, crate::specs::Runs::IsPlayed, crate::specs::Runs::IsLegalRun))]
-fn run(alloc: Global, app: App) -> Result<RunKept, NoMemory>
-    requires { IsPlayable app }
-    ensures app { IfOk result (λ run. run.app ≡ app) }
-    ensures played { IfOk result IsPlayed }
-    ensures legal { IfOk result IsLegalRun }
-{
-    let Played { trace, waits } = play(alloc, &app)?;
-    Ok(RunKept { app, trace, waits })
+// A run, and how its processes ended: the ends are told in its record, and are not kept.
+#[derive(Drop)]
+struct RunAndEnds {
+    kept: RunKept,
+    ends: Ends,
 }
 
-// The record of the run.
-#[tactic(auto, unfolding(crate::specs::Runs::IsPlayable, crate::specs::Runs::IsLegalRun, crate::specs::Runs::printed))]
-fn record_of(alloc: Global, run: &RunKept) -> Result<Bytes, NoMemory>
-    requires playable { IsPlayable run.now.app }
-    requires legal { IsLegalRun run.now }
+// The run of the application.
+#[tactic(auto, unfolding(crate::specs::Runs::IsPlayable, crate::specs::Runs::IsPlayed, crate::specs::Runs::IsLegalRun))]
+fn run(alloc: Global, app: App) -> Result<RunAndEnds, NoMemory>
+    requires { IsPlayable app }
+    ensures app { IfOk result (λ run. run.kept.app ≡ app) }
+    ensures played { IfOk result (λ run. IsPlayed run.kept) }
+    ensures legal { IfOk result (λ run. IsLegalRun run.kept) }
+    ensures ends { IfOk result (λ run.
+        run.ends.items ≡ ends_of run.kept.app run.kept.trace) }
+{
+    let Played { trace, waits, ends } = play(alloc, &app)?;
+    Ok(RunAndEnds {
+        kept: RunKept { app, trace, waits },
+        ends,
+    })
+}
+
+// The record of a run, of which these are the ends.
+#[tactic(auto, unfolding(crate::specs::Runs::printed))]
+fn record_of(alloc: Global, run: &RunKept, ends: Ends) -> Result<Bytes, NoMemory>
+    requires { ends.items ≡ ends_of run.now.app run.now.trace }
     ensures { IfOk result (λ text. text.items ≡ printed run.now) }
 {
-    text(alloc, &run.app, &run.trace, &run.waits)
+    let report = Report {
+        trace: &run.trace,
+        waits: &run.waits,
+        ends,
+    };
+    print(alloc, &run.app, &report)
 }
 
 // The run of the document that the source has.
-fn run_of<S: Source>(alloc: Global, src: &mut S) -> Result<RunKept, TopFault>
-    ensures run { IfOk result (IsRunOf (S.left src.old)) }
-    ensures playable { IfOk result (λ run. IsPlayable run.app) }
+fn run_of<S: Source>(alloc: Global, src: &mut S) -> Result<RunAndEnds, TopFault>
+    ensures run { IfOk result (λ run. IsRunOf (S.left src.old) run.kept) }
+    ensures ends { IfOk result (λ run.
+        run.ends.items ≡ ends_of run.kept.app run.kept.trace) }
     ensures cause { (asked : Option Command) → reads_source asked ≡ true →
         IfErr result (HasCause asked (S.left src.old) (S.left src.new)
         (Rose (S.faults src.old) (S.faults src.new)) ⊥) }
@@ -103,10 +122,10 @@ fn step<S: Source>(alloc: Global, src: &mut S) -> Result<Prepared, TopFault>
         (Rose (S.faults src.old) (S.faults src.new)) ⊥) }
     ensures unwritten { IfErr result (λ fault. writes (Some fault) ≡ false) }
 {
-    let run = run_of(alloc, src)?;
-    match record_of(alloc, &run) {
+    let RunAndEnds { kept, ends } = run_of(alloc, src)?;
+    match record_of(alloc, &kept, ends) {
         Ok(text) => Ok(Prepared {
-            kept: Some(run),
+            kept: Some(kept),
             text,
         }),
         Err(NoMemory) => Err(TopFault::NoMemory),

@@ -1,6 +1,2 @@
-pub mod Followed
 pub mod Looks
-pub mod Named
-pub mod Replayed
-pub mod Sound
 pub mod Worked

@@ -1,5 +1,5 @@
 -- The lines of a small run, worked out: a process writes and reads one key, and its last choice is a wait.
-use Rattle.std.proofs.Common.{◌≡◌, ℕ, List, [], ◌∷◌, refl, Some, None}
+use Rattle.std.proofs.Common.{◌≡◌, ℕ, List, [], ◌∷◌, refl, Option, Some, None}
 use Rattle.std.specs.Prelude.{codes}
 use Rattle.std.specs.Fmt.{digits}
 use Rattle.anti_ids.specs.List.{plain}
@@ -23,10 +23,14 @@ use Rattle.anti_text.specs.Calls.{call_text, reply_text}
 use Rattle.anti_text.specs.Entries.{entry_line, wait_line}
 use Rattle.anti_text.specs.Processes.{process_line}
 use Rattle.percent_encoding.specs.Percent.{percent_encode_byte}
+use Rattle.anti_proc.specs.Births.{birth_at}
+use Rattle.anti_proc.specs.declared.end.End.{End}
 use Rattle.anti_proc.specs.declared.end.End.TheVariants.{Fine, Depth, StoreFull}
+use Rattle.anti_trace.specs.declared.ends.ProcessEnd.{ProcessEnd}
 use Rattle.std.specs.List.{flat_map}
 use Rattle.anti_text.specs.Words.{lineage_text}
 use Rattle.anti_text.specs.Record.{text_of}
+use Rattle.anti_text.specs.Report.{told_of}
 
 abbrev store_s : StoreDef
 store_s = record { name = codes "s"; kind = Kv; replicas = plain (0 ∷ []); tries = 3 }
@@ -81,30 +85,35 @@ pub entries : flat_map (entry_line app) (taken ∷ written ∷ moved ∷ shown �
 unfolding digits percent_encode_byte
 entries = refl
 
-pub fine : process_line app taken (Some Fine) ≡ codes "process w.1 w one fine\n"
+-- the process that the first entry started, with an end
+abbrev ended : Option End → ProcessEnd
+ended end = record { birth = birth_at taken; service = 0; handler = 0; end = end }
+
+pub fine : process_line app (ended (Some Fine)) ≡ codes "process w.1 w one fine\n"
 unfolding digits
 fine = refl
 
-pub full : process_line app taken (Some (StoreFull 0)) ≡ codes "process w.1 w one store s\n"
+pub full : process_line app (ended (Some (StoreFull 0))) ≡ codes "process w.1 w one store s\n"
 unfolding digits
 full = refl
 
-pub deep : process_line app taken (Some Depth) ≡ codes "process w.1 w one depth\n"
+pub deep : process_line app (ended (Some Depth)) ≡ codes "process w.1 w one depth\n"
 unfolding digits
 deep = refl
 
--- an entry that starts nothing has no names
-pub nameless : process_line app written (Some Fine) ≡ codes "process s.1   fine\n"
-unfolding digits
-nameless = refl
-
-pub open-yet : process_line app taken None ≡ codes "process w.1 w one open\n"
+pub open-yet : process_line app (ended None) ≡ codes "process w.1 w one open\n"
 unfolding digits
 open-yet = refl
 
-pub nothing : text_of app [] [] ≡ codes "record 1\nend 0\n"
+pub nothing : text_of app (told_of app [] []) ≡ codes "record 1\nend 0\n"
 unfolding digits
 nothing = refl
+
+-- the whole record of a run in which one process was born, whose handler has an empty body
+pub told : text_of app (told_of app (taken ∷ []) (4 ∷ []))
+    ≡ codes "record 1\n1 w.1 w.1/1 take 1 = got 1 request one 0 \"\" 1;\nwait 4 go w.1\nprocess w.1 w one fine\nend 1\n"
+unfolding digits
+told = refl
 
 pub waits : wait_line app 3 ≡ codes "wait 3 ship s eu 1\n"
 unfolding digits
@@ -167,6 +176,7 @@ pub repull : call_text subscribed 1 (calls.Repull 0 12) ≡ codes "repull fans 1
 unfolding digits
 repull = refl
 
-pub pulled-birth : process_line subscribed pulled (Some Fine) ≡ codes "process q.4 w one fine\n"
+-- the names are those of the service and the handler of its numbers; a birth on a store has the store's name
+pub pulled-birth : process_line subscribed (record { birth = birth_at pulled; service = 0; handler = 0; end = Some Fine }) ≡ codes "process q.4 w one fine\n"
 unfolding digits
 pulled-birth = refl

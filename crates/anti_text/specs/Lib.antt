@@ -2,6 +2,5 @@ pub mod Calls
 pub mod Entries
 pub mod Processes
 pub mod Record
-pub mod Replays
+pub mod Report
 pub mod Words
-pub mod inner

@@ -2,15 +2,15 @@
 #![tactic(auto)]
 
 mod call_words;
-mod ends;
 mod entry_lines;
 mod output;
 mod printed;
 mod printer;
 mod process_lines;
-mod replay;
 mod reply_words;
+mod report;
 mod wait_lines;
 mod words;
 
-pub use printed::text;
+pub use printed::{print, text};
+pub use report::Report;

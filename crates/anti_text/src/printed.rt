@@ -1,19 +1,23 @@
-ghost use Rattle.std.specs.Prelude.{◌≡◌, ◌++◌, OnOk, IfOk};
+ghost use Rattle.std.specs.Prelude.{◌≡◌, ◌++◌, OnOk, IfOk, IsTrue};
 ghost use Rattle.std.specs.List.{flat_map};
 ghost use Rattle.anti_ids.specs.List.{plain};
+ghost use Rattle.anti_app.specs.Sound.{is_sound};
+ghost use Rattle.anti_trace.specs.Legal.{IsLegalTrace};
 ghost use Rattle.anti_text.specs.Entries.{entry_line, wait_line};
+ghost use Rattle.anti_text.specs.Processes.{process_line};
 ghost use Rattle.anti_text.specs.Record.{text_of};
-ghost use Rattle.anti_text.specs.Replays.{IsReplayable};
+ghost use Rattle.anti_text.specs.Report.{told_of};
 
 use crate::entry_lines::entry_line;
 use crate::output::Output;
 use crate::printer::Printer;
-use crate::process_lines::process_lines;
+use crate::process_lines::process_line;
+use crate::report::Report;
 use crate::wait_lines::wait_line;
 use anti_app::{App, Waits};
 use anti_ids::{Bytes, NoMemory};
 use anti_kind::Entry;
-use anti_trace::Trace;
+use anti_trace::{ProcessEnd, Trace};
 use std::alloc::Global;
 
 // Writes the lines of the entries.
@@ -37,21 +41,41 @@ fn wait_lines(out: &mut Output, app: &App, waits: &[u32]) -> Result<(), NoMemory
     Ok(())
 }
 
-/// The record of a run of an application: a line for each entry in the order of the trace, for each
-/// choice that made no entry, and for each process. The only error is want of memory.
-pub fn text(alloc: Global, app: &App, trace: &Trace, waits: &Waits) -> Result<Bytes, NoMemory>
-    requires { IsReplayable app.now trace.now }
-    ensures { IfOk result (λ t. t ≡ plain (text_of app.now trace.now waits.now.items)) }
+// Writes the lines of the processes.
+fn process_lines(out: &mut Output, app: &App, ends: &[ProcessEnd]) -> Result<(), NoMemory>
+    ensures { OnOk result (out.new ≡ out.old ++ flat_map (process_line app.now) ends.now) }
+{
+    for process in ends {
+        process_line(out, app, process)?;
+    }
+    Ok(())
+}
+
+/// The record of what a report tells, as text: a line for each entry in the order of the trace, for each choice that made no entry, and for
+/// each process. The only error is want of memory.
+pub fn print(alloc: Global, app: &App, report: &Report) -> Result<Bytes, NoMemory>
+    ensures { IfOk result (λ t. t ≡ plain (text_of app.now report.now)) }
 {
     let printer = Printer::new(alloc, app)?;
     let mut out = Output::new(alloc);
-    let entries = trace.as_slice();
+    let entries = report.trace.as_slice();
     out.put(b"record 1\n")?;
     entry_lines(&mut out, &printer, entries)?;
-    wait_lines(&mut out, app, waits.as_slice())?;
-    process_lines(alloc, &mut out, app, entries)?;
+    wait_lines(&mut out, app, report.waits.as_slice())?;
+    process_lines(&mut out, app, report.ends.as_slice())?;
     out.put(b"end ")?;
     out.number(entries.len() as u64)?;
     out.put(b"\n")?;
     Ok(out.into_bytes())
+}
+
+/// The record of a run of an application, as text, by its trace and its waits. The only error is want of memory.
+pub fn text(alloc: Global, app: &App, trace: &Trace, waits: &Waits) -> Result<Bytes, NoMemory>
+    requires sound { IsTrue (is_sound app.now) }
+    requires legal { IsLegalTrace app.now trace.now }
+    ensures { IfOk result
+        (λ t. t ≡ plain (text_of app.now (told_of app.now trace.now waits.now.items))) }
+{
+    let report = Report::of(alloc, app, trace, waits)?;
+    print(alloc, app, &report)
 }
