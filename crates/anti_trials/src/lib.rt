@@ -43,4 +43,6 @@ mod stores;
 #[cfg(test)]
 mod table;
 #[cfg(test)]
+mod text;
+#[cfg(test)]
 mod trace;

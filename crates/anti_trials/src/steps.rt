@@ -169,10 +169,11 @@ fn make<M: Machine>(object: &mut Recorded<M>, call: Call) -> Result<Option<Reply
     if let Err(_refusal) = object.judge(&asking) {
         return Ok(None);
     }
+    let told = object.due(&asking.call)?;
     let due = object.due(&asking.call)?;
     let entry = object.entry(0, asking, due);
-    let reply = object.make(entry)?;
-    Ok(Some(reply))
+    object.make(entry)?;
+    Ok(Some(told))
 }
 
 /// How many of these steps, from the first on, go as they say.

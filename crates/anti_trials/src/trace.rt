@@ -1,4 +1,4 @@
-ghost use Rattle.std.specs.Prelude.{◌≡◌, IfOk, length};
+ghost use Rattle.std.specs.Prelude.{◌≡◌, ◌<◌, All, IfOk, length};
 ghost use Rattle.anti_trace.specs.Histories.{IsHistory};
 
 use crate::made::{message, name};
@@ -8,17 +8,15 @@ use anti_trace::{Histories, merge};
 use std::alloc::Global;
 use std::test::Fail;
 
-// The history of an object with one entry.
-fn history(alloc: Global, object: u32, stamp: u64) -> Result<History, NoMemory>
-    ensures own { IfOk result (λ h. IsHistory object h.items) }
-    ensures one { IfOk result (λ h. length h.items ≡ 1) }
+// An entry on an object.
+fn entry(object: u32, place: u32, stamp: u64) -> Entry
+    ensures object { result.object ≡ object }
+    ensures stamp { result.stamp ≡ stamp }
 {
-    let mut history = List::new(alloc);
-    history.reserve(1)?;
-    history.put(Entry {
+    Entry {
         stamp,
         object,
-        place: 1,
+        place,
         seat: 0,
         actor: Actor::Carrier(1),
         span: 0,
@@ -28,21 +26,40 @@ fn history(alloc: Global, object: u32, stamp: u64) -> Result<History, NoMemory>
             part: 1,
         },
         reply: Reply::Moved,
-    });
+    }
+}
+
+// The history of an object with two entries.
+fn history(alloc: Global, object: u32, first: u64, second: u64) -> Result<History, NoMemory>
+    requires { first < second }
+    ensures is { IfOk result (λ h. IsHistory h.items) }
+    ensures own { IfOk result (λ h. All (λ e. e.object ≡ object) h.items) }
+    ensures two { IfOk result (λ h. length h.items ≡ 2) }
+{
+    let mut history = List::new(alloc);
+    history.reserve(2)?;
+    history.put(entry(object, 1, first));
+    history.put(entry(object, 2, second));
     Ok(history)
 }
 
+// Entries of one stamp stand by their objects, wherever their histories stand.
 #[test]
-fn two_histories_are_merged(rt: HostRuntime) -> Result<(), Fail> {
+fn three_histories_are_merged(rt: HostRuntime) -> Result<(), Fail> {
     let alloc = rt.alloc();
     let mut histories: Histories = List::new(alloc);
-    histories.reserve(2)?;
-    histories.put(history(alloc, 0, 2)?);
-    histories.put(history(alloc, 1, 1)?);
+    histories.reserve(3)?;
+    histories.put(history(alloc, 7, 2, 5)?);
+    histories.put(history(alloc, 0, 2, 3)?);
+    histories.put(history(alloc, 3, 2, 3)?);
     let trace = merge(alloc, histories)?;
-    assert_eq!(rt; trace.len(), 2);
-    assert_eq!(rt; trace.at(0).object, 1);
-    assert_eq!(rt; trace.at(1).object, 0);
+    assert_eq!(rt; trace.len(), 6);
+    assert_eq!(rt; trace.at(0).object, 0);
+    assert_eq!(rt; trace.at(1).object, 3);
+    assert_eq!(rt; trace.at(2).object, 7);
+    assert_eq!(rt; trace.at(3).object, 0);
+    assert_eq!(rt; trace.at(4).object, 3);
+    assert_eq!(rt; trace.at(5).object, 7);
     Ok(())
 }
 
