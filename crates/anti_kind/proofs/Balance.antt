@@ -8,11 +8,12 @@ use Rattle.anti_kind.specs.declared.call.Reply.{Reply}
 use Rattle.anti_kind.specs.declared.entry.Entry.{Entry}
 use Rattle.anti_kind.specs.Stored.{parts_of}
 use Rattle.anti_kind.specs.Store.{Store, is_queue, is_pull, is_out, store_ready, store_due, store_need, owed_shipments, owed_messages}
+use Rattle.anti_kind.specs.Cells.{outs}
 use Rattle.anti_kind.specs.Objects.{store, weight, held, owed, need, Follows, IsLegal, IsStore}
 use Rattle.anti_kind.proofs.Histories.{held_more}
 use Rattle.anti_kind.proofs.Rows.{is_write, is_shipping}
 use Rattle.anti_kind.proofs.Units.{owed_other, owed_write, owed_ship}
-use Rattle.anti_kind.proofs.Handed.{settles_by, outs, outs_other, outs_write, outs_pull, outs_ack, outs_nack}
+use Rattle.anti_kind.proofs.Handed.{settles_by, outs_other, outs_write, outs_pull, outs_ack, outs_nack}
 
 messages_other : (s : Store) (h : List Entry) (e : Entry) → is_write e.call ≡ false → is_pull e.call ≡ false → settles_by e.call ≡ false → owed_messages s (h ++ e ∷ []) ≡ owed_messages s h
 messages_other s h e writes pulling settling = ap (λ (n : ℕ). cond (is_queue s.kind) n 0) (outs_other h e writes pulling settling)

@@ -16,19 +16,12 @@ use Rattle.anti_kind.specs.declared.entry.Entry.{Entry}
 use Rattle.anti_kind.specs.declared.row.Row.{Row}
 use Rattle.anti_kind.specs.Stored.{wrote, rows, row_of, is_whole, greatest, shows_of, channel_of, is_in}
 use Rattle.anti_kind.specs.Store.{Store, has_keys, if_whole, store_ready}
+use Rattle.anti_kind.specs.Cells.{cell_key, cells}
 use Rattle.anti_kind.specs.Objects.{store, Follows, IsLegal}
 use Rattle.anti_kind.proofs.Finding.{filter_contains}
 use Rattle.anti_kind.proofs.Histories.{by_entries, few_entries}
 use Rattle.anti_kind.proofs.Rows.{is_write, new_row, rows_more, rows_other, rows_write, rows_length, version_at, row_of_none, row_in}
 use Rattle.anti_kind.proofs.Showing.{bytes_same, same_bytes, IsGreatest, greatest_passes, greatest_least}
-
--- the key of the nth cell of a channel
-abbrev pub cell_key : List ℕ → ℕ → List ℕ
-cell_key channel n = channel ++ 35 ∷ decimal n
-
--- the cells of a channel, in the order in which they were written
-abbrev pub cells : List Entry → List ℕ → List Row
-cells h channel = filter (is_in channel) (rows h)
 
 -- A cell's key names its channel.
 

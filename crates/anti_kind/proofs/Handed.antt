@@ -14,6 +14,7 @@ use Rattle.anti_kind.specs.declared.store_kind.StoreKind.{StoreKind}
 use Rattle.anti_kind.specs.declared.store_kind.StoreKind.TheVariants.{Queue}
 use Rattle.anti_kind.specs.Stored.{wrote, rows, is_whole, is_in}
 use Rattle.anti_kind.specs.Store.{Store, is_queue, is_pull, is_ack, is_nack, gives, pulls, settles, is_out, is_free, next, next_of, pulled_next, is_there, or_absent, store_ready, store_due}
+use Rattle.anti_kind.specs.Cells.{outs}
 use Rattle.anti_kind.specs.Objects.{store, Follows, IsLegal}
 pub use Rattle.anti_kind.proofs.Finding.{Found, find_found}
 use Rattle.anti_kind.proofs.Histories.{by_entries}
@@ -30,7 +31,7 @@ pub record IsHanded (s : Store) (h : List Entry) (e : Entry) (r : Row) (sub : Su
   pub reply : e.reply ≡ Pulled r
   pub found : Found (is_free s h sub) (rows h) r
 
-next_found : (s : Store) (h : List Entry) (n : ℕ) (o : Option Sub) (r : Row) → s.kind ≡ Queue → pulled_next s h n o ≡ Some r → (sub : Sub) × Found (is_free s h sub) (rows h) r
+pub next_found : (s : Store) (h : List Entry) (n : ℕ) (o : Option Sub) (r : Row) → s.kind ≡ Queue → pulled_next s h n o ≡ Some r → (sub : Sub) × Found (is_free s h sub) (rows h) r
 next_found s h n None r kind is = absurd (cc)
 next_found s h n (Some sub) r kind is =
     (sub, find_found (is_free s h sub) (rows h) r (ap (λ (k : StoreKind). next_of k s h n sub) (sym kind) ∙ is))
@@ -60,31 +61,31 @@ settles_by (Ack version) = true
 settles_by (Nack version) = true
 settles_by _ = false
 
-settles_none : (v : ℕ) (c : Call) → settles_by c ≡ false → (is_ack v c || is_nack v c) ≡ false
+pub settles_none : (v : ℕ) (c : Call) → settles_by c ≡ false → (is_ack v c || is_nack v c) ≡ false
 settles_none v (Ack version) off = absurd (cc)
 settles_none v (Nack version) off = absurd (cc)
 settles_none v _ off = refl
 
 module _ (h : List Entry) (e : Entry) where
-  pulls_more : (v : ℕ) → pulls (h ++ e ∷ []) v ≡ pulls h v + cond (is_pull e.call && gives v e.reply) 1 0
+  pub pulls_more : (v : ℕ) → pulls (h ++ e ∷ []) v ≡ pulls h v + cond (is_pull e.call && gives v e.reply) 1 0
   pulls_more v = sum_by_push (λ (x : Entry). cond (is_pull x.call && gives v x.reply) 1 0) h e
 
-  settles_more : (v : ℕ) → settles (h ++ e ∷ []) v ≡ settles h v + cond (is_ack v e.call || is_nack v e.call) 1 0
+  pub settles_more : (v : ℕ) → settles (h ++ e ∷ []) v ≡ settles h v + cond (is_ack v e.call || is_nack v e.call) 1 0
   settles_more v = sum_by_push (λ (x : Entry). cond (is_ack v x.call || is_nack v x.call) 1 0) h e
 
-  pulls_kept : (v : ℕ) → (is_pull e.call && gives v e.reply) ≡ false → pulls (h ++ e ∷ []) v ≡ pulls h v
+  pub pulls_kept : (v : ℕ) → (is_pull e.call && gives v e.reply) ≡ false → pulls (h ++ e ∷ []) v ≡ pulls h v
   pulls_kept v off = let more : pulls (h ++ e ∷ []) v ≡ pulls h v + 0 = pulls_more v ∙ ap (λ (b : Bool). pulls h v + cond b 1 0) off in omega arith
 
-  settles_kept : (v : ℕ) → (is_ack v e.call || is_nack v e.call) ≡ false → settles (h ++ e ∷ []) v ≡ settles h v
+  pub settles_kept : (v : ℕ) → (is_ack v e.call || is_nack v e.call) ≡ false → settles (h ++ e ∷ []) v ≡ settles h v
   settles_kept v off = let more : settles (h ++ e ∷ []) v ≡ settles h v + 0 = settles_more v ∙ ap (λ (b : Bool). settles h v + cond b 1 0) off in omega arith
 
-  pulls_up : (v : ℕ) → (is_pull e.call && gives v e.reply) ≡ true → pulls (h ++ e ∷ []) v ≡ pulls h v + 1
+  pub pulls_up : (v : ℕ) → (is_pull e.call && gives v e.reply) ≡ true → pulls (h ++ e ∷ []) v ≡ pulls h v + 1
   pulls_up v on = pulls_more v ∙ ap (λ (b : Bool). pulls h v + cond b 1 0) on
 
-  settles_up : (v : ℕ) → (is_ack v e.call || is_nack v e.call) ≡ true → settles (h ++ e ∷ []) v ≡ settles h v + 1
+  pub settles_up : (v : ℕ) → (is_ack v e.call || is_nack v e.call) ≡ true → settles (h ++ e ∷ []) v ≡ settles h v + 1
   settles_up v on = settles_more v ∙ ap (λ (b : Bool). settles h v + cond b 1 0) on
 
-  out_kept : (v : ℕ) → (is_pull e.call && gives v e.reply) ≡ false → (is_ack v e.call || is_nack v e.call) ≡ false → is_out (h ++ e ∷ []) v ≡ is_out h v
+  pub out_kept : (v : ℕ) → (is_pull e.call && gives v e.reply) ≡ false → (is_ack v e.call || is_nack v e.call) ≡ false → is_out (h ++ e ∷ []) v ≡ is_out h v
   out_kept v off off' = ap₂ (λ (m n : ℕ). m == n + 1) (pulls_kept v off) (settles_kept v off')
 
   rows_longer : length (rows h) ≤ length (rows (h ++ e ∷ []))
@@ -142,17 +143,17 @@ module _ (h : List Entry) (e : Entry) (u : ℕ) (out : is_out h u ≡ true) (pul
       record { balance = inl (omega arith); within = λ some. (in'.0, omega (arith, in'.1)) }
   settled_one v was false same = counted_kept h e v was (pulling v) (settling v ∙ same)
 
-  not_out_then : is_out (h ++ e ∷ []) u ≡ false
+  pub not_out_then : is_out (h ++ e ∷ []) u ≡ false
   not_out_then =
       let kept : pulls (h ++ e ∷ []) u ≡ pulls h u = pulls_kept h e u (pulling u) in
       let up : settles (h ++ e ∷ []) u ≡ settles h u + 1 = settles_up h e u (settling u ∙ eq-eqb u u refl) in
       let ins : pulls h u ≡ settles h u + 1 = eqb-true (pulls h u) (settles h u + 1) out in
       ne_eqb (pulls (h ++ e ∷ []) u) (settles (h ++ e ∷ []) u + 1) (λ same. absurd (omega (arith, same)))
 
-  out_else : (v : ℕ) → (u ≡ v → ⊥) → is_out (h ++ e ∷ []) v ≡ is_out h v
+  pub out_else : (v : ℕ) → (u ≡ v → ⊥) → is_out (h ++ e ∷ []) v ≡ is_out h v
   out_else v differs = out_kept h e v (pulling v) (settling v ∙ ne_eqb u v differs)
 
-settle_ready : (s : Store) (h : List Entry) (e : Entry) (c : Call) (u : ℕ) → Follows (store s) h e → e.call ≡ c → store_ready s h c ≡ (is_queue s.kind && is_out h u) → is_out h u ≡ true
+pub settle_ready : (s : Store) (h : List Entry) (e : Entry) (c : Call) (u : ℕ) → Follows (store s) h e → e.call ≡ c → store_ready s h c ≡ (is_queue s.kind && is_out h u) → is_out h u ≡ true
 settle_ready s h e c u f is says = (and_parts (is_queue s.kind) (is_out h u) (sym says ∙ ap (λ (x : Call). store_ready s h x) (sym is) ∙ f.is_ready)).1
 
 counted_more : (s : Store) → is_queue s.kind ≡ true → (h : List Entry) (e : Entry) → IsLegal (store s) h → Follows (store s) h e → ((v : ℕ) → Counted h v) → (v : ℕ) → Counted (h ++ e ∷ []) v
@@ -165,7 +166,7 @@ counted_more s queue h e l f was v = by_call e.call refl where
       settled_one h e u (settle_ready s h e (Nack u) u f is refl) (λ w. ap (λ (c : Call). is_pull c && gives w e.reply) is) (λ w. ap (λ (c : Call). is_ack w c || is_nack w c) is) v (was v) (u == v) refl
   by_call _ is = counted_kept h e v (was v) (ap (λ (c : Call). is_pull c && gives v e.reply) is) (ap (λ (c : Call). is_ack v c || is_nack v c) is)
 
-counted : (s : Store) → is_queue s.kind ≡ true → (h : List Entry) → IsLegal (store s) h → (v : ℕ) → Counted h v
+pub counted : (s : Store) → is_queue s.kind ≡ true → (h : List Entry) → IsLegal (store s) h → (v : ℕ) → Counted h v
 counted s queue h l = by_entries (store s) (λ k. (v : ℕ) → Counted k v) (λ v. record { balance = inl refl; within = λ some. absurd (omega arith) }) (counted_more s queue) h l
 
 -- a message that is out is a row
@@ -173,9 +174,6 @@ pub out_within : (s : Store) → is_queue s.kind ≡ true → (h : List Entry) �
 out_within s queue h l v out = let ins : pulls h v ≡ settles h v + 1 = eqb-true (pulls h v) (settles h v + 1) out in (counted s queue h l v).within (omega arith)
 
 -- How many are out.
-
-abbrev pub outs : List Entry → ℕ
-outs h = count_by (λ r. is_out h r.version) (rows h)
 
 -- a call that hands out, settles and writes nothing
 pub outs_other : (h : List Entry) (e : Entry) → is_write e.call ≡ false → is_pull e.call ≡ false → settles_by e.call ≡ false → outs (h ++ e ∷ []) ≡ outs h
@@ -220,7 +218,7 @@ outs_pull s queue h e n l f is =
     (settling (get_or (rows h) k d).version))
 
 -- an Ack or Nack settles one that was out
-outs_settle : (s : Store) → is_queue s.kind ≡ true → (h : List Entry) (e : Entry) (u : ℕ) → IsLegal (store s) h → is_write e.call ≡ false → is_out h u ≡ true → ((v : ℕ) → (is_pull e.call && gives v e.reply) ≡ false) → ((v : ℕ) → (is_ack v e.call || is_nack v e.call) ≡ (u == v))
+pub outs_settle : (s : Store) → is_queue s.kind ≡ true → (h : List Entry) (e : Entry) (u : ℕ) → IsLegal (store s) h → is_write e.call ≡ false → is_out h u ≡ true → ((v : ℕ) → (is_pull e.call && gives v e.reply) ≡ false) → ((v : ℕ) → (is_ack v e.call || is_nack v e.call) ≡ (u == v))
     → outs h ≡ outs (h ++ e ∷ []) + 1
 outs_settle s queue h e u l writes out pulling settling =
     let in' : (1 ≤ u) × (u ≤ length (rows h)) = out_within s queue h l u out in

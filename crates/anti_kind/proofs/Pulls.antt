@@ -21,30 +21,14 @@ use Rattle.anti_kind.specs.declared.store_kind.StoreKind.{StoreKind}
 use Rattle.anti_kind.specs.declared.store_kind.StoreKind.TheVariants.{Topic}
 use Rattle.anti_kind.specs.Stored.{wrote, rows, row_of, is_in}
 use Rattle.anti_kind.specs.Store.{Store, absent, or_absent, is_pull_by, gives, cursor, if_whole, next_of, pulled_next, next, is_there, was_pulled, store_ready, store_due}
+use Rattle.anti_kind.specs.Cells.{cells, is_row_in, is_cell, nth_version, last_pulled}
 use Rattle.anti_kind.specs.Objects.{store, Follows, IsLegal}
 use Rattle.anti_kind.proofs.Finding.{Found, find_found, filter_contains}
 use Rattle.anti_kind.proofs.Histories.{by_entries}
 use Rattle.anti_kind.proofs.Rows.{or_false, is_write, version_at, versions_grow, row_in}
 use Rattle.anti_kind.proofs.Handed.{is_there_some}
 use Rattle.anti_kind.proofs.Sources.{whole_given, pull_of}
-use Rattle.anti_kind.proofs.Cells.{cells, cells_more, cells_other}
-
--- the version of the nth row, and 0 for n = 0
-abbrev pub nth_version : List Row → ℕ → ℕ
-nth_version rs zero = 0
-nth_version rs (suc i) = (get_or rs i (absent [])).version
-
--- the version of the last cell of the channel that a subscription pulled, 0 where it pulled none
-abbrev pub last_pulled : List Entry → ℕ → List ℕ → ℕ
-last_pulled h n channel = nth_version (cells h channel) (cursor h n)
-
-abbrev pub is_row_in : List ℕ → Option Row → Bool
-is_row_in channel None = false
-is_row_in channel (Some r) = is_in channel r
-
--- whether a version is that of a cell of the channel
-abbrev pub is_cell : List Entry → ℕ → List ℕ → Bool
-is_cell h v channel = is_row_in channel (row_of h v)
+use Rattle.anti_kind.proofs.Cells.{cells_more, cells_other}
 
 -- One entry more.
 

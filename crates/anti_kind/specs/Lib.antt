@@ -1,5 +1,6 @@
 pub mod Stored
 pub mod Store
+pub mod Cells
 pub mod Inbox
 pub mod Objects
 pub mod Laws

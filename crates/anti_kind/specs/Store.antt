@@ -42,6 +42,12 @@ table_store number regions = store_of Table number regions [] 0
 abbrev pub blob_store : ℕ → List ℕ → Store
 blob_store number regions = store_of Blob number regions [] 0
 
+abbrev pub queue_store : ℕ → List ℕ → List Sub → ℕ → Store
+queue_store number regions subs tries = store_of Queue number regions subs tries
+
+abbrev pub topic_store : ℕ → List ℕ → List Sub → Store
+topic_store number regions subs = store_of Topic number regions subs 0
+
 -- Kinds.
 
 -- the kinds that are built
