@@ -5,3 +5,5 @@ pub mod Reading
 pub mod Bringing
 pub mod Standing
 pub mod Scanning
+pub mod Keys
+pub mod Counting

@@ -1,7 +1,10 @@
 //! What all kinds of store share: the writes in their order, the parts that came to each region, what each region therefore shows
-//! for a key, looks and reads, and the units that are held and owed. A kind of store is its own table of calls round it.
+//! for a key, looks and reads, and the units that are held and owed. A kind of store is its own table of calls round it. What queues
+//! and topics share besides: how many writes each channel has, and the keys of its cells.
 #![tactic(auto)]
 
+mod cells;
+mod channels;
 mod kept;
 mod looks;
 mod newest;
@@ -12,4 +15,6 @@ mod shipments;
 mod units;
 mod writes;
 
+pub use cells::cell_key;
+pub use channels::Channels;
 pub use replicas::Replicas;

@@ -1,0 +1,9 @@
+pub mod Places
+pub mod Reading
+pub mod Marking
+pub mod Listing
+pub mod Listed
+pub mod Standing
+pub mod Pulling
+pub mod Written
+pub mod Quiet

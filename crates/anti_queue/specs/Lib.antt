@@ -1,0 +1,4 @@
+pub mod QueueStarts
+pub mod QueueStates
+pub mod QueueLaws
+pub mod inner

@@ -1,0 +1,3 @@
+pub mod TopicStates
+pub mod TopicLaws
+pub mod inner

@@ -1,0 +1,57 @@
+ghost use Rattle.std.specs.Prelude.{◌≡◌, List, [], ◌∷◌, ◌++◌, OnOk, OnErr};
+ghost use Rattle.anti_kind.specs.declared.call.Call.TheVariants.{Write, Ship};
+ghost use Rattle.anti_kind.specs.declared.entry.Entry.{Entry};
+ghost use Rattle.anti_kind.specs.Objects.{Follows, MayMake};
+
+use crate::topic_store::Topic;
+use anti_ids::{Lineage, Name, NoMemory, Value};
+
+impl Topic {
+    ghost use Rattle.anti_topic.specs.TopicStates.{its_start, TopicStands, At};
+    ghost use Rattle.anti_topic.specs.inner.Changes.{IsQuiet};
+
+    // Writes a value to a channel: it is the next cell there.
+    pub(crate) fn write(
+        &mut self,
+        channel: &Name,
+        value: &Value,
+        lineage: &Lineage,
+    ) -> Result<(), NoMemory>
+        requires { MayMake (its_start self.old) (TopicStands self.old)
+            (Write channel.now value.now lineage.now) }
+        ensures stands { (h : List Entry) (e : Entry) → At self.old h
+            → Follows (its_start self.old) h e → e.call ≡ Write channel.now value.now lineage.now
+            → OnOk result (TopicStands self.new (h ++ e ∷ [])) }
+        ensures err { (h : List Entry) → TopicStands self.old h → OnErr result (TopicStands self.new h) }
+        ensures start { its_start self.new ≡ its_start self.old }
+    {
+        let Some(key) = self.channels.next_key(channel) else {
+            unreachable!();
+        };
+        self.channels.make_place(*channel)?;
+        self.base.write(key, value, lineage)?;
+        self.channels.add(channel);
+        Ok(())
+    }
+
+    // Brings a part to a region. It takes no memory.
+    pub(crate) fn ship(&mut self, region: u32, version: u64, part: u32)
+        requires { MayMake (its_start self.old) (TopicStands self.old) (Ship region version part) }
+        ensures stands { (h : List Entry) (e : Entry) → At self.old h
+            → Follows (its_start self.old) h e → e.call ≡ Ship region version part
+            → TopicStands self.new (h ++ e ∷ []) }
+        ensures start { its_start self.new ≡ its_start self.old }
+    {
+        self.base.ship(region, version, part);
+    }
+
+    // Takes note of a call that wrote, shipped and pulled nothing. It takes no memory.
+    pub(crate) fn note(&mut self)
+        ensures stands { (h : List Entry) (e : Entry) → At self.old h
+            → Follows (its_start self.old) h e → IsQuiet e.call
+            → TopicStands self.new (h ++ e ∷ []) }
+        ensures start { its_start self.new ≡ its_start self.old }
+    {
+        self.base.note(1);
+    }
+}
