@@ -5,7 +5,7 @@ use Rattle.anti_ids.specs.List.{Listed, plain}
 use Rattle.anti_ids.specs.declared.limits.TheConstants.{MOST_IDS}
 use Rattle.anti_ids.specs.declared.id.WriteId.{WriteId}
 use Rattle.anti_kind.specs.declared.call.Call.{Call}
-use Rattle.anti_kind.specs.declared.call.Call.TheVariants.{Write, Read, Scan, Look}
+use Rattle.anti_kind.specs.declared.call.Call.TheVariants.{Write, Read, Scan, Poll, Look}
 use Rattle.anti_kind.specs.declared.call.Reply.{Reply}
 use Rattle.anti_kind.specs.declared.call.Reply.TheVariants.{Written, Shown, Missing}
 use Rattle.anti_kind.specs.declared.row.Row.{Row}
@@ -31,10 +31,15 @@ pub record OneCall {A : Type 0} (step : Step) (store : ℕ) (call : Call) (Shows
 
 -- Reading.
 
--- a read gives the one row that is shown
+-- a read and a poll give the one row that is shown
+abbrev pub IsShown : Reply → Row → Type 0
+IsShown reply row = reply ≡ Shown (plain (row ∷ []))
+
 abbrev pub Reads : Step → ℕ → ℕ → List ℕ → Result Row ShimFault → Type 0
-Reads step store region key result =
-    OneCall step store (Read region key) (λ reply row. reply ≡ Shown (plain (row ∷ []))) result
+Reads step store region key result = OneCall step store (Read region key) IsShown result
+
+abbrev pub Polls : Step → ℕ → ℕ → List ℕ → Result Row ShimFault → Type 0
+Polls step store region key result = OneCall step store (Poll region key) IsShown result
 
 -- a scan gives the rows that are shown
 abbrev pub Scans : Step → ℕ → ℕ → List ℕ → Result (Listed Row) ShimFault → Type 0

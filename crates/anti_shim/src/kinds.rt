@@ -15,6 +15,14 @@ pub struct TableStore;
 #[derive(Clone, Copy)]
 pub struct BlobStore;
 
+/// The kind of queues.
+#[derive(Clone, Copy)]
+pub struct QueueStore;
+
+/// The kind of topics.
+#[derive(Clone, Copy)]
+pub struct TopicStore;
+
 impl ReadByKey for KvStore {}
 
 impl ReadByKey for TableStore {}
@@ -29,3 +37,9 @@ pub type TableShim = StoreShim<TableStore>;
 
 /// A store of blobs, as a caller in a region uses it.
 pub type BlobShim = StoreShim<BlobStore>;
+
+/// A queue, as a caller in a region uses it.
+pub type QueueShim = StoreShim<QueueStore>;
+
+/// A topic, as a caller in a region uses it.
+pub type TopicShim = StoreShim<TopicStore>;

@@ -1,10 +1,11 @@
 //! What a caller does with the stores of a port: reads and writes that keep the lineage, and
 //! barriers.
 //!
-//! A `Caller` makes the calls. A `StoreShim`, which is a `KvShim`, a `TableShim` or a `BlobShim`,
-//! makes those of one store. `barrier` waits for the writes of a lineage at all stores of a region,
-//! and `dry_run` names those that are not visible there: both make the looks of `plan`. A `Sight`
-//! tells where a look found nothing missing, and a `Barrier` keeps the sights.
+//! A `Caller` makes the calls. A `StoreShim`, which is a `KvShim`, a `TableShim`, a `BlobShim`, a
+//! `QueueShim` or a `TopicShim`, makes those of one store. `barrier` waits for the writes of a
+//! lineage at all stores of a region, and `dry_run` names those that are not visible there: both
+//! make the looks of `plan`. A `Sight` tells where a look found nothing missing, and a `Barrier`
+//! keeps the sights.
 #![tactic(auto)]
 
 mod barrier_answer;
@@ -24,7 +25,10 @@ pub use barrier_cursor::Barrier;
 pub use caller::Caller;
 pub use dry_run_call::dry_run;
 pub use fault::ShimFault;
-pub use kinds::{BlobShim, BlobStore, KvShim, KvStore, ReadByKey, TableShim, TableStore};
+pub use kinds::{
+    BlobShim, BlobStore, KvShim, KvStore, QueueShim, QueueStore, ReadByKey, TableShim, TableStore,
+    TopicShim, TopicStore,
+};
 pub use looks::{Looks, PlannedLook, plan};
 pub use sight::{Sight, Sights};
 pub use store_shim::StoreShim;

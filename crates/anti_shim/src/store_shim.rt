@@ -1,12 +1,12 @@
 ghost use Rattle.std.specs.Prelude.{◌≡◌, ◌≤◌, ℕ, is_some, true};
 ghost use Rattle.anti_ids.specs.Ids.{ids_of};
 ghost use Rattle.anti_shim.specs.Steps.{between};
-ghost use Rattle.anti_shim.specs.Shims.{Appends, Reads, Scans, Sees, Writes};
+ghost use Rattle.anti_shim.specs.Shims.{Appends, IsShown, Polls, Reads, Scans, Sees, Writes};
 ghost use Rattle.anti_shim.specs.inner.Writes.{Puts};
 
 use crate::caller::Caller;
 use crate::fault::ShimFault;
-use crate::kinds::{ReadByKey, TableStore};
+use crate::kinds::{ReadByKey, TableStore, TopicStore};
 use crate::sight::{Sight, see};
 use anti_ids::{Copies, Lineage, Name, NoMemory, Roomy, RoomyFull, Value, WriteId};
 use anti_kind::{Call, Port, Reply, Row, Rows};
@@ -36,8 +36,10 @@ impl<K> StoreShim<K> {
     }
 
     /// Makes one write, which stores the lineage as it is, and appends the id of what was written.
-    /// Where that would be one id more than a lineage can have the write is made, and the lineage
-    /// stays; with every other fault nothing was written and the lineage stays too.
+    /// A write to a queue or a topic names a channel, and the id has the key of the reply, which is
+    /// `c#n` for the nth write to the channel `c`. Where the id would be one more than a lineage can
+    /// have the write is made, and the lineage stays; with every other fault nothing was written and
+    /// the lineage stays too.
     pub fn write<P: Port>(
         &self,
         alloc: Global,
@@ -129,13 +131,7 @@ impl<K: ReadByKey> StoreShim<K> {
     {
         let region = self.region;
         let made = who.ask(port, self.store, Call::Read { region, key })?;
-        let Reply::Shown(mut rows) = made.reply else {
-            unreachable!()
-        };
-        match rows.pop() {
-            Some(row) => Ok(row),
-            None => unreachable!(),
-        }
+        Ok(only_row(made.reply))
     }
 }
 
@@ -159,6 +155,34 @@ impl StoreShim<TableStore> {
             unreachable!()
         };
         Ok(rows)
+    }
+}
+
+impl StoreShim<TopicStore> {
+    /// Makes one poll. It gives the row that the region shows for the key, which is that of a cell.
+    pub fn poll<P: Port>(&self, port: &mut P, who: &mut Caller, key: Name) -> Result<Row, ShimFault>
+        requires { is_some (P.start port.old self.now.store) ≡ true }
+        ensures answer { let step = between P.Port port.old port.new who.old who.new in
+            Polls step self.now.store self.now.region key result }
+        ensures fixed { (o : ℕ) → P.start port.new o ≡ P.start port.old o }
+    {
+        let region = self.region;
+        let made = who.ask(port, self.store, Call::Poll { region, key })?;
+        Ok(only_row(made.reply))
+    }
+}
+
+// The row of a reply that shows just one.
+fn only_row(reply: Reply) -> Row
+    requires { (row : Row) × IsShown reply row }
+    ensures { IsShown reply result }
+{
+    let Reply::Shown(mut rows) = reply else {
+        unreachable!()
+    };
+    match rows.pop() {
+        Some(row) => row,
+        None => unreachable!(),
     }
 }
 
