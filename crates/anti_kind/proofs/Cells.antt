@@ -15,8 +15,8 @@ use Rattle.anti_kind.specs.declared.call.Call.TheVariants.{Write}
 use Rattle.anti_kind.specs.declared.entry.Entry.{Entry}
 use Rattle.anti_kind.specs.declared.row.Row.{Row}
 use Rattle.anti_kind.specs.Stored.{wrote, rows, row_of, is_whole, greatest, shows_of, channel_of, is_in}
-use Rattle.anti_kind.specs.Store.{Store, has_keys, if_whole, store_ready}
-use Rattle.anti_kind.specs.Cells.{cell_key, cells}
+use Rattle.anti_kind.specs.Store.{Store, has_keys, if_whole, store_ready, cells}
+use Rattle.anti_kind.specs.Cells.{cell_key}
 use Rattle.anti_kind.specs.Objects.{store, Follows, IsLegal}
 use Rattle.anti_kind.proofs.Finding.{filter_contains}
 use Rattle.anti_kind.proofs.Histories.{by_entries, few_entries}

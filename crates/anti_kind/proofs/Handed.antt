@@ -13,8 +13,7 @@ use Rattle.anti_kind.specs.declared.store_kind.Sub.{Sub}
 use Rattle.anti_kind.specs.declared.store_kind.StoreKind.{StoreKind}
 use Rattle.anti_kind.specs.declared.store_kind.StoreKind.TheVariants.{Queue}
 use Rattle.anti_kind.specs.Stored.{wrote, rows, is_whole, is_in}
-use Rattle.anti_kind.specs.Store.{Store, is_queue, is_pull, is_ack, is_nack, gives, pulls, settles, is_out, is_free, next, next_of, pulled_next, is_there, or_absent, store_ready, store_due}
-use Rattle.anti_kind.specs.Cells.{outs}
+use Rattle.anti_kind.specs.Store.{Store, is_queue, is_pull, is_ack, is_nack, gives, pulls, settles, is_out, is_free, next, next_of, pulled_next, is_there, or_absent, store_ready, store_due, outs}
 use Rattle.anti_kind.specs.Objects.{store, Follows, IsLegal}
 pub use Rattle.anti_kind.proofs.Finding.{Found, find_found}
 use Rattle.anti_kind.proofs.Histories.{by_entries}

@@ -20,8 +20,8 @@ use Rattle.anti_kind.specs.declared.store_kind.Sub.{Sub}
 use Rattle.anti_kind.specs.declared.store_kind.StoreKind.{StoreKind}
 use Rattle.anti_kind.specs.declared.store_kind.StoreKind.TheVariants.{Topic}
 use Rattle.anti_kind.specs.Stored.{wrote, rows, row_of, is_in}
-use Rattle.anti_kind.specs.Store.{Store, absent, or_absent, is_pull_by, gives, cursor, if_whole, next_of, pulled_next, next, is_there, was_pulled, store_ready, store_due}
-use Rattle.anti_kind.specs.Cells.{cells, is_row_in, is_cell, nth_version, last_pulled}
+use Rattle.anti_kind.specs.Store.{Store, absent, or_absent, is_pull_by, gives, cursor, if_whole, next_of, pulled_next, next, is_there, was_pulled, store_ready, store_due, cells}
+use Rattle.anti_kind.specs.Cells.{is_row_in, is_cell, nth_version, last_pulled}
 use Rattle.anti_kind.specs.Objects.{store, Follows, IsLegal}
 use Rattle.anti_kind.proofs.Finding.{Found, find_found, filter_contains}
 use Rattle.anti_kind.proofs.Histories.{by_entries}

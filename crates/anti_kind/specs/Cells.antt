@@ -1,19 +1,14 @@
--- The cells of a channel, by their keys and by their versions; the last of them that a subscription of a topic pulled; and how many
--- messages of a queue are out.
-use Rattle.std.specs.Prelude.{ℕ, zero, suc, Bool, false, List, [], ◌∷◌, ◌++◌, Option, None, Some, filter, count_by, get_or, decimal}
+-- The cells of a channel, by their keys and by their versions, and the last of them that a subscription of a topic pulled.
+use Rattle.std.specs.Prelude.{ℕ, zero, suc, Bool, false, List, [], ◌∷◌, ◌++◌, Option, None, Some, get_or, decimal}
 use Rattle.anti_ids.specs.Ascii.{hash}
 use Rattle.anti_kind.specs.declared.entry.Entry.{Entry}
 use Rattle.anti_kind.specs.declared.row.Row.{Row}
-use Rattle.anti_kind.specs.Stored.{rows, row_of, is_in}
-use Rattle.anti_kind.specs.Store.{absent, is_out, cursor}
+use Rattle.anti_kind.specs.Stored.{row_of, is_in}
+use Rattle.anti_kind.specs.Store.{absent, cells, cursor}
 
 -- the key of the nth cell of a channel
 abbrev pub cell_key : List ℕ → ℕ → List ℕ
 cell_key channel n = channel ++ hash ∷ decimal n
-
--- the cells of a channel, in the order in which they were written
-abbrev pub cells : List Entry → List ℕ → List Row
-cells h channel = filter (is_in channel) (rows h)
 
 -- whether a row that was found is one of the channel
 abbrev pub is_row_in : List ℕ → Option Row → Bool
@@ -32,7 +27,3 @@ nth_version rs (suc i) = (get_or rs i (absent [])).version
 -- the version of the last cell of the channel that a subscription pulled, 0 where it pulled none
 abbrev pub last_pulled : List Entry → ℕ → List ℕ → ℕ
 last_pulled h n channel = nth_version (cells h channel) (cursor h n)
-
--- how many messages of a queue are out
-abbrev pub outs : List Entry → ℕ
-outs h = count_by (λ r. is_out h r.version) (rows h)

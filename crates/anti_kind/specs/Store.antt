@@ -50,13 +50,6 @@ topic_store number regions subs = store_of Topic number regions subs 0
 
 -- Kinds.
 
--- the kinds that are built
-abbrev pub is_built : StoreKind → Bool
-is_built Kv = true
-is_built Table = true
-is_built Blob = true
-is_built _ = false
-
 abbrev pub has_keys : StoreKind → Bool
 has_keys Kv = true
 has_keys Table = true
@@ -206,6 +199,10 @@ abbrev pub is_free : Store → List Entry → Sub → Row → Bool
 is_free s h sub r =
     is_in sub.channel r && (is_whole s.kind h sub.region r && (not (is_out h r.version) && (not (is_acked h r.version) && nat_lt (pulls h r.version) s.tries)))
 
+-- the cells of a channel, in the order in which they were written
+abbrev pub cells : List Entry → List ℕ → List Row
+cells h channel = filter (is_in channel) (rows h)
+
 -- how many cells a subscription has pulled
 abbrev pub cursor : List Entry → ℕ → ℕ
 cursor h n = count_by (λ e. is_pull_by n e.call) h
@@ -218,7 +215,7 @@ if_whole s h g (Some r) = cond (is_whole s.kind h g r) (Some r) None
 -- what the subscription numbered n would pull
 abbrev pub next_of : StoreKind → Store → List Entry → ℕ → Sub → Option Row
 next_of Queue s h n sub = find (is_free s h sub) (rows h)
-next_of Topic s h n sub = if_whole s h sub.region (slice_get (filter (is_in sub.channel) (rows h)) (cursor h n))
+next_of Topic s h n sub = if_whole s h sub.region (slice_get (cells h sub.channel) (cursor h n))
 next_of _ s h n sub = None
 
 abbrev pub pulled_next : Store → List Entry → ℕ → Option Sub → Option Row
@@ -281,9 +278,13 @@ owed_at s h r g = count_by (λ p. not (is_shipped h g r.version p)) (parts s.kin
 abbrev pub owed_shipments : Store → List Entry → ℕ
 owed_shipments s h = sum_by (λ r. sum_by (owed_at s h r) s.regions) (rows h)
 
--- the messages that are out, in a queue
+-- how many messages are out
+abbrev pub outs : List Entry → ℕ
+outs h = count_by (λ r. is_out h r.version) (rows h)
+
+-- the messages of a queue that are out
 abbrev pub owed_messages : Store → List Entry → ℕ
-owed_messages s h = cond (is_queue s.kind) (count_by (λ r. is_out h r.version) (rows h)) 0
+owed_messages s h = cond (is_queue s.kind) (outs h) 0
 
 abbrev pub store_owed : Store → List Entry → ℕ
 store_owed s h = owed_shipments s h + owed_messages s h

@@ -1,6 +1,3 @@
-ghost use Rattle.std.specs.Prelude.{◌≡◌};
-ghost use Rattle.anti_kind.specs.Store.{is_built};
-
 use anti_ids::Name;
 
 /// The kinds of store.
@@ -11,15 +8,6 @@ pub enum StoreKind {
     Blob,
     Queue,
     Topic,
-}
-
-impl StoreKind {
-    /// Whether stores of this kind are built.
-    pub fn is_built(self) -> bool
-        ensures { result ≡ is_built self }
-    {
-        matches!(self, StoreKind::Kv | StoreKind::Table | StoreKind::Blob)
-    }
 }
 
 /// A subscription: the messages of a channel, as they come to a region.

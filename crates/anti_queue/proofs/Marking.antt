@@ -11,8 +11,7 @@ use Rattle.anti_kind.specs.declared.call.Reply.TheVariants.{Pulled}
 use Rattle.anti_kind.specs.declared.entry.Entry.{Entry}
 use Rattle.anti_kind.specs.declared.row.Row.{Row}
 use Rattle.anti_kind.specs.Stored.{rows}
-use Rattle.anti_kind.specs.Store.{Store, is_queue, is_pull, is_ack, is_nack, gives, pulls, settles, is_acked, is_out}
-use Rattle.anti_kind.specs.Cells.{outs}
+use Rattle.anti_kind.specs.Store.{Store, is_queue, is_pull, is_ack, is_nack, gives, pulls, settles, is_acked, is_out, outs}
 use Rattle.anti_kind.specs.Objects.{store, IsLegal}
 use Rattle.anti_kind.proofs.Handed.{Counted, counted, settles_by, settles_none, pulls_kept, settles_kept, pulls_up, out_kept, not_out_then}
 use Rattle.anti_kind.proofs.Rows.{or_false}

@@ -8,8 +8,8 @@ use Rattle.anti_kind.specs.declared.entry.Entry.{Entry}
 use Rattle.anti_kind.specs.declared.store_kind.Sub.{Sub}
 use Rattle.anti_kind.specs.declared.store_kind.StoreKind.TheVariants.{Topic as topic_kind}
 use Rattle.anti_kind.specs.Stored.{row_of, shows_of}
-use Rattle.anti_kind.specs.Store.{is_pull_by, cursor, if_whole, pulled_next, next, was_pulled}
-use Rattle.anti_kind.specs.Cells.{cell_key, cells, is_cell}
+use Rattle.anti_kind.specs.Store.{is_pull_by, cursor, if_whole, pulled_next, next, was_pulled, cells}
+use Rattle.anti_kind.specs.Cells.{cell_key, is_cell}
 use Rattle.anti_kind.proofs.Cells.{next_cell}
 use Rattle.anti_kind.proofs.Histories.{few_entries}
 use Rattle.anti_kind.proofs.Pulls.{no_sub_pulled, pulled_by_last}

@@ -3,8 +3,7 @@ use Rattle.std.specs.Prelude.{◌≡◌, ℕ, ◌+◌, ◌-◌, ◌<◌, ◌≤�
 use Rattle.anti_ids.specs.declared.limits.TheConstants.{MOST_UNITS, MOST_TRIES}
 use Rattle.anti_kind.specs.declared.entry.Entry.{Entry}
 use Rattle.anti_kind.specs.Stored.{rows}
-use Rattle.anti_kind.specs.Store.{pulls, is_acked, is_out}
-use Rattle.anti_kind.specs.Cells.{outs}
+use Rattle.anti_kind.specs.Store.{pulls, is_acked, is_out, outs}
 use Rattle.anti_queue.specs.declared.messages.Message.{Message}
 use Rattle.anti_queue.specs.declared.messages.Messages.{Messages}
 

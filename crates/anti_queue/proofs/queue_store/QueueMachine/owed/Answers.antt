@@ -1,7 +1,6 @@
 use Rattle.std.proofs.Common.{◌≡◌, ◌+◌, ◌≤◌, arith}
 use Rattle.anti_ids.specs.declared.limits.TheConstants.{MOST_UNITS}
-use Rattle.anti_kind.specs.Store.{owed_shipments}
-use Rattle.anti_kind.specs.Cells.{outs}
+use Rattle.anti_kind.specs.Store.{owed_shipments, outs}
 use Rattle.anti_kind.specs.Objects.{held}
 use Rattle.anti_kind.proofs.Bounds.{within_units}
 use Rattle.anti_queue.specs.QueueStates.{its_store, its_start}
