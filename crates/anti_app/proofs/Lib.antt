@@ -8,8 +8,10 @@ mod Served
 mod SoundBodies
 mod ParsedBodies
 mod SoundServices
+mod SoundSubs
 mod SoundChoices
 mod Soundness
 pub mod SoundLemmas
 pub mod Blocks
 pub mod Runnable
+pub mod SubsOn

@@ -26,7 +26,7 @@ use Rattle.anti_rules.specs.declared.place.Part.TheVariants.{Handler}
 use Rattle.anti_rules.proofs.AllParse.{few_lines}
 use Rattle.anti_rules.proofs.Holds.{states_block, lines_pass}
 use Rattle.anti_app.specs.Parts.{number_or_0, regions_of, region_number, stores_of, services_of, body_in, body_or_empty, lines_in}
-use Rattle.anti_kind.specs.Store.{has_keys, is_table, is_topic}
+use Rattle.anti_kind.specs.Store.{has_keys, is_table, is_queue, is_topic}
 use Rattle.anti_app.specs.Sound.{fits_stores, fits_services, is_sound_body}
 use Rattle.anti_app.proofs.Lookups.{same_text}
 use Rattle.anti_app.proofs.Kept.{FailsNone, length_made, each_passes}
@@ -54,6 +54,10 @@ read_kinds text h =
 
 scanned_kinds : (text : List ℕ) → is_one_of (codes "table" ∷ []) text ≡ true → is_table (kind_of text) ≡ true
 scanned_kinds text h = word_or (codes "table") text is_table _ refl (none_left _) h
+
+pub handed_kinds : (text : List ℕ) → is_one_of (codes "queue" ∷ codes "topic" ∷ []) text ≡ true → (is_queue (kind_of text) || is_topic (kind_of text)) ≡ true
+handed_kinds text h =
+    let P : StoreKind → Bool = λ kind. is_queue kind || is_topic kind in word_or (codes "queue") text P _ refl (word_or (codes "topic") text P _ refl (none_left _)) h
 
 polled_kinds : (text : List ℕ) → is_one_of (codes "topic" ∷ []) text ≡ true → is_topic (kind_of text) ≡ true
 polled_kinds text h = word_or (codes "topic") text is_topic _ refl (none_left _) h

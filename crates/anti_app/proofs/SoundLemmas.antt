@@ -1,9 +1,10 @@
 -- What a sound application is known to keep.
-use Rattle.std.proofs.Common.{◌≡◌, ℕ, ◌+◌, IfSome, ◌<◌, ◌≤◌, List, [], ◌∷◌, Bool, true, false, not, ◌&&◌, nat_eq, nat_lt, nat_le, length, slice_get, Option, Some, None, is_none, IsTrue, refl, arith}
-use Rattle.std.specs.List.{list_all, list_any, All, AllPairs}
+use Rattle.std.proofs.Common.{◌≡◌, ℕ, ◌+◌, IfSome, ◌<◌, ◌≤◌, List, [], ◌∷◌, Bool, true, false, not, ◌&&◌, ◌||◌, ◌==◌, nat_eq, nat_lt, nat_le, length, slice_get, Option, Some, None, is_none, IsTrue, refl, sym, ap, ◌∙◌, subst, arith}
+use Rattle.std.specs.List.{list_all, list_any, All, AllPairs, Contains}
 use Rattle.std.specs.Option.{option_map_or}
 use Rattle.std.proofs.lemmas.Bool.{and_parts, or_parts, not-true, leb-true, eq-eqb, eqb-true}
 use Rattle.std.proofs.lemmas.List.Elements.{All-nil, All-cons}
+use Rattle.std.proofs.lemmas.List.Folds.{Any-from_list_any}
 use Rattle.std.proofs.lemmas.List.Kept.{AllPairs-cons}
 use Rattle.std.specs.Str.{bytes_eq}
 use Rattle.anti_ids.specs.Names.{is_plain}
@@ -12,14 +13,16 @@ use Rattle.anti_lang.specs.Bodies.{block_of}
 use Rattle.anti_lang.specs.Blocks.{lines_of}
 use Rattle.anti_lang.specs.Faults.{block_fault, variable_fault}
 use Rattle.anti_lang.specs.Spans.{spans_of}
-use Rattle.anti_ids.specs.declared.limits.TheConstants.{GREATEST_SEED, LONGEST_VALUE, MOST_CHOICES, MOST_COUNTED, MOST_HANDLERS, MOST_LINES, MOST_REGIONS, MOST_REPLICAS, MOST_REQUESTS, MOST_SERVICES, MOST_STORES, MOST_TRIES, MOST_WORKERS}
-use Rattle.anti_kind.specs.Store.{is_built}
-use Rattle.anti_app.specs.Sound.{are_distinct, is_few, is_sound_store, is_stored, fits_stores, fits_services, is_sound_body, is_sound_handler, is_sound_service, has_handler, is_sound_request, is_countable, is_part, is_shipment, is_sound_choice, are_sound_regions, are_sound_stores, are_sound_services, are_sound_requests, are_sound_choices, are_sound_numbers, is_sound}
+use Rattle.anti_ids.specs.declared.limits.TheConstants.{GREATEST_SEED, LONGEST_VALUE, MOST_CHOICES, MOST_COUNTED, MOST_HANDLERS, MOST_LINES, MOST_REGIONS, MOST_REPLICAS, MOST_REQUESTS, MOST_SERVICES, MOST_STORES, MOST_SUBS, MOST_TRIES, MOST_WORKERS}
+use Rattle.anti_kind.specs.Store.{is_queue, is_topic}
+use Rattle.anti_app.specs.Sound.{are_distinct, is_few, is_sound_store, is_stored, fits_stores, fits_services, is_sound_body, is_sound_handler, is_sound_service, has_handler, hands_out, hands_to, is_sound_sub, is_sound_request, is_countable, is_part, is_shipment, is_sound_choice, are_sound_regions, are_sound_stores, are_sound_services, are_sound_subs, are_sound_requests, are_sound_choices, are_sound_numbers, is_sound}
+use Rattle.anti_app.proofs.Kept.{some_passes}
 use Rattle.anti_app.specs.declared.app.App.{App}
 use Rattle.anti_app.specs.declared.app.StoreDef.{StoreDef}
 use Rattle.anti_app.specs.declared.app.HandlerDef.{HandlerDef}
 use Rattle.anti_app.specs.declared.app.ServiceDef.{ServiceDef}
 use Rattle.anti_app.specs.declared.app.RequestDef.{RequestDef}
+use Rattle.anti_app.specs.declared.app.SubDef.{SubDef}
 use Rattle.anti_app.specs.declared.app.Choice.{Choice}
 use Rattle.anti_app.specs.declared.app.Choice.TheVariants.{Take, Repost, Pull, Repull, Ship, Again, Go, Finish}
 
@@ -50,18 +53,18 @@ numbers_differ xs h = λ i j d less within e. let same = eq-eqb _ _ e in let oth
 few_known : (most n : ℕ) → is_few most n ≡ true → (1 ≤ n) × (n ≤ most)
 few_known most n h = let parts = and_parts _ _ h in (leb-true _ _ parts.0, leb-true _ _ parts.1)
 
+-- a number that is found is there
+number_there : (n : ℕ) (ns : List ℕ) → list_any (λ m. m == n) ns ≡ true → Contains ns n
+number_there n ns h =
+    let any = Any-from_list_any (λ m. m == n) ns h in subst (Contains ns) (eqb-true _ _ any.4) (any.0, any.2, any.3)
+
 none_is : {T : Type 0} (o : Option T) → is_none o ≡ true → o ≡ None
 none_is None h = refl
 none_is (Some x) h = cc
 
-no_items : {T : Type 0} (xs : List T) → nat_eq (length xs) 0 ≡ true → xs ≡ []
-no_items [] h = refl
-no_items (x ∷ xs) h = absurd (omega (arith, eqb-true _ _ h))
-
 -- ---- parts
 pub record SoundStore (regions : ℕ) (store : StoreDef) : Type 0 where
   pub name : is_plain store.name ≡ true
-  pub kind : is_built store.kind ≡ true
   pub some : 1 ≤ length store.replicas.items
   pub few : length store.replicas.items ≤ MOST_REPLICAS
   pub below : All (λ region. region < regions) store.replicas.items
@@ -73,15 +76,13 @@ pub store_known : (regions : ℕ) (store : StoreDef) → is_sound_store regions 
 unfolding is_sound_store
 store_known regions store h =
     let one = and_parts _ _ h in let two = and_parts _ _ one.1 in let three = and_parts _ _ two.1 in let four = and_parts _ _ three.1 in
-    let five = and_parts _ _ four.1 in
-    let few = few_known _ _ three.0 in let tries = few_known _ _ five.1 in
+    let few = few_known _ _ two.0 in let tries = few_known _ _ four.1 in
     record {
       name = one.0;
-      kind = two.0;
       some = few.0;
       few = few.1;
-      below = each_known (λ region. nat_lt region regions) (λ region. region < regions) (λ region less. leb-true _ _ less) store.replicas.items four.0;
-      distinct = numbers_differ _ (pairs_known nat_eq _ five.0);
+      below = each_known (λ region. nat_lt region regions) (λ region. region < regions) (λ region less. leb-true _ _ less) store.replicas.items three.0;
+      distinct = numbers_differ _ (pairs_known nat_eq _ four.0);
       tried = tries.0;
       few_tries = tries.1;
     }
@@ -162,6 +163,38 @@ request_known services request h =
     let one = and_parts (has_handler services request.service request.handler) (nat_le (length request.value) LONGEST_VALUE) h in
     named services request (slice_get services request.service) refl one.0 (leb-true _ _ one.1)
 
+-- the handler of a subscription, and its store, a queue or a topic that has a replica where the service is
+pub record SoundSub (stores : List StoreDef) (services : List ServiceDef) (sub : SubDef) : Type 0 where
+  pub name : is_plain sub.name ≡ true
+  pub channel : is_plain sub.channel ≡ true
+  pub service : ServiceDef
+  pub served : slice_get services sub.service ≡ Some service
+  pub handler : sub.handler < length service.handlers.items
+  pub store : StoreDef
+  pub stored : slice_get stores sub.store ≡ Some store
+  pub kind : (is_queue store.kind || is_topic store.kind) ≡ true
+  pub near : Contains store.replicas.items service.region
+
+pub sub_known : (stores : List StoreDef) (services : List ServiceDef) (sub : SubDef) → is_sound_sub stores services sub ≡ true → SoundSub stores services sub
+unfolding is_sound_sub hands_out
+sub_known stores services sub h =
+    let one = and_parts _ _ h in let two = and_parts _ _ one.1 in let three = and_parts (has_handler services sub.service sub.handler) _ two.1 in
+    let service = some_passes (λ (found : ServiceDef). nat_lt sub.handler (length found.handlers.items)) (slice_get services sub.service) three.0 in
+    let hands : hands_to stores sub.store service.0 ≡ true = sym (ap (λ (o : Option ServiceDef). option_map_or (hands_to stores sub.store) o false) service.1) ∙ three.1 in
+    let store = some_passes (hands_out service.0.region) (slice_get stores sub.store) hands in
+    let parts = and_parts (is_queue store.0.kind || is_topic store.0.kind) (list_any (λ r. r == service.0.region) store.0.replicas.items) store.2 in
+    record {
+      name = one.0;
+      channel = two.0;
+      service = service.0;
+      served = service.1;
+      handler = leb-true _ _ service.2;
+      store = store.0;
+      stored = store.1;
+      kind = parts.0;
+      near = number_there service.0.region store.0.replicas.items parts.1;
+    }
+
 -- the store and the region of a shipment are there, and its numbers are from 1 to 4,096
 abbrev pub SoundShipment : ℕ → ℕ → ℕ → ℕ → ℕ → Option ℕ → Type 0
 SoundShipment regions stores store region version part =
@@ -224,6 +257,9 @@ pub record SoundApp (app : App) : Type 0 where
   pub few_services : length app.services.items ≤ MOST_SERVICES
   pub services : All (SoundService (length app.regions.items) app.stores.items app.services.items) app.services.items
   pub names : AllPairs (λ a b. bytes_eq a.name b.name ≡ false) app.services.items
+  pub few_subs : length app.subs.items ≤ MOST_SUBS
+  pub subs : All (SoundSub app.stores.items app.services.items) app.subs.items
+  pub sub_names : AllPairs (λ a b. bytes_eq a.name b.name ≡ false) app.subs.items
   pub few_requests : length app.requests.items ≤ MOST_REQUESTS
   pub requests : All (SoundRequest app.services.items) app.requests.items
   pub few_choices : length app.choices.items ≤ MOST_CHOICES
@@ -231,7 +267,6 @@ pub record SoundApp (app : App) : Type 0 where
   pub seed : app.seed ≤ GREATEST_SEED
   pub some_worker : 1 ≤ app.workers
   pub few_workers : app.workers ≤ MOST_WORKERS
-  pub no_sub : app.subs.items ≡ []
 
 pub app_known : (app : App) → IsTrue (is_sound app) → SoundApp app
 app_known app h =
@@ -239,14 +274,16 @@ app_known app h =
     let one = and_parts (are_sound_regions app.regions.items) _ h in
     let two = and_parts (are_sound_stores regions app.stores.items) _ one.1 in
     let three = and_parts (are_sound_services regions app.stores.items app.services.items) _ two.1 in
-    let four = and_parts (are_sound_requests app.services.items app.requests.items) _ three.1 in
-    let five = and_parts (are_sound_choices app app.choices.items) (are_sound_numbers app) four.1 in
+    let four = and_parts (are_sound_subs app.stores.items app.services.items app.subs.items) _ three.1 in
+    let five = and_parts (are_sound_requests app.services.items app.requests.items) _ four.1 in
+    let six = and_parts (are_sound_choices app app.choices.items) (are_sound_numbers app) five.1 in
     let few = and_parts _ _ one.0 in let named = and_parts _ _ few.1 in let count = few_known _ _ few.0 in
     let stores = and_parts _ _ two.0 in let more_stores = and_parts _ _ stores.1 in
     let services = and_parts _ _ three.0 in let more_services = and_parts _ _ services.1 in
-    let requests = and_parts _ _ four.0 in
-    let choices = and_parts _ _ five.0 in
-    let numbers = and_parts _ _ five.1 in let more_numbers = and_parts _ _ numbers.1 in let workers = few_known _ _ more_numbers.0 in
+    let subs = and_parts _ _ four.0 in let more_subs = and_parts _ _ subs.1 in
+    let requests = and_parts _ _ five.0 in
+    let choices = and_parts _ _ six.0 in
+    let numbers = and_parts _ _ six.1 in let workers = few_known _ _ numbers.1 in
     record {
       some_region = count.0;
       few_regions = count.1;
@@ -259,6 +296,10 @@ app_known app h =
       services = each_known (is_sound_service regions app.stores.items app.services.items) (SoundService regions app.stores.items app.services.items)
           (service_known regions app.stores.items app.services.items) app.services.items more_services.0;
       names = pairs_known (λ a b. bytes_eq a.name b.name) _ more_services.1;
+      few_subs = leb-true _ _ subs.0;
+      subs = each_known (is_sound_sub app.stores.items app.services.items) (SoundSub app.stores.items app.services.items)
+          (sub_known app.stores.items app.services.items) app.subs.items more_subs.0;
+      sub_names = pairs_known (λ a b. bytes_eq a.name b.name) _ more_subs.1;
       few_requests = leb-true _ _ requests.0;
       requests = each_known (is_sound_request app.services.items) (SoundRequest app.services.items) (request_known app.services.items) app.requests.items requests.1;
       few_choices = leb-true _ _ choices.0;
@@ -266,5 +307,4 @@ app_known app h =
       seed = leb-true _ _ numbers.0;
       some_worker = workers.0;
       few_workers = workers.1;
-      no_sub = no_items app.subs.items more_numbers.1;
     }

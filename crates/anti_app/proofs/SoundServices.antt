@@ -120,12 +120,12 @@ module _ (doc : Members) (fine : first_breach doc ≡ None) where
       (and_from _ _ (each_service [] (services_in doc) (λ rule. (each_kept rule doc fine).services) (λ rule. (each_kept rule doc fine).handlers))
       services_differ)
 
-  -- ---- requests
+  -- ---- handlers that are named
   few_made : length (services_of doc) ≤ 2 ^ 32
   few_made = let few : length (services_in doc) ≤ MOST_SERVICES = leb-true _ _ few_services in omega (arith, length-map (services_in doc) (service_of (regions_of doc)))
 
   -- the number of a service that is there
-  service_found : (name : List ℕ) (d : Data) → named name (services_in doc) ≡ Some d
+  pub service_found : (name : List ℕ) (d : Data) → named name (services_in doc) ≡ Some d
       → (i : ℕ) × (service_number (services_of doc) name ≡ Some i) × (slice_get (services_of doc) i ≡ Some (service_of (regions_of doc) d)) × (find (λ service. bytes_eq service.name name) (services_of doc) ≡ Some (service_of (regions_of doc) d))
   unfolding service_of
   service_found name d found =
@@ -149,7 +149,7 @@ module _ (doc : Members) (fine : first_breach doc ≡ None) where
       (at.0, at.1, at.2)
 
   -- a handler that the rules find has a number
-  handler_there : (service handler : List ℕ) → handler_stated doc service handler ≡ true
+  pub handler_there : (service handler : List ℕ) → handler_stated doc service handler ≡ true
       → has_handler (services_of doc) (number_or_0 (service_number (services_of doc) service))
       (number_or_0 (handler_in (services_of doc) (number_or_0 (service_number (services_of doc) service)) handler)) ≡ true
   handler_there service handler stated =
@@ -171,6 +171,7 @@ module _ (doc : Members) (fine : first_breach doc ≡ None) where
       ∙ (ap (λ (o : Option ServiceDef). option_map_or (λ s. nat_lt number.0 (length s.handlers.items)) o false) at.2
       ∙ lt-ltb number.0 (length made.handlers.items) number.2))
 
+  -- ---- requests
   request_sound : (earlier : List Data) (d : Data) → FailsNone doc [] Request earlier d → is_sound_request (services_of doc) (request_of (services_of doc) d) ≡ true
   unfolding is_sound_request request_of
   request_sound earlier d none =

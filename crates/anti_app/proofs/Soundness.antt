@@ -7,21 +7,20 @@ use Rattle.std.proofs.Math.Dec.{leb-zero}
 use Rattle.toml.specs.Data.{Data, Members, get_member, as_integer}
 use Rattle.anti_rules.specs.Trees.{things_at}
 use Rattle.anti_rules.specs.Keys.{keys_of, all_fit, has_range}
-use Rattle.anti_rules.specs.Rules.{rule_line}
 use Rattle.anti_rules.specs.Order.{first_breach}
 use Rattle.anti_rules.specs.declared.breach.Breach.{Breach}
 use Rattle.anti_rules.specs.declared.keys.Kind.TheVariants.{Number}
-use Rattle.anti_rules.specs.declared.rule.Rule.TheVariants.{Ranged, Built}
-use Rattle.anti_rules.specs.declared.place.Part.TheVariants.{Top, Sub}
+use Rattle.anti_rules.specs.declared.rule.Rule.TheVariants.{Ranged}
+use Rattle.anti_rules.specs.declared.place.Part.TheVariants.{Top}
 use Rattle.anti_ids.specs.Answers.{AnswersBut}
 use Rattle.anti_ids.specs.List.{plain}
 use Rattle.anti_ids.specs.declared.limits.TheConstants.{GREATEST_SEED, MOST_CHOICES, MOST_WORKERS}
-use Rattle.anti_rules.proofs.Holds.{NoneFails, each_kept, wanted, few_things}
+use Rattle.anti_rules.proofs.Holds.{each_kept, wanted, few_things}
 use Rattle.anti_app.specs.declared.app.App.{App}
 use Rattle.anti_app.specs.declared.app.AppFault.{AppFault}
 use Rattle.anti_app.specs.declared.app.AppFault.TheVariants.{NoMemory}
 use Rattle.anti_app.specs.declared.app.Choice.{Choice}
-use Rattle.anti_app.specs.Parts.{whole_or_0, seed_of, stores_of, services_of, subs_of, sub_of}
+use Rattle.anti_app.specs.Parts.{whole_or_0, seed_of}
 use Rattle.anti_app.specs.Chosen.{app_with, choices_of}
 use Rattle.anti_app.specs.Stated.{app_or, app_unless}
 use Rattle.anti_app.specs.Sound.{are_sound_numbers, is_sound}
@@ -29,12 +28,8 @@ use Rattle.anti_app.proofs.Kept.{each_true, ranges_at, few_is_few}
 use Rattle.anti_app.proofs.SoundRegions.{counted, regions_sound}
 use Rattle.anti_app.proofs.SoundStores.{stores_sound}
 use Rattle.anti_app.proofs.SoundServices.{services_sound, requests_sound}
+use Rattle.anti_app.proofs.SoundSubs.{subs_sound}
 use Rattle.anti_app.proofs.SoundChoices.{choices_known, sound_listed}
-
--- what never holds of a thing holds of none
-no_things : (line : List Data → Data → Option ℕ) (earlier ds : List Data) → ((before : List Data) (d : Data) → line before d ≡ None → ⊥) → NoneFails line earlier ds → ds ≡ []
-no_things line earlier [] never h = refl
-no_things line earlier (d ∷ ds) never h = absurd (never earlier d h.0)
 
 -- an integer in a range from 0
 whole_within : (most : ℕ) (o : Option Data) → option_map_or (has_range (Number (pos 0) (pos most))) o true ≡ true → nat_le (whole_or_0 (option_and_then as_integer o)) most ≡ true
@@ -52,16 +47,9 @@ module _ (doc : Members) (fine : first_breach doc ≡ None) where
       whole_within GREATEST_SEED (get_member (codes "seed") doc)
       (each_true (ranges_at doc) (keys_of Top) (wanted (all_fit has_range (keys_of Top) doc) (each_kept Ranged doc fine).top)).1.0
 
-  no_sub : things_at (codes "sub") doc ≡ []
-  no_sub = no_things (rule_line Built doc [] Sub) [] (things_at (codes "sub") doc) (λ before d h. cc) (each_kept Built doc fine).subs
-
-  no_subs : subs_of doc ≡ []
-  no_subs = ap (map (sub_of (stores_of doc) (services_of doc))) no_sub
-
   numbers_sound : (choices : List Choice) → are_sound_numbers (app_with doc choices) ≡ true
   numbers_sound choices =
-      and_from _ _ seed_within
-      (and_from _ _ (few_is_few MOST_WORKERS 2 (option_and_then as_integer (get_member (codes "workers") doc)) refl) (ap (λ subs. length subs == 0) no_subs))
+      and_from _ _ seed_within (few_is_few MOST_WORKERS 2 (option_and_then as_integer (get_member (codes "workers") doc)) refl)
 
   -- An application of a document that fails no rule, with the choices that it states, is sound.
   pub sound_of : (choices : List Choice) → choices_of doc ≡ Ok choices → is_sound (app_with doc choices) ≡ true
@@ -70,12 +58,13 @@ module _ (doc : Members) (fine : first_breach doc ≡ None) where
       and_from _ _ (regions_sound doc fine)
       (and_from _ _ (stores_sound doc fine)
       (and_from _ _ (services_sound doc fine)
+      (and_from _ _ (subs_sound doc fine)
       (and_from _ _ (requests_sound doc fine)
       (and_from _ _
       (and_from _ _ (ap (λ (n : ℕ). nat_le n MOST_CHOICES) known.1
       ∙ few_things 0 MOST_CHOICES (get_member (codes "choices") doc) (counted doc fine).1.1.1.0)
       (sound_listed (app_with doc []) (plain choices) choices known.0))
-      (numbers_sound choices)))))
+      (numbers_sound choices))))))
 
 -- What is read of a document is sound.
 or_sound : (doc : Members) → first_breach doc ≡ None → (choices : Result (List Choice) ℕ) → choices_of doc ≡ choices → (app : App) → app_or doc choices ≡ Ok app → IsTrue (is_sound app)

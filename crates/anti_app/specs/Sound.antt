@@ -1,23 +1,24 @@
 -- What an application keeps, whatever is done with it: counts, names that differ, and numbers of things that are there.
-use Rattle.std.specs.Prelude.{ℕ, ◌+◌, List, [], ◌∷◌, Bool, true, false, not, ◌&&◌, ◌==◌, nat_le, nat_lt, nat_eq, length, slice_get, Option, Some, None, is_none}
+use Rattle.std.specs.Prelude.{ℕ, ◌+◌, List, [], ◌∷◌, Bool, true, false, not, ◌&&◌, ◌||◌, ◌==◌, nat_le, nat_lt, nat_eq, length, slice_get, Option, Some, None, is_none}
 use Rattle.std.specs.List.{list_all, list_any}
 use Rattle.std.specs.Option.{option_map_or}
 use Rattle.std.specs.Str.{bytes_eq}
 use Rattle.anti_ids.specs.Names.{is_plain}
 use Rattle.anti_kind.specs.declared.store_kind.StoreKind.{StoreKind}
-use Rattle.anti_kind.specs.Store.{is_built, has_keys, is_table, is_topic}
+use Rattle.anti_kind.specs.Store.{has_keys, is_table, is_queue, is_topic}
 use Rattle.anti_lang.specs.Program.{Block, Write, Read, Scan, Poll, Call, Send}
 use Rattle.anti_lang.specs.Bodies.{block_of}
 use Rattle.anti_lang.specs.Lines.{Line, Does}
 use Rattle.anti_lang.specs.Blocks.{lines_of}
 use Rattle.anti_lang.specs.Faults.{block_fault, variable_fault}
 use Rattle.anti_lang.specs.Spans.{spans_of}
-use Rattle.anti_ids.specs.declared.limits.TheConstants.{GREATEST_SEED, LONGEST_VALUE, MOST_CHOICES, MOST_COUNTED, MOST_HANDLERS, MOST_LINES, MOST_REGIONS, MOST_REPLICAS, MOST_REQUESTS, MOST_SERVICES, MOST_STORES, MOST_TRIES, MOST_WORKERS}
+use Rattle.anti_ids.specs.declared.limits.TheConstants.{GREATEST_SEED, LONGEST_VALUE, MOST_CHOICES, MOST_COUNTED, MOST_HANDLERS, MOST_LINES, MOST_REGIONS, MOST_REPLICAS, MOST_REQUESTS, MOST_SERVICES, MOST_STORES, MOST_SUBS, MOST_TRIES, MOST_WORKERS}
 use Rattle.anti_app.specs.declared.app.App.{App}
 use Rattle.anti_app.specs.declared.app.StoreDef.{StoreDef}
 use Rattle.anti_app.specs.declared.app.HandlerDef.{HandlerDef}
 use Rattle.anti_app.specs.declared.app.ServiceDef.{ServiceDef}
 use Rattle.anti_app.specs.declared.app.RequestDef.{RequestDef}
+use Rattle.anti_app.specs.declared.app.SubDef.{SubDef}
 use Rattle.anti_app.specs.declared.app.Choice.{Choice}
 use Rattle.anti_app.specs.declared.app.Choice.TheVariants.{Take, Repost, Pull, Repull, Ship, Again, Go, Finish}
 
@@ -31,11 +32,11 @@ abbrev pub is_few : ℕ → ℕ → Bool
 is_few most n = nat_le 1 n && nat_le n most
 
 -- ---- stores
--- a plain name, replicas, each a region, and distinct, and tries, of a kind that is built
+-- a plain name, replicas, each a region, and distinct, and tries
 unfoldable pub is_sound_store : ℕ → StoreDef → Bool
 is_sound_store regions store =
-    is_plain store.name && (is_built store.kind && (is_few MOST_REPLICAS (length store.replicas.items)
-    && (list_all (λ region. nat_lt region regions) store.replicas.items && (are_distinct nat_eq store.replicas.items && is_few MOST_TRIES store.tries))))
+    is_plain store.name && (is_few MOST_REPLICAS (length store.replicas.items)
+    && (list_all (λ region. nat_lt region regions) store.replicas.items && (are_distinct nat_eq store.replicas.items && is_few MOST_TRIES store.tries)))
 
 -- Whether a store has this name.
 abbrev pub is_stored : List StoreDef → List ℕ → Bool
@@ -89,11 +90,26 @@ is_sound_service regions stores services service =
     && (list_all (is_sound_handler stores services service.region) service.handlers.items
     && are_distinct (λ a b. bytes_eq a.name b.name) service.handlers.items))))
 
--- ---- requests and choices
 -- the service of this number is there and has a handler of this number
 abbrev pub has_handler : List ServiceDef → ℕ → ℕ → Bool
 has_handler services service handler = option_map_or (λ found. nat_lt handler (length found.handlers.items)) (slice_get services service) false
 
+-- ---- subscriptions
+-- a queue or a topic with a replica in this region
+unfoldable pub hands_out : ℕ → StoreDef → Bool
+hands_out region store = (is_queue store.kind || is_topic store.kind) && list_any (λ r. r == region) store.replicas.items
+
+-- whether the store of this number is there and hands out in the region of a service
+abbrev pub hands_to : List StoreDef → ℕ → ServiceDef → Bool
+hands_to stores store service = option_map_or (hands_out service.region) (slice_get stores store) false
+
+-- a plain name and a plain channel, a handler that is there, and a queue or a topic that has a replica where the service is
+unfoldable pub is_sound_sub : List StoreDef → List ServiceDef → SubDef → Bool
+is_sound_sub stores services sub =
+    is_plain sub.name && (is_plain sub.channel && (has_handler services sub.service sub.handler
+    && option_map_or (hands_to stores sub.store) (slice_get services sub.service) false))
+
+-- ---- requests and choices
 -- the handler is there, and the value has at most `LONGEST_VALUE` bytes
 unfoldable pub is_sound_request : List ServiceDef → RequestDef → Bool
 is_sound_request services request = has_handler services request.service request.handler && nat_le (length request.value) LONGEST_VALUE
@@ -139,6 +155,11 @@ abbrev pub are_sound_services : ℕ → List StoreDef → List ServiceDef → Bo
 are_sound_services regions stores services =
     nat_le (length services) MOST_SERVICES && (list_all (is_sound_service regions stores services) services && are_distinct (λ a b. bytes_eq a.name b.name) services)
 
+-- at most `MOST_SUBS` sound subscriptions of distinct names
+abbrev pub are_sound_subs : List StoreDef → List ServiceDef → List SubDef → Bool
+are_sound_subs stores services subs =
+    nat_le (length subs) MOST_SUBS && (list_all (is_sound_sub stores services) subs && are_distinct (λ a b. bytes_eq a.name b.name) subs)
+
 -- at most `MOST_REQUESTS` sound requests
 abbrev pub are_sound_requests : List ServiceDef → List RequestDef → Bool
 are_sound_requests services requests = nat_le (length requests) MOST_REQUESTS && list_all (is_sound_request services) requests
@@ -147,14 +168,15 @@ are_sound_requests services requests = nat_le (length requests) MOST_REQUESTS &&
 abbrev pub are_sound_choices : App → List Choice → Bool
 are_sound_choices app choices = nat_le (length choices) MOST_CHOICES && list_all (is_sound_choice app) choices
 
--- the numbers of a run with workers, and no subscription, since none is built yet
+-- the numbers of a run with workers
 abbrev pub are_sound_numbers : App → Bool
-are_sound_numbers app = nat_le app.seed GREATEST_SEED && (is_few MOST_WORKERS app.workers && length app.subs.items == 0)
+are_sound_numbers app = nat_le app.seed GREATEST_SEED && is_few MOST_WORKERS app.workers
 
 -- What an application keeps.
 abbrev pub is_sound : App → Bool
 is_sound app =
     are_sound_regions app.regions.items && (are_sound_stores (length app.regions.items) app.stores.items
     && (are_sound_services (length app.regions.items) app.stores.items app.services.items
+    && (are_sound_subs app.stores.items app.services.items app.subs.items
     && (are_sound_requests app.services.items app.requests.items
-    && (are_sound_choices app app.choices.items && are_sound_numbers app))))
+    && (are_sound_choices app app.choices.items && are_sound_numbers app)))))

@@ -165,7 +165,6 @@ pub enum AppFault {
     /// The bytes are no TOML document.
     NotToml,
     /// This rule of the format, counted from 1, is the first that the document fails, and this the first place at which it does.
-    /// Rule 25 stands for what is not built yet.
     Bad { rule: u32, place: Place },
     /// The choice of this number, counted from 1, is none.
     BadChoice { number: u32 },

@@ -13,6 +13,7 @@ mod region;
 mod request;
 mod service;
 mod store;
+mod stored_subs;
 mod sub;
 mod turning;
 
@@ -27,4 +28,5 @@ pub use objects::{
     ObjectAt, body_of, handler_number, has_handler, inbox_number, inbox_of, is_queue_at, is_store,
     object_at, object_count, region_of, service_at, store_names, store_number, stores_here,
 };
-pub use positions::{number_on, sub_on};
+pub use positions::{number_on, position_on, sub_on};
+pub use stored_subs::subs_on;

@@ -1,5 +1,5 @@
 ghost use Rattle.std.specs.Prelude.{◌≡◌, option_map};
-ghost use Rattle.anti_app.specs.Subs.{is_number_on, number_on, sub_on};
+ghost use Rattle.anti_app.specs.Subs.{is_number_on, number_on, position_on, sub_on};
 
 use crate::app::{App, SubDef};
 
@@ -11,6 +11,14 @@ fn is_number_on(app: &App, store: u32, number: usize) -> bool
         Some(sub) => sub.store == store,
         None => false,
     }
+}
+
+/// The position among those of a store of the subscription with a number in the document: how many before it are on the store.
+pub fn position_on(app: &App, store: u32, number: u32) -> u32
+    ensures { result ≡ position_on app.now store number }
+{
+    let before = app.subs.as_slice().iter().take(number as usize);
+    before.filter(|sub| sub.store == store).count() as u32
 }
 
 /// The number in the document of the subscription at a position among those of a store.

@@ -1,5 +1,5 @@
 -- What is known of a document without a breach.
-use Rattle.std.proofs.Common.{◌≡◌, ℕ, ◌+◌, List, [], ◌∷◌, ◌++◌, Bool, true, false, not, ◌&&◌, ◌||◌, length, map, Option, Some, None, is_some, option_map, Result, Ok, Err, refl, ap, sym, ◌∙◌, if◌then◌else◌, codes, nat_le}
+use Rattle.std.proofs.Common.{◌≡◌, ℕ, ◌+◌, List, [], ◌∷◌, ◌++◌, Bool, true, false, not, ◌&&◌, ◌||◌, length, map, Option, Some, None, is_some, Result, Ok, Err, refl, ap, sym, ◌∙◌, if◌then◌else◌, codes, nat_le}
 use Rattle.std.specs.List.{list_all, list_any}
 use Rattle.std.specs.Option.{option_or, option_map_or}
 use Rattle.std.proofs.lemmas.Bool.{and_parts}
@@ -22,10 +22,10 @@ use Rattle.anti_rules.specs.Trees.{text_of, text_at, things_at, things_in, store
 use Rattle.anti_rules.specs.Statements.{body_in, body_fault, fault_of, line_with, first_line, next}
 use Rattle.anti_rules.specs.Rules.{wants, table_line, rule_line}
 use Rattle.anti_rules.specs.Walk.{placed, passed, first_from, first_at, first_handler, first_place}
-use Rattle.anti_rules.specs.Order.{rules, told, first_told, breach_or, breach_from, first_breach}
+use Rattle.anti_rules.specs.Order.{rules, breach_or, breach_from, first_breach}
 use Rattle.anti_rules.specs.declared.breach.Breach.{Breach}
 use Rattle.anti_rules.specs.declared.rule.Rule.{Rule}
-use Rattle.anti_rules.specs.declared.rule.Rule.TheVariants.{Listed, There, Typed, Counted, Ranged, PlainNames, DistinctRegions, DistinctObjects, DistinctHandlers, DistinctSubs, StoreKinds, Replicas, QueueTries, ServiceRegions, SubStores, SubHandlers, SubReplicas, RequestHandlers, RequestValues, Statements, Blocks, Variables, StatementStores, StatementHandlers, Built}
+use Rattle.anti_rules.specs.declared.rule.Rule.TheVariants.{Listed, There, Typed, Counted, Ranged, PlainNames, DistinctRegions, DistinctObjects, DistinctHandlers, DistinctSubs, StoreKinds, Replicas, QueueTries, ServiceRegions, SubStores, SubHandlers, SubReplicas, RequestHandlers, RequestValues, Statements, Blocks, Variables, StatementStores, StatementHandlers}
 use Rattle.anti_rules.specs.declared.place.Part.{Part}
 use Rattle.anti_rules.specs.declared.place.Part.TheVariants.{Top, Region, Store, Service, Handler, Sub, Request, Choice}
 use Rattle.anti_rules.specs.declared.place.Place.{Place}
@@ -36,10 +36,6 @@ abbrev pub AllHold : Members → List Rule → Type 0
 AllHold doc [] = Unit {0}
 AllHold doc (rule ∷ rest) = (first_place rule doc ≡ None) × AllHold doc rest
 
-none_there : {A B : Type 0} (f : A → B) (o : Option A) → option_map f o ≡ None → o ≡ None
-none_there f None h = refl
-none_there f (Some x) h = cc
-
 no_breach : (number : ℕ) (place : Option Place) (later : Option Breach) → breach_or number place later ≡ None → (place ≡ None) × (later ≡ None)
 no_breach number None later h = (refl, h)
 no_breach number (Some place) later h = cc
@@ -47,8 +43,8 @@ no_breach number (Some place) later h = cc
 all_from : (doc : Members) (before : ℕ) (tried : List Rule) → breach_from doc before tried ≡ None → AllHold doc tried
 all_from doc before [] h = tt
 all_from doc before (rule ∷ rest) h =
-    let parts = no_breach (before + 1) (first_told rule doc) (breach_from doc (before + 1) rest) h in
-    (none_there (told rule) (first_place rule doc) parts.0, all_from doc (before + 1) rest parts.1)
+    let parts = no_breach (before + 1) (first_place rule doc) (breach_from doc (before + 1) rest) h in
+    (parts.0, all_from doc (before + 1) rest parts.1)
 
 -- A document without a breach fails no rule.
 pub all_hold : (doc : Members) → first_breach doc ≡ None → AllHold doc rules
@@ -82,7 +78,6 @@ holds Blocks doc all = all.1.1.1.1.1.1.1.1.1.1.1.1.1.1.1.1.1.1.1.1.0
 holds Variables doc all = all.1.1.1.1.1.1.1.1.1.1.1.1.1.1.1.1.1.1.1.1.1.0
 holds StatementStores doc all = all.1.1.1.1.1.1.1.1.1.1.1.1.1.1.1.1.1.1.1.1.1.1.0
 holds StatementHandlers doc all = all.1.1.1.1.1.1.1.1.1.1.1.1.1.1.1.1.1.1.1.1.1.1.1.0
-holds Built doc all = all.1.1.1.1.1.1.1.1.1.1.1.1.1.1.1.1.1.1.1.1.1.1.1.1.0
 
 -- ---- from a rule to the things of each part
 -- None of some things fails a test, behind earlier ones.

@@ -22,7 +22,6 @@ use Rattle.anti_rules.specs.Trees.{text_of, text_at, things_at, things_in, servi
 use Rattle.anti_rules.specs.Statements.{next, body_in, body_fault, fault_of, line_with, first_line, bad_line, line_fits, store_fits, handler_exists}
 use Rattle.anti_rules.specs.Rules.{table_line, rule_line}
 use Rattle.anti_rules.specs.Walk.{placed, passed, first_from, first_at, first_handler, first_place}
-use Rattle.anti_rules.specs.Order.{told, first_told}
 use Rattle.anti_rules.specs.inner.Parses.{if_parsed, body_stated, body_parses, handler_body, service_parses, service_bodies, all_parse, all_bodies, parsed_bodies, body_fits, bodies_fit, service_fits, services_fit, is_shown}
 use Rattle.anti_rules.specs.declared.rule.Rule.{Rule}
 use Rattle.anti_rules.specs.declared.rule.Rule.TheVariants.{Statements, Blocks, Variables, StatementStores, StatementHandlers}
@@ -200,16 +199,13 @@ no_place rule doc asks parse fit =
     (both_none _ _ (no_thing rule doc Request (codes "request") (λ earlier d. (asks.elsewhere earlier d).4))
     (no_thing rule doc Choice (codes "choices") (λ earlier d. (asks.elsewhere earlier d).5))))))))
 
--- Nothing is told of a rule that the bodies show to hold, where all parse.
-nothing_told : (rule : Rule) (doc : Members) → is_shown rule doc ≡ true → all_parse doc ≡ true → first_told rule doc ≡ None
-nothing_told rule doc shown parse = ap (option_map (told rule)) (no_place rule doc (asks_bodies rule doc shown) parse (shown_fits rule doc shown))
-
 parse_by : {T : Type 0} (all : Bool) (bodies found : T) → Some found ≡ then_some all bodies → all ≡ true
 parse_by true bodies found h = refl
 parse_by false bodies found h = absurd (cc)
 
--- The same by the bodies that were read.
-pub none_told : (rule : Rule) (doc : Members) (read : Option (Listed (Listed (Listed Statement)))) (bodies : Listed (Listed (Listed Statement)))
-    → read ≡ parsed_bodies doc → read ≡ Some bodies → is_shown rule doc ≡ true → None ≡ first_told rule doc
-none_told rule doc read bodies stated some shown =
-    sym (nothing_told rule doc shown (parse_by (all_parse doc) (all_bodies doc) bodies (sym some ∙ stated)))
+-- A document fails nowhere a rule that its bodies show to hold, where all parse.
+pub none_failing : (rule : Rule) (doc : Members) (read : Option (Listed (Listed (Listed Statement)))) (bodies : Listed (Listed (Listed Statement)))
+    → read ≡ parsed_bodies doc → read ≡ Some bodies → is_shown rule doc ≡ true → None ≡ first_place rule doc
+none_failing rule doc read bodies stated some shown =
+    let parse : all_parse doc ≡ true = parse_by (all_parse doc) (all_bodies doc) bodies (sym some ∙ stated) in
+    sym (no_place rule doc (asks_bodies rule doc shown) parse (shown_fits rule doc shown))

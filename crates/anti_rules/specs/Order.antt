@@ -1,10 +1,9 @@
 -- The first rule that a document fails.
-use Rattle.std.specs.Prelude.{ℕ, List, [], ◌∷◌, ◌+◌, Option, Some, None, option_map}
+use Rattle.std.specs.Prelude.{ℕ, List, [], ◌∷◌, ◌+◌, Option, Some, None}
 use Rattle.toml.specs.Data.{Members}
-use Rattle.anti_rules.specs.Walk.{place_at, first_place}
+use Rattle.anti_rules.specs.Walk.{first_place}
 use Rattle.anti_rules.specs.declared.rule.Rule.{Rule}
-use Rattle.anti_rules.specs.declared.rule.Rule.TheVariants.{Listed, There, Typed, Counted, Ranged, PlainNames, DistinctRegions, DistinctObjects, DistinctHandlers, DistinctSubs, StoreKinds, Replicas, QueueTries, ServiceRegions, SubStores, SubHandlers, SubReplicas, RequestHandlers, RequestValues, Statements, Blocks, Variables, StatementStores, StatementHandlers, Built}
-use Rattle.anti_rules.specs.declared.place.Part.TheVariants.{Top}
+use Rattle.anti_rules.specs.declared.rule.Rule.TheVariants.{Listed, There, Typed, Counted, Ranged, PlainNames, DistinctRegions, DistinctObjects, DistinctHandlers, DistinctSubs, StoreKinds, Replicas, QueueTries, ServiceRegions, SubStores, SubHandlers, SubReplicas, RequestHandlers, RequestValues, Statements, Blocks, Variables, StatementStores, StatementHandlers}
 use Rattle.anti_rules.specs.declared.place.Place.{Place}
 use Rattle.anti_rules.specs.declared.breach.Breach.{Breach}
 
@@ -15,17 +14,8 @@ rules =
     ∷ PlainNames ∷ DistinctRegions ∷ DistinctObjects ∷ DistinctHandlers ∷ DistinctSubs
     ∷ StoreKinds ∷ Replicas ∷ QueueTries ∷ ServiceRegions ∷ SubStores
     ∷ SubHandlers ∷ SubReplicas ∷ RequestHandlers ∷ RequestValues ∷ Statements
-    ∷ Blocks ∷ Variables ∷ StatementStores ∷ StatementHandlers ∷ Built
+    ∷ Blocks ∷ Variables ∷ StatementStores ∷ StatementHandlers
     ∷ []
-
--- the place that is told: what is not built yet is told of the whole document
-abbrev pub told : Rule → Place → Place
-told Built place = place_at Top 0 0
-told _ place = place
-
--- The first place that is told of a rule.
-abbrev pub first_told : Rule → Members → Option Place
-first_told rule doc = option_map (told rule) (first_place rule doc)
 
 abbrev pub breach_or : ℕ → Option Place → Option Breach → Option Breach
 breach_or number (Some place) later = Some (record { rule = number; place = place })
@@ -34,7 +24,7 @@ breach_or number None later = later
 -- The first of some rules, behind so many, that a document fails.
 abbrev pub breach_from : Members → ℕ → List Rule → Option Breach
 breach_from doc before [] = None
-breach_from doc before (rule ∷ rest) = breach_or (before + 1) (first_told rule doc) (breach_from doc (before + 1) rest)
+breach_from doc before (rule ∷ rest) = breach_or (before + 1) (first_place rule doc) (breach_from doc (before + 1) rest)
 
 -- The first rule that a document fails, with its first place.
 unfoldable pub first_breach : Members → Option Breach

@@ -6,8 +6,6 @@ use Rattle.toml.specs.Data.{Data, Members, as_table}
 use Rattle.anti_ids.specs.declared.limits.TheConstants.{LONGEST_VALUE}
 use Rattle.anti_ids.specs.Names.{is_plain}
 use Rattle.anti_lang.specs.declared.fault.LangCode.TheVariants.{Unknown, Block, Variable}
-use Rattle.anti_kind.specs.Store.{is_built}
-use Rattle.anti_rules.specs.StoreWords.{kind_of}
 use Rattle.anti_rules.specs.Trees.{text_of, text_at, has_text, member_in, things_at, things_in, is_one_of, is_among, are_among, are_distinct, name_in, is_named, named, stores_in, services_in, regions_in}
 use Rattle.anti_rules.specs.Keys.{keys_of, are_listed, are_there, all_fit, has_type, has_count, has_range, is_text}
 use Rattle.anti_rules.specs.Statements.{next, body_fault, line_with, bad_line, store_fits, has_handler, handler_exists}
@@ -164,12 +162,6 @@ abbrev pub rule_24 : Members → Part → Data → Option ℕ
 rule_24 doc Handler d = bad_line (handler_exists doc) d
 rule_24 doc _ d = None
 
--- 25. Nothing that is not built yet is needed: the kinds of all stores are built, and there is no sub.
-abbrev pub rule_25 : Part → Data → Option ℕ
-rule_25 Store d = wants (is_built (kind_of (text_at (codes "kind") d)))
-rule_25 Sub d = wants false
-rule_25 _ d = None
-
 -- The rules on a table of a part.
 abbrev pub table_line : Rule → Part → Members → Option ℕ
 table_line rules.Listed part ms = rule_1 part ms
@@ -217,4 +209,3 @@ rule_line rules.Blocks doc home part earlier d = rule_21 part d
 rule_line rules.Variables doc home part earlier d = rule_22 part d
 rule_line rules.StatementStores doc home part earlier d = rule_23 doc home part d
 rule_line rules.StatementHandlers doc home part earlier d = rule_24 doc part d
-rule_line rules.Built doc home part earlier d = rule_25 part d

@@ -1,10 +1,11 @@
 ghost use Rattle.std.specs.Prelude.{◌≡◌, ◌≤◌, length, IfOk};
 ghost use Rattle.toml.specs.View.{table_view};
-ghost use Rattle.anti_rules.specs.Order.{rules, told, first_told, breach_from, first_breach};
+ghost use Rattle.anti_rules.specs.Order.{rules, breach_from, first_breach};
+ghost use Rattle.anti_rules.specs.Walk.{first_place};
 ghost use Rattle.anti_rules.specs.inner.Parses.{parsed_bodies, all_bodies, is_shown, breach_in};
 
 use crate::parsed::{Bodies, parsed_bodies, services_fit};
-use crate::place::{Part, Place};
+use crate::place::Place;
 use crate::rule::Rule;
 use crate::walk::first_place;
 use anti_ids::NoMemory;
@@ -20,7 +21,7 @@ pub struct Breach {
     pub place: Place,
 }
 
-static RULES: [Rule; 25] = [
+static RULES: [Rule; 24] = [
     Rule::Listed,
     Rule::There,
     Rule::Typed,
@@ -45,30 +46,15 @@ static RULES: [Rule; 25] = [
     Rule::Variables,
     Rule::StatementStores,
     Rule::StatementHandlers,
-    Rule::Built,
 ];
 
 // The rules in the order of the format, so that the k-th is number k.
 #[tactic(auto, unfolding(crate::specs::Order::rules))]
 fn rules() -> &'static [Rule]
     ensures all { result.now ≡ rules }
-    ensures few { length result.now ≤ 25 }
+    ensures few { length result.now ≤ 24 }
 {
     &RULES
-}
-
-// The place that is told: what is not built yet is told of the whole document.
-fn told(rule: Rule, place: Place) -> Place
-    ensures { result ≡ told rule place }
-{
-    match rule {
-        Rule::Built => Place {
-            part: Part::Top,
-            item: 0,
-            line: 0,
-        },
-        _ => place,
-    }
 }
 
 // Whether the parsed bodies of a document show that it keeps a rule, so that no line is read again for it.
@@ -86,25 +72,22 @@ fn is_shown(rule: Rule, doc: &Table, bodies: &Bodies) -> bool
     }
 }
 
-// The first place that is told of a rule. The bodies are those of the document, where all parse.
-fn first_told(
+// The first place at which a document fails a rule. The bodies are those of the document, where all parse.
+fn first_failing(
     alloc: Global,
     rule: Rule,
     doc: &Table,
     bodies: &Option<Bodies>,
 ) -> Result<Option<Place>, NoMemory>
     requires { bodies.now ≡ parsed_bodies (table_view doc.now) }
-    ensures { IfOk result (λ place. place ≡ first_told rule (table_view doc.now)) }
+    ensures { IfOk result (λ place. place ≡ first_place rule (table_view doc.now)) }
 {
     if let Some(bodies) = bodies {
         if is_shown(rule, doc, bodies) {
             return Ok(None);
         }
     }
-    match first_place(alloc, rule, doc)? {
-        Some(place) => Ok(Some(told(rule, place))),
-        None => Ok(None),
-    }
+    first_place(alloc, rule, doc)
 }
 
 // The first of some rules that a document fails. There are few rules.
@@ -114,12 +97,12 @@ fn breach_from(
     bodies: &Option<Bodies>,
     tried: &[Rule],
 ) -> Result<Option<Breach>, NoMemory>
-    requires few { length tried.now ≤ 25 }
+    requires few { length tried.now ≤ 24 }
     requires bodies { bodies.now ≡ parsed_bodies (table_view doc.now) }
     ensures { IfOk result (λ breach. breach ≡ breach_from (table_view doc.now) 0 tried.now) }
 {
     for (index, rule) in tried.iter().enumerate() {
-        if let Some(place) = first_told(alloc, *rule, doc, bodies)? {
+        if let Some(place) = first_failing(alloc, *rule, doc, bodies)? {
             return Ok(Some(Breach {
                 rule: index as u32 + 1,
                 place,

@@ -49,6 +49,4 @@ pub enum Rule {
     StatementStores,
     /// The service of a `call` or a `send` is there and has the handler.
     StatementHandlers,
-    /// Nothing that is not built yet is needed.
-    Built,
 }

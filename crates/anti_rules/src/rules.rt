@@ -6,14 +6,13 @@ ghost use Rattle.anti_rules.specs.Trees.{text_of};
 ghost use Rattle.anti_rules.specs.Keys.{keys_of, fits, all_fit};
 ghost use Rattle.toml.specs.Data.{as_table};
 ghost use Rattle.anti_rules.specs.Statements.{line_with, body_fault, line_fits};
-ghost use Rattle.anti_rules.specs.Rules.{wants, first_other, other_line, is_pulled, home_of, replicas_of, table_line, typed_line, shape_line, rule_line, rule_1, rule_2, rule_3, rule_4, rule_5, rule_6, rule_7, rule_8, rule_9, rule_10, rule_11, rule_12, rule_13, rule_14, rule_15, rule_16, rule_17, rule_18, rule_19, rule_20, rule_21, rule_22, rule_23, rule_24, rule_25};
+ghost use Rattle.anti_rules.specs.Rules.{wants, first_other, other_line, is_pulled, home_of, replicas_of, table_line, typed_line, shape_line, rule_line, rule_1, rule_2, rule_3, rule_4, rule_5, rule_6, rule_7, rule_8, rule_9, rule_10, rule_11, rule_12, rule_13, rule_14, rule_15, rule_16, rule_17, rule_18, rule_19, rule_20, rule_21, rule_22, rule_23, rule_24};
 
 use crate::body::{bad_line, body_fault, next};
 use crate::keys::keys_of;
 use crate::place::Part;
 use crate::rule::Rule;
 use crate::statement::has_handler;
-use crate::store_word::kind_of;
 use crate::table::{all_fit, are_listed, are_there, is_text};
 use crate::tree::{
     are_among, are_distinct, has_text, is_among, is_named, is_one_of, member_in, name_in, named,
@@ -381,17 +380,6 @@ fn rule_24(alloc: Global, doc: &Table, part: Part, value: &Value) -> Result<Opti
     }
 }
 
-// 25. Nothing that is not built yet is needed.
-fn rule_25(part: Part, value: &Value) -> Option<u32>
-    ensures { result ≡ rule_25 part (view value.now) }
-{
-    match part {
-        Part::Store => wants(kind_of(text_at(value, "kind")).is_built()),
-        Part::Sub => wants(false),
-        _ => None,
-    }
-}
-
 /// The rules on a table of a part.
 pub fn table_line(rule: Rule, part: Part, table: &Table) -> Option<u32>
     ensures { result ≡ table_line rule part (table_view table.now) }
@@ -478,6 +466,5 @@ pub fn rule_line(
         Rule::Variables => rule_22(alloc, part, value),
         Rule::StatementStores => rule_23(alloc, doc, home, part, value),
         Rule::StatementHandlers => rule_24(alloc, doc, part, value),
-        Rule::Built => Ok(rule_25(part, value)),
     }
 }

@@ -1,0 +1,37 @@
+ghost use Rattle.std.specs.Prelude.{◌≡◌, IfOk};
+ghost use Rattle.anti_app.specs.Subs.{sub_of, subs_on};
+
+use crate::app::{App, SubDef};
+use anti_ids::NoMemory;
+use anti_kind::Sub;
+use std::alloc::Global;
+
+// A subscription as its store has it: its messages come to the region of the service.
+fn sub_of(app: &App, sub: &SubDef) -> Sub
+    ensures { result ≡ sub_of app.now sub.now }
+{
+    match app.services.as_slice().get(sub.service as usize) {
+        Some(service) => Sub {
+            channel: sub.channel,
+            region: service.region,
+        },
+        None => Sub {
+            channel: sub.channel,
+            region: 0,
+        },
+    }
+}
+
+/// The subscriptions of a store, in the order of the document.
+pub fn subs_on(alloc: Global, app: &App, store: u32) -> Result<Vec<Sub>, NoMemory>
+    ensures { IfOk result (λ subs. subs.items ≡ subs_on app.now store) }
+{
+    let subs = app
+        .subs
+        .as_slice()
+        .iter()
+        .filter(|sub| sub.store == store)
+        .map(|sub| sub_of(app, sub))
+        .collect(alloc)?;
+    Ok(subs)
+}
