@@ -17,11 +17,12 @@ use Rattle.anti_app.specs.declared.app.RequestDef.{RequestDef}
 use Rattle.anti_app.specs.declared.objects.ObjectAt.TheVariants.{Store, Inbox as InboxAt}
 use Rattle.anti_app.specs.Objects.{object_at}
 use Rattle.anti_app.specs.Sound.{is_sound}
+use Rattle.anti_app.specs.Subs.{subs_on}
 use Rattle.anti_object.specs.declared.object.Object.{Object}
 use Rattle.anti_object.specs.declared.object.Object.TheVariants.{Inbox as InboxObject}
 use Rattle.anti_object.specs.Starts.{start_at, start_of, store_start, inbox_start, message_of, message_to}
 use Rattle.anti_object.specs.Standing.{object_start, ObjectStands, IsNew, IsNewStore}
-use Rattle.anti_object.proofs.Starts.{start_sound, plain_is}
+use Rattle.anti_object.proofs.Starts.{start_sound}
 
 -- ---- lists
 
@@ -67,10 +68,10 @@ module _ (app : App) (sound : IsTrue (is_sound app)) (number : ℕ) where
       let at : start_of app number ≡ Some (object_start o) = there ∙ ap Some (sym same) in
       record { start = at; stands = record { sane = start_sound app number (object_start o) sound at; legal = tt; state = stands } }
 
-  pub new_store : (n : ℕ) (s : StoreDef) (o : Object) → object_at app number ≡ Some (Store n) → slice_get app.stores.items n ≡ Some s → IsNewStore n s o → IsNew app number o
+  pub new_store : (n : ℕ) (s : StoreDef) (o : Object) → object_at app number ≡ Some (Store n) → slice_get app.stores.items n ≡ Some s → IsNewStore n s (subs_on app n) o → IsNew app number o
   new_store n s o at there new =
       is_new o (store_start app n s) (ap (option_and_then (start_at app)) at ∙ ap (option_map (store_start app n)) there)
-      (new.start ∙ sym (plain_is app n s sound there)) new.stands
+      new.start new.stands
 
   pub new_inbox : (service : ℕ) (s : ServiceDef) (m : Inbox) → object_at app number ≡ Some (InboxAt service) → slice_get app.services.items service ≡ Some s
       → inboxes.start_of m ≡ inbox_start app service s → inboxes.InboxStands m [] → IsNew app number (InboxObject m)

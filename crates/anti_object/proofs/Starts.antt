@@ -1,11 +1,11 @@
 -- What stands at the numbers of an application's objects, and that each of them is a start.
-use Rattle.std.proofs.Common.{◌≡◌, ℕ, ◌+◌, ◌-◌, ◌<◌, ◌≤◌, List, [], ◌∷◌, Bool, true, false, cond, length, get_or, nat_eq, refl, sym, ap, ap₂, ◌∙◌, subst, arith, inl, inr}
+use Rattle.std.proofs.Common.{◌≡◌, ℕ, ◌+◌, ◌-◌, ◌<◌, ◌≤◌, List, [], ◌∷◌, Bool, true, false, cond, ◌||◌, length, get_or, nat_eq, refl, sym, ap, ◌∙◌, subst, arith, inl, inr}
 use Rattle.std.specs.Prelude.{All, IsTrue, Option, None, Some, option_map, slice_get, flat_map, map, filter}
 use Rattle.std.specs.List.{Contains}
-use Rattle.std.specs.Option.{option_and_then}
-use Rattle.std.proofs.lemmas.Bool.{cases_lt, lt-ltb, le-ltb}
+use Rattle.std.specs.Option.{option_and_then, option_map_or}
+use Rattle.std.proofs.lemmas.Bool.{cases_lt, eqb-true, lt-ltb, le-ltb}
 use Rattle.std.proofs.lemmas.Option.{slice_get_past, slice_get_cases, slice_get_within, get_or_from_slice_get}
-use Rattle.std.proofs.lemmas.List.Elements.{All-nil, All-cons, All-append}
+use Rattle.std.proofs.lemmas.List.Elements.{All-nil, All-cons, All-head, All-append, All-filter, All-map, All-weaker, filter_passes}
 use Rattle.std.proofs.lemmas.List.Sums.{sum_by-le}
 use Rattle.std.proofs.lemmas.List.Concat.{length-flat_map, flat_map-cons}
 use Rattle.anti_kind.specs.declared.message.Message.{Message}
@@ -14,7 +14,7 @@ use Rattle.anti_kind.specs.declared.store_kind.Sub.{Sub}
 use Rattle.anti_ids.specs.Names.{is_plain}
 use Rattle.anti_kind.specs.declared.store_kind.StoreKind.{StoreKind}
 use Rattle.anti_kind.specs.declared.store_kind.StoreKind.TheVariants.{Kv, Table, Blob, Queue, Topic}
-use Rattle.anti_kind.specs.Store.{store_of, is_queue, is_built}
+use Rattle.anti_kind.specs.Store.{store_of, has_keys, is_queue, is_topic}
 use Rattle.anti_kind.specs.Objects.{Start, store, IsStart, IsStore, HasTries}
 use Rattle.anti_kind.specs.Fulls.{ShowsStay}
 use Rattle.anti_kind.proofs.Fullness.{shown_stays}
@@ -28,8 +28,8 @@ use Rattle.anti_app.specs.declared.objects.ObjectAt.TheVariants.{Store, Inbox}
 use Rattle.anti_app.specs.Objects.{inbox_at}
 use Rattle.anti_app.specs.Subs.{subs_on, sub_of, is_on}
 use Rattle.anti_app.specs.Sound.{is_sound}
-use Rattle.anti_app.proofs.SoundLemmas.{SoundApp, SoundStore, app_known}
-use Rattle.anti_object.specs.Standing.{plain_start}
+use Rattle.anti_app.proofs.SoundLemmas.{SoundApp, SoundStore, SoundSub, app_known}
+use Rattle.anti_object.specs.Standing.{start_with}
 use Rattle.anti_object.specs.Starts.{start_at, start_of, store_start, tries_of, inbox_start, message_to, message_of}
 
 -- ---- numbers
@@ -93,20 +93,20 @@ tries_fit Table tries some few = tt
 tries_fit Blob tries some few = tt
 tries_fit Topic tries some few = tt
 
-store_is : (regions number : ℕ) (s : StoreDef) (subs : List Sub) → regions ≤ 8 → SoundStore regions s → subs ≡ []
+-- the region of a subscription has a replica of the store, and its channel is plain
+abbrev IsHeld : StoreDef → Sub → Type 0
+IsHeld s sub = Contains s.replicas.items sub.region × (is_plain sub.channel ≡ true)
+
+store_is : (regions number : ℕ) (s : StoreDef) (subs : List Sub) → regions ≤ 8 → SoundStore regions s → All (IsHeld s) subs
     → IsStore (store_of s.kind number s.replicas.items subs (tries_of s))
-store_is regions number s subs few sound none = record {
+store_is regions number s subs few sound held = record {
   some = sound.some;
   few = sound.few;
   below = λ k d l. let lower : get_or s.replicas.items k d < regions = sound.below k d l in omega arith;
   distinct = sound.distinct;
-  subscribed = subst (All (λ (sub : Sub). Contains s.replicas.items sub.region × (is_plain sub.channel ≡ true))) (sym none) (All-nil (λ (sub : Sub). Contains s.replicas.items sub.region × (is_plain sub.channel ≡ true)));
+  subscribed = held;
   tries = tries_fit s.kind s.tries sound.tried sound.few_tries;
 }
-
--- no store has a subscription
-pub no_subs : (app : App) (o : ℕ) → IsTrue (is_sound app) → subs_on app o ≡ []
-no_subs app o sound = ap (λ (subs : List SubDef). map (sub_of app) (filter (is_on o) subs)) (app_known app sound).no_sub
 
 -- the store with a number
 pub store_found : (app : App) (o : ℕ) (s : StoreDef) → IsTrue (is_sound app) → slice_get app.stores.items o ≡ Some s → SoundStore (length app.regions.items) s
@@ -114,20 +114,62 @@ store_found app o s sound found =
     let known : SoundApp app = app_known app sound in
     subst (SoundStore (length app.regions.items)) (get_or_from_slice_get app.stores.items o s s found) (known.stores o s (slice_get_within app.stores.items o s found))
 
-pub store_sound : (app : App) (o : ℕ) (s : StoreDef) → IsTrue (is_sound app) → slice_get app.stores.items o ≡ Some s → IsStart (store_start app o s)
-store_sound app o s sound found = store_is (length app.regions.items) o s (subs_on app o) (app_known app sound).few_regions (store_found app o s sound found) (no_subs app o sound)
+-- a store that is read by its keys hands nothing out
+reads_or_hands : (kind : StoreKind) → has_keys kind ≡ true → (is_queue kind || is_topic kind) ≡ true → ⊥
+reads_or_hands Kv keyed hands = absurd (cc)
+reads_or_hands Table keyed hands = absurd (cc)
+reads_or_hands Blob keyed hands = absurd (cc)
+reads_or_hands Queue keyed hands = absurd (cc)
+reads_or_hands Topic keyed hands = absurd (cc)
 
--- a kind that is built has no tries
-pub no_tries : (kind : StoreKind) (tries : ℕ) → is_built kind ≡ true → cond (is_queue kind) tries 0 ≡ 0
-no_tries Kv tries built = refl
-no_tries Table tries built = refl
-no_tries Blob tries built = refl
-no_tries Queue tries built = absurd (cc)
-no_tries Topic tries built = absurd (cc)
+no_elements : {T : Type 0} (xs : List T) → All (λ (x : T). ⊥) xs → xs ≡ []
+no_elements [] none = refl
+no_elements (x ∷ xs) none = absurd (All-head (λ y. ⊥) x xs none)
 
-pub plain_is : (app : App) (o : ℕ) (s : StoreDef) → IsTrue (is_sound app) → slice_get app.stores.items o ≡ Some s → store_start app o s ≡ plain_start o s
-plain_is app o s sound found =
-    ap₂ (λ (subs : List Sub) (tries : ℕ). store (store_of s.kind o s.replicas.items subs tries)) (no_subs app o sound) (no_tries s.kind s.tries (store_found app o s sound found).kind)
+module _ (app : App) (o : ℕ) (s : StoreDef) (sound : IsTrue (is_sound app)) (found : slice_get app.stores.items o ≡ Some s) where
+  -- what is known of a subscription on the store
+  abbrev IsOn : SubDef → Type 0
+  IsOn sub = IsHeld s (sub_of app sub) × ((is_queue s.kind || is_topic s.kind) ≡ true)
+
+  on_known : (sub : SubDef) → SoundSub app.stores.items app.services.items sub → is_on o sub ≡ true → IsOn sub
+  on_known sub known on =
+      let both : Some known.store ≡ Some s = sym known.stored ∙ (ap (slice_get app.stores.items) (eqb-true sub.store o on) ∙ found) in
+      let same : known.store ≡ s = cc in
+      let region : (sub_of app sub).region ≡ known.service.region = ap (λ (x : Option ServiceDef). option_map_or (λ service. service.region) x 0) known.served in
+      let near : Contains s.replicas.items known.service.region = subst (λ (x : StoreDef). Contains x.replicas.items known.service.region) same known.near in
+      ((subst (Contains s.replicas.items) (sym region) near, known.channel), subst (λ (x : StoreDef). (is_queue x.kind || is_topic x.kind) ≡ true) same known.kind)
+
+  all_on : All IsOn (filter (is_on o) app.subs.items)
+  all_on = λ k d l.
+      on_known (get_or (filter (is_on o) app.subs.items) k d)
+      (All-filter (is_on o) (SoundSub app.stores.items app.services.items) app.subs.items (app_known app sound).subs k d l)
+      (filter_passes (is_on o) app.subs.items k d l)
+
+  all_held : All (IsHeld s) (subs_on app o)
+  all_held =
+      All-map (IsHeld s) (sub_of app) (filter (is_on o) app.subs.items)
+      (All-weaker IsOn (λ (sub : SubDef). IsHeld s (sub_of app sub)) (λ sub on. on.0) (filter (is_on o) app.subs.items) all_on)
+
+  pub store_sound : IsStart (store_start app o s)
+  store_sound = store_is (length app.regions.items) o s (subs_on app o) (app_known app sound).few_regions (store_found app o s sound found) all_held
+
+  -- a store that is read by its keys has no subscription
+  pub none_on : has_keys s.kind ≡ true → subs_on app o ≡ []
+  none_on keyed =
+      ap (map (sub_of app)) (no_elements (filter (is_on o) app.subs.items)
+      (All-weaker IsOn (λ (sub : SubDef). ⊥) (λ sub on. reads_or_hands s.kind keyed on.1) (filter (is_on o) app.subs.items) all_on))
+
+-- the start of a store, by its kind
+pub start_by : (kind : StoreKind) (number : ℕ) (s : StoreDef) (subs : List Sub) → s.kind ≡ kind
+    → start_with number s subs ≡ store (store_of kind number s.replicas.items subs (cond (is_queue kind) s.tries 0))
+start_by kind number s subs is = ap (λ (k : StoreKind). store (store_of k number s.replicas.items subs (cond (is_queue k) s.tries 0))) is
+
+-- the same of one without subscriptions
+pub start_alone : (kind : StoreKind) (number : ℕ) (s : StoreDef) (subs : List Sub) → s.kind ≡ kind → has_keys kind ≡ true → (has_keys s.kind ≡ true → subs ≡ [])
+    → start_with number s subs ≡ store (store_of kind number s.replicas.items [] (cond (is_queue kind) s.tries 0))
+start_alone kind number s subs is keyed none =
+    start_by kind number s subs is
+    ∙ ap (λ (xs : List Sub). store (store_of kind number s.replicas.items xs (cond (is_queue kind) s.tries 0))) (none (ap has_keys is ∙ keyed))
 
 -- ---- inboxes
 

@@ -6,6 +6,8 @@ use Rattle.anti_kind.specs.Laws.{KeepsLaws}
 use Rattle.anti_kv.specs.KvLaws.{kv_keeps}
 use Rattle.anti_table.specs.TableLaws.{table_keeps}
 use Rattle.anti_blob.specs.BlobLaws.{blob_keeps}
+use Rattle.anti_queue.specs.QueueLaws.{queue_keeps}
+use Rattle.anti_topic.specs.TopicLaws.{topic_keeps}
 use Rattle.anti_object.specs.declared.object.Object.{Object}
 use Rattle.anti_object.specs.declared.object.Object.TheVariants as machines
 use Rattle.anti_object.specs.Standing.{object_start}
@@ -14,4 +16,6 @@ pub object_keeps : (o : Object) (s : Store) → object_start o ≡ store s → K
 object_keeps (machines.Kv m) s is = kv_keeps m s is
 object_keeps (machines.Table m) s is = table_keeps m s is
 object_keeps (machines.Blob m) s is = blob_keeps m s is
+object_keeps (machines.Queue m) s is = queue_keeps m s is
+object_keeps (machines.Topic m) s is = topic_keeps m s is
 object_keeps (machines.Inbox m) s is = absurd (cc)

@@ -3,17 +3,19 @@ ghost use Rattle.anti_ids.specs.List.{plain};
 ghost use Rattle.anti_app.specs.Sound.{is_sound};
 ghost use Rattle.anti_object.specs.Starts.{message_of, message_to, requests_to, start_of};
 ghost use Rattle.anti_kind.specs.Objects.{IsStart};
-ghost use Rattle.anti_kind.specs.Store.{is_built};
-ghost use Rattle.anti_object.specs.Standing.{IsNew, IsNewStore, plain_start};
+ghost use Rattle.anti_kind.specs.Store.{has_keys};
+ghost use Rattle.anti_object.specs.Standing.{IsNew, IsNewStore, start_with};
 
 use crate::object::Object;
-use anti_app::{App, HandlerDef, ObjectAt, RequestDef, ServiceDef, StoreDef, object_at};
+use anti_app::{App, HandlerDef, ObjectAt, RequestDef, ServiceDef, StoreDef, object_at, subs_on};
 use anti_blob::Blob;
 use anti_ids::{Bytes, Copies, List, NoMemory};
 use anti_inbox::Inbox;
-use anti_kind::{Message, MessageKind, Messages, StoreKind};
+use anti_kind::{Message, MessageKind, Messages, StoreKind, Sub};
 use anti_kv::Kv;
+use anti_queue::Queue;
 use anti_table::Table;
+use anti_topic::Topic;
 use std::alloc::Global;
 
 impl Object {
@@ -24,7 +26,8 @@ impl Object {
     {
         match object_at(app, number) {
             Some(ObjectAt::Store(store)) => {
-                let object = store_of(alloc, store, app.stores.at(store as usize))?;
+                let subs = subs_on(alloc, app, store)?;
+                let object = store_of(alloc, store, app.stores.at(store as usize), &subs)?;
                 Ok(Some(object))
             }
             Some(ObjectAt::Inbox(service)) => {
@@ -38,11 +41,11 @@ impl Object {
     }
 }
 
-// The store of a kind that is built.
-fn store_of(alloc: Global, number: u32, store: &StoreDef) -> Result<Object, NoMemory>
-    requires built { is_built store.now.kind ≡ true }
-    requires start { IsStart (plain_start number store.now) }
-    ensures { IfOk result (IsNewStore number store.now) }
+// The store of a number, with these subscriptions. A store whose keys are read has none.
+fn store_of(alloc: Global, number: u32, store: &StoreDef, subs: &[Sub]) -> Result<Object, NoMemory>
+    requires start { IsStart (start_with number store.now subs.now) }
+    requires keyed { has_keys store.now.kind ≡ true → subs.now ≡ [] }
+    ensures { IfOk result (IsNewStore number store.now subs.now) }
 {
     let regions = store.replicas.as_slice();
     match store.kind {
@@ -58,8 +61,14 @@ fn store_of(alloc: Global, number: u32, store: &StoreDef) -> Result<Object, NoMe
             let blob = Blob::new(alloc, number, regions)?;
             Ok(Object::Blob(blob))
         }
-        // queues and topics are not built yet
-        _ => unreachable!(),
+        StoreKind::Queue => {
+            let queue = Queue::new(alloc, number, regions, subs, store.tries)?;
+            Ok(Object::Queue(queue))
+        }
+        StoreKind::Topic => {
+            let topic = Topic::new(alloc, number, regions, subs)?;
+            Ok(Object::Topic(topic))
+        }
     }
 }
 

@@ -8,7 +8,9 @@ use anti_ids::{MOST_UNITS, NoMemory};
 use anti_inbox::Inbox;
 use anti_kind::{Call, Kind, Machine, Reply};
 use anti_kv::Kv;
+use anti_queue::Queue;
 use anti_table::Table;
+use anti_topic::Topic;
 
 /// An object of an application: one of the machines.
 #[derive(Drop)]
@@ -19,6 +21,10 @@ pub enum Object {
     Table(Table),
     /// A store of keys whose values come in parts.
     Blob(Blob),
+    /// A store of messages, each of which is handed out until it is done.
+    Queue(Queue),
+    /// A store of cells, which each subscription pulls in their order.
+    Topic(Topic),
     /// The inbox of a service.
     Inbox(Inbox),
 }
@@ -30,6 +36,8 @@ macro_rules! each {
             Object::Kv($machine) => $does,
             Object::Table($machine) => $does,
             Object::Blob($machine) => $does,
+            Object::Queue($machine) => $does,
+            Object::Topic($machine) => $does,
             Object::Inbox($machine) => $does,
         }
     };
