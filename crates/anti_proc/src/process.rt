@@ -1,4 +1,4 @@
-ghost use Rattle.std.specs.Prelude.{ℕ, ◌≡◌, Some, None, Err, true, false, IfOk, IfSome, IfNone, OnOk, OnErr};
+ghost use Rattle.std.specs.Prelude.{ℕ, ◌≡◌, Some, None, Err, true, false, IfOk, IfSome, IfNone, OnOk, OnErr, option_map};
 ghost use Rattle.anti_app.specs.declared.app.App.{App};
 ghost use Rattle.anti_app.specs.Running.{CanRun};
 ghost use Rattle.anti_proc.specs.Births.{birth_at};
@@ -14,17 +14,18 @@ use crate::foreign::brought;
 use crate::run::{Advance, Life, begun};
 use crate::task::{Role, Task};
 use anti_app::App;
-use anti_ids::NoMemory;
+use anti_ids::{Lineage, NoMemory};
 use anti_kind::{Birth, Call, Entry, Reply};
 use std::alloc::Global;
 
-/// The call that a process makes next. Objects are numbered from 0, first the stores and then the inboxes of the services; spans are
-/// counted from 1.
+/// The call that a process makes next, and the lineage that it carries into it. Objects are numbered from 0, first the stores and then the
+/// inboxes of the services; spans are counted from 1.
 #[derive(Clone, Copy)]
 pub struct Asked<'a> {
     pub object: u32,
     pub span: u32,
     pub call: &'a Call,
+    pub carried: &'a Lineage,
 }
 
 /// One run of a handler, between two of its calls. Each call on it is given the application with which it was born.
@@ -71,6 +72,9 @@ impl Process {
     pub fn next(&self) -> Option<Asked<'_>>
         ensures some { (app : App) → IfSome result (λ asked.
             want_of (process_of app self.now) ≡ Make asked.object asked.span asked.call.now) }
+        ensures carried { (app : App) → IfSome result (λ asked.
+            option_map (λ ask. ask.carried) (ask_of (process_of app self.now))
+            ≡ Some asked.carried.now) }
         ensures going { IfSome result (λ asked. full_of self.now ≡ None) }
         ensures none { (app : App) → IfNone result (ask_of (process_of app self.now) ≡ None) }
     {
@@ -79,6 +83,7 @@ impl Process {
                 object: run.next.object,
                 span: run.state.span,
                 call: &run.next.call,
+                carried: &run.state.carried,
             }),
             _ => None,
         }
