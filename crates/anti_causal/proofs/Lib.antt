@@ -1,0 +1,18 @@
+pub mod Lists
+pub mod Ids
+pub mod Facts
+pub mod Places
+pub mod Coming
+pub mod Processes
+pub mod Planned
+pub mod Looks
+pub mod Objects
+pub mod Stores
+pub mod Inboxes
+pub mod Brings
+pub mod Known
+pub mod Causes
+pub mod Written
+pub mod Legal
+pub mod Barriers
+mod Worked

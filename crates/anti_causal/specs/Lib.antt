@@ -1,0 +1,4 @@
+pub mod Words
+pub mod Causal
+pub mod Carried
+pub mod Settled
