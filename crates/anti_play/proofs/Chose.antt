@@ -5,7 +5,6 @@ use Rattle.anti_ids.specs.declared.memory.NoMemory.{NoMemory}
 use Rattle.anti_kind.specs.declared.actor.Actor.{Actor}
 use Rattle.anti_kind.specs.declared.actor.Actor.TheVariants.{Carrier, Process as Acting}
 use Rattle.anti_kind.specs.declared.call.Call.{Call}
-use Rattle.anti_kind.specs.declared.call.Call.TheVariants as calls
 use Rattle.anti_kind.specs.declared.entry.Entry.{Entry}
 use Rattle.anti_kind.specs.Objects.{last_stamp}
 use Rattle.anti_kind.proofs.Histories.{last_is}
@@ -13,10 +12,9 @@ use Rattle.anti_app.specs.declared.app.App.{App}
 use Rattle.anti_app.specs.Sound.{is_sound}
 use Rattle.anti_trace.specs.Traces.{entries_on, entries_by, put}
 use Rattle.anti_proc.specs.declared.process.Process.{Process}
-use Rattle.anti_trace.specs.Legal.{carries}
+use Rattle.anti_trace.specs.Legal.{bears, carries}
 use Rattle.anti_trace.proofs.OfLegal.{unborn_of_legal}
 use Rattle.anti_proc.specs.Births.{birth_at}
-use Rattle.anti_app.specs.Objects.{inbox_number}
 use Rattle.anti_play.specs.declared.world.World.{World}
 use Rattle.anti_play.specs.Schedule.{bearing, carrying, made_at}
 use Rattle.anti_trace.specs.inner.Living.{AreProcessesOf, born_at, Changes, Grows, IsNewOf, lists}
@@ -50,20 +48,19 @@ chose_made app n trace o e is s = subst (λ (x : Option Entry). Chose app trace 
 pub chose_none : (app : App) (w : World) (trace : List Entry) (o : Option Entry) → o ≡ None → WorldStands app w trace → Chose app trace o (Ok false) w
 chose_none app w trace o is s = subst (λ (x : Option Entry). Chose app trace x (Ok false) w) (sym is) (refl, s)
 
-pub take_done : (app : App) (sound : IsTrue (is_sound app)) (w n : World) (trace : List Entry) (object service nth : ℕ) (e : Entry) (p : Process)
-    → WorldStands app w trace → object ≡ inbox_number app service → made_at app trace (bearing trace object (calls.Take nth)) ≡ Some e
+pub bear_done : (app : App) (sound : IsTrue (is_sound app)) (w n : World) (trace : List Entry) (object : ℕ) (call : Call) (e : Entry) (p : Process)
+    → WorldStands app w trace → bears call ≡ true → made_at app trace (bearing trace object call) ≡ Some e
     → ((before after : List Entry) → AllStand app w.objects.items before → Grows app before after e → AllStand app n.objects.items after)
     → Changes (lists w.processes) (lists n.processes) e.object (born_at (lists w.processes) e.object ++ p ∷ []) → n.carrier ≡ w.carrier → IsNewOf app e p
-    → Chose app trace (made_at app trace (bearing trace (inbox_number app service) (calls.Take nth))) (Ok true) n
-take_done app sound w n trace object service nth e p s same m objects changes carrier new =
-    let st : Stepped app trace (bearing trace object (calls.Take nth)) e = step app sound w trace s (bearing trace object (calls.Take nth)) (refl, refl) refl e m in
+    → Chose app trace (made_at app trace (bearing trace object call)) (Ok true) n
+bear_done app sound w n trace object call e p s is m objects changes carrier new =
+    let st : Stepped app trace (bearing trace object call) e = step app sound w trace s (bearing trace object call) (is, refl) refl e m in
     let at : e.actor ≡ Acting (birth_at e) = st.actor in
     let unborn : entries_by (Acting (birth_at e)) trace ≡ [] = unborn_of_legal app trace s.run (birth_at e)
     (let place : e.place ≡ length (entries_on object trace) + 1 = st.place in
     let object_is : length (entries_on e.object trace) ≡ length (entries_on object trace) = ap (λ (x : ℕ). length (entries_on x trace)) st.object in omega arith) in
     let none : e.actor ≡ Carrier 0 → ⊥ = λ c. (let both : Acting (birth_at e) ≡ Carrier 0 = sym at ∙ c in absurd (cc)) in
-    chose_made app n trace (made_at app trace (bearing trace (inbox_number app service) (calls.Take nth))) e
-    (sym (ap (λ (x : ℕ). made_at app trace (bearing trace x (calls.Take nth))) same) ∙ m)
+    chose_made app n trace (made_at app trace (bearing trace object call)) e m
     (record {
       run = st.run;
       objects = objects trace (put e trace) s.objects st.gets.grows;

@@ -1,11 +1,12 @@
--- Where no choice that is offered makes an entry, nothing is left to make: each next call is blocked, each delivery is taken, and each write
--- is everywhere.
+-- Where no choice that is offered makes an entry, nothing is left to make: each next call is blocked, each delivery is taken, no subscription
+-- can pull, and each write is everywhere.
 use Rattle.std.proofs.Common.{◌≡◌, ℕ, ◌-◌, ◌<◌, ◌≤◌, ◌⊎◌, Bool, true, false, cond, ◌&&◌, List, [], ◌∷◌, ◌++◌, length, map, refl, sym, ap, ◌∙◌, subst, inl, inr, eq-eqb, arith}
 use Rattle.std.specs.Prelude.{Contains, IsTrue, Option, None, Some, flat_map, option_and_then, option_map, slice_get, nat_le}
 use Rattle.std.specs.List.{range_with_len}
 use Rattle.std.specs.Option.{option_map_or}
 use Rattle.std.proofs.lemmas.Bool.{and_cases, cases_lt, le-leb, true≢false}
 use Rattle.std.proofs.lemmas.List.{get_or-map, length-map}
+use Rattle.std.proofs.lemmas.Option.{slice_get_within}
 use Rattle.std.proofs.lemmas.List.Elements.{All-contains, Contains-append_left, Contains-append_right}
 use Rattle.std.proofs.lemmas.List.FromFn.{get_or-range_with_len, length-range_with_len}
 use Rattle.anti_kind.specs.declared.actor.Actor.TheVariants.{Process as Acting}
@@ -22,9 +23,10 @@ use Rattle.anti_kind.specs.Stored.{parts, rows}
 use Rattle.anti_kind.proofs.Finding.{filter_contains, in_flat_map}
 use Rattle.anti_app.specs.declared.app.App.{App}
 use Rattle.anti_app.specs.declared.app.Choice.{Choice}
-use Rattle.anti_app.specs.declared.app.Choice.TheVariants.{Ship}
+use Rattle.anti_app.specs.declared.app.Choice.TheVariants.{Pull, Ship}
 use Rattle.anti_app.specs.declared.app.StoreDef.{StoreDef}
 use Rattle.anti_app.specs.declared.app.ServiceDef.{ServiceDef}
+use Rattle.anti_app.specs.declared.app.SubDef.{SubDef}
 use Rattle.anti_app.specs.Objects.{inbox_number, object_count}
 use Rattle.anti_app.specs.Sound.{is_sound}
 use Rattle.anti_object.specs.Starts.{start_of, store_start, inbox_start}
@@ -36,7 +38,7 @@ use Rattle.anti_trace.specs.Traces.{entries_by, entries_on, is_by, is_on}
 use Rattle.anti_trace.specs.Legal.{IsBirthOf, IsLegalTrace, IsLife}
 use Rattle.anti_trace.proofs.Puts.{same_actor_true}
 use Rattle.anti_trace.proofs.AreBorn.{is_birth_itself}
-use Rattle.anti_play.specs.Schedule.{IsComplete, asked_by, bearing, carrying, chosen, go_of, goes, made, made_at, next_call, next_entry, objects, offers, ships, ships_at, ships_of, ships_to, take_of, takes}
+use Rattle.anti_play.specs.Schedule.{IsComplete, asked_by, bearing, carrying, chosen, go_of, goes, made, made_at, next_call, next_entry, objects, offers, pulling, pulling_at, pulls, ships, ships_at, ships_of, ships_to, take_of, takes}
 use Rattle.anti_play.specs.Over.{IsBlocked, IsEverywhere, IsOver}
 use Rattle.anti_play.proofs.Arrived.{everywhere}
 use Rattle.anti_play.proofs.MadeAt.{free_fits}
@@ -62,6 +64,23 @@ cond_none false e none = refl
 not_both : (a b : Bool) → (a ≡ false) ⊎ (b ≡ false) → b ≡ true → a ≡ false
 not_both a b (inl off) on = off
 not_both a b (inr off) on = absurd (true≢false (sym on ∙ off))
+
+-- ---- where a store stands
+
+not_inbox : (app : App) (s : Store) (service : ℕ) (found : Option ServiceDef) → option_map (inbox_start app service) found ≡ Some (store s) → ⊥
+not_inbox app s service None is = absurd (cc)
+not_inbox app s service (Some d) is = absurd (cc)
+
+-- in front of the inboxes
+pub store_in_front : (app : App) (o : ℕ) (s : Store) → start_of app o ≡ Some (store s) → o < length app.stores.items
+store_in_front app o s there = elim (cases_lt o (length app.stores.items)) [
+  | inl low ↦ low
+  | inr high ↦
+      let service : ℕ = o - length app.stores.items in
+      absurd (not_inbox app s service (slice_get app.services.items service) (sym (start_of-inbox app o high) ∙ there))
+]
+
+-- ---- a run of which nothing that is offered makes an entry
 
 module _ (app : App) (trace : List Entry) where
   -- is blocked
@@ -108,7 +127,7 @@ module _ (app : App) (trace : List Entry) where
         next_none =
             let none : chosen app trace (go_of birth) ≡ None =
             All-contains (λ (c : Choice). chosen app trace c ≡ None) (offers app trace) (go_of birth) complete
-            (Contains-append_left (goes app trace) (takes app ++ ships app trace) (go_of birth) among_goes) in
+            (Contains-append_left (goes app trace) (takes app ++ (pulls app ++ ships app trace)) (go_of birth) among_goes) in
             sym (ap (λ (x : Birth). option_and_then (made_at app trace) (next_call app trace x)) its.named ∙ ap (option_and_then (made_at app trace)) next) ∙ none
 
       blocked : (b : Birth) (q : Asking) → next_call app trace b ≡ Some q → IsBlocked app trace q
@@ -123,8 +142,8 @@ module _ (app : App) (trace : List Entry) where
       take_none : (service : ℕ) → service < length app.services.items → made_at app trace (bearing trace (inbox_number app service) (calls.Take 1)) ≡ None
       take_none service known =
           All-contains (λ (c : Choice). chosen app trace c ≡ None) (offers app trace) (take_of service) complete
-          (Contains-append_right (goes app trace) (takes app ++ ships app trace) (take_of service)
-          (Contains-append_left (takes app) (ships app trace) (take_of service)
+          (Contains-append_right (goes app trace) (takes app ++ (pulls app ++ ships app trace)) (take_of service)
+          (Contains-append_left (takes app) (pulls app ++ ships app trace) (take_of service)
           (in_map take_of (range_with_len 0 (length app.services.items)) service (in_range (length app.services.items) service known))))
 
       none_free : (ns : List ℕ) → (nat_le 1 1 && nat_le 1 (length ns)) ≡ false → ns ≡ []
@@ -153,20 +172,32 @@ module _ (app : App) (trace : List Entry) where
             subst (λ (n : ℕ). made_at app trace (bearing trace n (calls.Take 1)) ≡ None) number (take_none service (omega arith)) in
             none_free (free requests (entries_on o trace)) (none_ready (bearing trace o (calls.Take 1)) (inbox requests) there refl none)
 
+      -- ---- pulls
+
+      pull_none : (number : ℕ) → number < length app.subs.items → chosen app trace (Pull number) ≡ None
+      pull_none number known =
+          All-contains (λ (c : Choice). chosen app trace c ≡ None) (offers app trace) (Pull number) complete
+          (Contains-append_right (goes app trace) (takes app ++ (pulls app ++ ships app trace)) (Pull number)
+          (Contains-append_right (takes app) (pulls app ++ ships app trace) (Pull number)
+          (Contains-append_left (pulls app) (ships app trace) (Pull number)
+          (in_map Pull (range_with_len 0 (length app.subs.items)) number (in_range (length app.subs.items) number known)))))
+
+      -- only a subscription that is there asks
+      asking_known : (number : ℕ) (q : Asking) (found : Option SubDef) → slice_get app.subs.items number ≡ found
+          → option_map (pulling app trace calls.Pull number) found ≡ Some q → number < length app.subs.items
+      asking_known number q None at asks = absurd (cc)
+      asking_known number q (Some sub) at asks = slice_get_within app.subs.items number sub at
+
+      no_pull : (number : ℕ) (q : Asking) → pulling_at app trace calls.Pull number ≡ Some q → IsBlocked app trace q
+      no_pull number q asks =
+          none_blocked q
+          (sym (ap (option_and_then (made_at app trace)) asks) ∙ pull_none number (asking_known number q (slice_get app.subs.items number) refl asks))
+
       -- ---- shipments
 
       module _ (o : ℕ) (s : Store) (there : start_of app o ≡ Some (store s)) where
-        not_inbox : (service : ℕ) (found : Option ServiceDef) → option_map (inbox_start app service) found ≡ Some (store s) → ⊥
-        not_inbox service None is = absurd (cc)
-        not_inbox service (Some d) is = absurd (cc)
-
         in_front : o < length app.stores.items
-        in_front = elim (cases_lt o (length app.stores.items)) [
-          | inl low ↦ low
-          | inr high ↦
-              let service : ℕ = o - length app.stores.items in
-              absurd (not_inbox service (slice_get app.services.items service) (sym (start_of-inbox app o high) ∙ there))
-        ]
+        in_front = store_in_front app o s there
 
         module _ (region : ℕ) (replica : Contains s.regions region) (r : Row) (written : Contains (rows (entries_on o trace)) r) (p : ℕ) (part : Contains (parts s.kind r) p) where
           abbrev h : List Entry
@@ -189,12 +220,13 @@ module _ (app : App) (trace : List Entry) where
               let q : Asking = carrying trace o (calls.Ship region r.version p) in
               let none : made_at app trace q ≡ None =
               All-contains (λ (c : Choice). chosen app trace c ≡ None) (offers app trace) ship complete
-              (Contains-append_right (goes app trace) (takes app ++ ships app trace) ship
-              (Contains-append_right (takes app) (ships app trace) ship among_ships)) in
+              (Contains-append_right (goes app trace) (takes app ++ (pulls app ++ ships app trace)) ship
+              (Contains-append_right (takes app) (pulls app ++ ships app trace) ship
+              (Contains-append_right (pulls app) (ships app trace) ship among_ships))) in
               none_ready q (store s) there refl none
 
         all_arrived : IsEverywhere s (entries_on o trace)
         all_arrived = everywhere s (entries_on o trace) (run.histories o (store s) there) not_ready
 
       pub is_over : IsOver app trace
-      is_over = record { processes = blocked; deliveries = all_taken; shipments = all_arrived }
+      is_over = record { processes = blocked; deliveries = all_taken; pulls = no_pull; shipments = all_arrived }

@@ -11,7 +11,7 @@ use Rattle.anti_app.specs.declared.app.Choice.{Choice}
 use Rattle.anti_app.specs.declared.app.Choice.TheVariants.{Take, Repost, Pull, Repull, Ship, Again, Go, Finish}
 use Rattle.anti_ids.specs.declared.memory.NoMemory.{NoMemory}
 use Rattle.anti_kind.specs.declared.entry.Entry.{Entry}
-use Rattle.anti_app.specs.Sound.{is_sound, is_sound_choice, are_sound_regions, are_sound_stores, are_sound_services, are_sound_requests, are_sound_choices}
+use Rattle.anti_app.specs.Sound.{is_sound, is_sound_choice, are_sound_regions, are_sound_stores, are_sound_services, are_sound_subs, are_sound_requests, are_sound_choices}
 use Rattle.anti_play.specs.declared.world.World.{World}
 use Rattle.anti_play.specs.Schedule.{Run, chosen, run_from, stepped, turned}
 use Rattle.anti_play.specs.inner.Standing.{Chose, WorldStands}
@@ -63,9 +63,10 @@ sound_choices app sound =
     let one = and_parts (are_sound_regions app.regions.items) _ sound in
     let two = and_parts (are_sound_stores regions app.stores.items) _ one.1 in
     let three = and_parts (are_sound_services regions app.stores.items app.services.items) _ two.1 in
-    let four = and_parts (are_sound_requests app.services.items app.requests.items) _ three.1 in
-    let five = and_parts (are_sound_choices app app.choices.items) _ four.1 in
-    AllPass-from_list_all (is_sound_choice app) app.choices.items ((and_parts _ _ five.0).1)
+    let four = and_parts (are_sound_subs app.stores.items app.services.items app.subs.items) _ three.1 in
+    let five = and_parts (are_sound_requests app.services.items app.requests.items) _ four.1 in
+    let six = and_parts (are_sound_choices app app.choices.items) _ five.1 in
+    AllPass-from_list_all (is_sound_choice app) app.choices.items ((and_parts _ _ six.0).1)
 
 module _ (app : App) (i : ℕ) (c d : Choice) (lt : i < length app.choices.items) (at : c ≡ get_or app.choices.items i d) where
   abbrev before : Run

@@ -14,6 +14,7 @@ pub mod FirstOf
 pub mod Finished
 pub mod Arrived
 pub mod Complete
+pub mod Pulling
 pub mod Tried
 pub mod GoFirst
 pub mod ShipNext

@@ -1,3 +1,4 @@
 pub mod Schedule
 pub mod Over
+pub mod Pulls
 pub mod inner

@@ -2,6 +2,7 @@
 use Rattle.std.specs.Prelude.{◌≡◌, ℕ, ◌⊎◌, false, List, [], All, Some, IsTrue}
 use Rattle.anti_kind.specs.declared.actor.Birth.{Birth}
 use Rattle.anti_kind.specs.declared.asking.Asking.{Asking}
+use Rattle.anti_kind.specs.declared.call.Call.TheVariants as calls
 use Rattle.anti_kind.specs.declared.entry.Entry.{Entry}
 use Rattle.anti_kind.specs.declared.message.Message.{Message}
 use Rattle.anti_kind.specs.Inbox.{free}
@@ -11,7 +12,7 @@ use Rattle.anti_kind.specs.Stored.{rows, is_whole}
 use Rattle.anti_app.specs.declared.app.App.{App}
 use Rattle.anti_object.specs.Starts.{start_of}
 use Rattle.anti_trace.specs.Traces.{entries_on}
-use Rattle.anti_play.specs.Schedule.{next_call}
+use Rattle.anti_play.specs.Schedule.{next_call, pulling_at}
 
 -- At its object the call that is asked is not ready, or it does not fit.
 abbrev pub IsBlocked : App → List Entry → Asking → Type 0
@@ -23,11 +24,13 @@ IsBlocked app trace q =
 abbrev pub IsEverywhere : Store → List Entry → Type 0
 IsEverywhere s h = All (λ region. All (λ r. IsTrue (is_whole s.kind h region r)) (rows h)) s.regions
 
--- No process can go on, no message waits to be taken, and no write is on its way.
+-- No process can go on, no message waits to be taken or can be pulled, and no write is on its way.
 pub record IsOver (app : App) (trace : List Entry) : Type 0 where
   -- a process that has a next call cannot make it
   pub processes : (b : Birth) (q : Asking) → next_call app trace b ≡ Some q → IsBlocked app trace q
   -- no delivery of an inbox is free: each message that was delivered was taken
   pub deliveries : (o : ℕ) (requests : List Message) → start_of app o ≡ Some (inbox requests) → free requests (entries_on o trace) ≡ []
+  -- a subscription cannot pull: its store has nothing for it, or no room for the pull
+  pub pulls : (number : ℕ) (q : Asking) → pulling_at app trace calls.Pull number ≡ Some q → IsBlocked app trace q
   -- what was written to a store is whole at each of its replicas
   pub shipments : (o : ℕ) (s : Store) → start_of app o ≡ Some (store s) → IsEverywhere s (entries_on o trace)

@@ -111,6 +111,10 @@ take_of service = Take service 1
 abbrev pub takes : App → List Choice
 takes app = map take_of (range_with_len 0 (length app.services.items))
 
+-- the next pull of each subscription, in the order of the document
+abbrev pub pulls : App → List Choice
+pulls app = map Pull (range_with_len 0 (length app.subs.items))
+
 -- the shipments of a row to a region: one for each of its parts
 abbrev pub ships_of : StoreKind → ℕ → ℕ → Row → List Choice
 ships_of kind o region r = map (λ part. Ship o region r.version (Some part)) (parts kind r)
@@ -130,7 +134,7 @@ ships app trace = flat_map (λ o. option_map_or (ships_at o (entries_on o trace)
 
 -- all of them
 abbrev pub offers : App → List Entry → List Choice
-offers app trace = goes app trace ++ (takes app ++ ships app trace)
+offers app trace = goes app trace ++ (takes app ++ (pulls app ++ ships app trace))
 
 -- What `finish` makes: the first of them that makes an entry makes it, again and again, until none makes one.
 

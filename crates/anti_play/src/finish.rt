@@ -4,7 +4,7 @@ ghost use Rattle.anti_proc.specs.Births.{births};
 ghost use Rattle.anti_app.specs.Objects.{IsStore, object_count};
 ghost use Rattle.anti_app.specs.declared.app.App.{App};
 ghost use Rattle.anti_app.specs.Sound.{is_sound};
-ghost use Rattle.anti_play.specs.Schedule.{IsComplete, chosen, finished, first_made, first_of, go_of, goes, ships, takes};
+ghost use Rattle.anti_play.specs.Schedule.{IsComplete, chosen, finished, first_made, first_of, go_of, goes, pulls, ships, takes};
 ghost use Rattle.anti_trace.specs.Traces.{Entries};
 ghost use Rattle.anti_play.specs.inner.Standing.{Chose, IsSoundWorld, IsWorldOf, WorldStands};
 ghost use Rattle.anti_play.specs.inner.Finishing.{WentOn, next_shipped, ships_from};
@@ -16,8 +16,8 @@ use anti_kind::{Call, Machine};
 
 impl World {
     /// Makes all that can still be made: the next call of each process, ascending by object and place of its birth, the first free
-    /// delivery of each service, and the shipments of each store. The first of these that makes an entry makes it, again and again,
-    /// until none does. Where there is no memory some of the entries were made.
+    /// delivery of each service, the next pull of each subscription, and the shipments of each store. The first of these that makes an
+    /// entry makes it, again and again, until none does. Where there is no memory some of the entries were made.
     pub fn finish(&mut self, app: &App) -> Result<(), NoMemory>
         requires sound { IsTrue (is_sound app.now) }
         requires world { IsWorldOf app.now self.old }
@@ -43,6 +43,9 @@ impl World {
             return Ok(true);
         }
         if self.take_first(app)? {
+            return Ok(true);
+        }
+        if self.pull_first(app)? {
             return Ok(true);
         }
         self.ship_first(app)
@@ -94,6 +97,22 @@ impl World {
     {
         for service in 0..app.services.len() {
             if self.take(app, service as u32, 1)? {
+                return Ok(true);
+            }
+        }
+        Ok(false)
+    }
+
+    // Makes the next pull of the first subscription that can pull.
+    fn pull_first(&mut self, app: &App) -> Result<bool, NoMemory>
+        requires sound { IsTrue (is_sound app.now) }
+        requires world { IsWorldOf app.now self.old }
+        ensures { (trace : Entries) → WorldStands app.now self.old trace
+            → Chose app.now trace (first_of (chosen app.now trace) (pulls app.now))
+            result self.new }
+    {
+        for number in 0..app.subs.len() {
+            if self.pull(app, number as u32)? {
                 return Ok(true);
             }
         }

@@ -8,6 +8,6 @@ mod player;
 mod tracing;
 mod world;
 
-pub use laws::finish_completes;
+pub use laws::{finish_completes, pulls_start_handlers};
 pub use player::{Played, play};
 pub use world::World;

@@ -1,14 +1,14 @@
 ghost use Rattle.std.specs.Prelude.{◌≡◌, ◌<◌, length, position, Some, true, Err, IfOk, OnOk, OnErr, IsTrue};
 ghost use Rattle.anti_app.specs.declared.app.App.{App};
 ghost use Rattle.anti_app.specs.Sound.{is_sound, is_sound_choice};
-ghost use Rattle.anti_trace.specs.Legal.{carries};
+ghost use Rattle.anti_trace.specs.Legal.{bears, carries};
 ghost use Rattle.anti_app.specs.Objects.{inbox_number};
-ghost use Rattle.anti_play.specs.Schedule.{carrying, chosen, clock_of, made_at};
+ghost use Rattle.anti_play.specs.Schedule.{bearing, carrying, chosen, clock_of, made_at};
 ghost use Rattle.anti_trace.specs.Traces.{Entries};
 ghost use Rattle.anti_trace.specs.inner.Living.{Grows, born_at, is_named, lists};
 ghost use Rattle.anti_play.specs.inner.Standing.{AllStand, Chose, IsOutcome, IsSoundWorld, IsWorldOf, MayGrow, Stops, StopsBy, WorldStands, asked_in};
 
-use anti_app::{App, Choice, inbox_number};
+use anti_app::{App, Choice, inbox_number, position_on};
 use anti_ids::{Copies, NoMemory};
 use anti_kind::{Actor, Asking, Birth, Call, Entry, Machine, Recorded, Refusal};
 use anti_object::Object;
@@ -57,20 +57,21 @@ impl World {
         Ok(Ok(recorded.entry(0, asking, reply)))
     }
 
-    // Takes a delivery of a service's inbox. A process is born.
-    pub(crate) fn take(&mut self, app: &App, service: u32, nth: u32) -> Result<bool, NoMemory>
+    // Makes a call by which a process is born at an object.
+    fn bear(&mut self, app: &App, object: u32, call: Call) -> Result<bool, NoMemory>
         requires sound { IsTrue (is_sound app.now) }
-        requires named { service < length app.now.services.items }
+        requires born { bears call ≡ true }
         requires world { IsWorldOf app.now self.old }
         ensures { (trace : Entries) → WorldStands app.now self.old trace
-            → Chose app.now trace (chosen app.now trace (Choice.Take service nth)) result self.new }
+            → Chose app.now trace (made_at app.now trace (bearing trace object call))
+            result self.new }
     {
         let asking = Asking {
-            object: inbox_number(app, service),
+            object,
             actor: Actor::Newborn,
             span: 1,
             clock: 0,
-            call: Call::Take { nth },
+            call,
         };
         let Ok(entry) = self.next_entry(asking)? else {
             return Ok(false);
@@ -81,6 +82,44 @@ impl World {
         make_entry(&mut self.objects, entry)?;
         self.processes.put(object, process);
         Ok(true)
+    }
+
+    // Takes a delivery of a service's inbox.
+    pub(crate) fn take(&mut self, app: &App, service: u32, nth: u32) -> Result<bool, NoMemory>
+        requires sound { IsTrue (is_sound app.now) }
+        requires named { service < length app.now.services.items }
+        requires world { IsWorldOf app.now self.old }
+        ensures { (trace : Entries) → WorldStands app.now self.old trace
+            → Chose app.now trace (chosen app.now trace (Choice.Take service nth)) result self.new }
+    {
+        self.bear(app, inbox_number(app, service), Call::Take { nth })
+    }
+
+    // Makes the next pull of a subscription, at its store.
+    pub(crate) fn pull(&mut self, app: &App, number: u32) -> Result<bool, NoMemory>
+        requires sound { IsTrue (is_sound app.now) }
+        requires named { number < length app.now.subs.items }
+        requires world { IsWorldOf app.now self.old }
+        ensures { (trace : Entries) → WorldStands app.now self.old trace
+            → Chose app.now trace (chosen app.now trace (Choice.Pull number)) result self.new }
+    {
+        let store = app.subs.at(number as usize).store;
+        let sub = position_on(app, store, number);
+        self.bear(app, store, Call::Pull { sub })
+    }
+
+    // Pulls a message once more that a subscription has pulled.
+    fn repull(&mut self, app: &App, number: u32, version: u64) -> Result<bool, NoMemory>
+        requires sound { IsTrue (is_sound app.now) }
+        requires named { number < length app.now.subs.items }
+        requires world { IsWorldOf app.now self.old }
+        ensures { (trace : Entries) → WorldStands app.now self.old trace
+            → Chose app.now trace (chosen app.now trace (Choice.Repull number version))
+            result self.new }
+    {
+        let store = app.subs.at(number as usize).store;
+        let sub = position_on(app, store, number);
+        self.bear(app, store, Call::Repull { sub, version })
     }
 
     // Makes a call of the carrier at an object.
@@ -220,6 +259,8 @@ impl World {
             Choice::Repost { service, number } => {
                 self.carry(inbox_number(app, service), Call::Repost { number })
             }
+            Choice::Pull { sub } => self.pull(app, sub),
+            Choice::Repull { sub, version } => self.repull(app, sub, version),
             Choice::Ship {
                 store,
                 region,
@@ -254,9 +295,6 @@ impl World {
             }
             Choice::Go { object, place } => self.go(app, Birth { object, place }),
             Choice::Finish => unreachable!(),
-            // no application has a subscription yet, and so none has one of these
-            Choice::Pull { .. } => unreachable!(),
-            Choice::Repull { .. } => unreachable!(),
         }
     }
 }

@@ -3,8 +3,7 @@ use Rattle.anti_app.specs.declared.app.Choice.{Choice}
 use Rattle.anti_app.proofs.Runnable.{can_run}
 use Rattle.anti_trace.specs.inner.Living.{lists}
 use Rattle.anti_play.specs.inner.Standing.{StopsBy}
-use Rattle.anti_app.specs.declared.app.Choice.TheVariants.{Pull, Repull}
-use Rattle.anti_play.proofs.Choose.{take_named, repost_named, choice_is, no_sub_there}
+use Rattle.anti_play.proofs.Choose.{take_named, repost_named, pull_named, repull_named}
 use Rattle.anti_play.proofs.world.World.choose.Goals as goal
 
 pub take-requires-clause-named : goal.take-requires-clause-named
@@ -13,15 +12,11 @@ take-requires-clause-named c = take_named c.args.app.now c.args.choice.now c.in-
 pub inbox_number-requires-clause-named : goal.inbox_number-requires-clause-named
 inbox_number-requires-clause-named c = repost_named c.args.app.now c.args.choice.now c.in-Repost.service c.in-Repost.number c.in-Repost.is c.requires.named
 
-pub unreachable-requires-in-Pull : goal.unreachable-requires-in-Pull
-unreachable-requires-in-Pull c =
-    no_sub_there c.args.app.now c.in-Pull.sub c.requires.sound
-    (choice_is c.args.app.now c.args.choice.now (Pull c.in-Pull.sub) c.in-Pull.is c.requires.named)
+pub pull-requires-clause-named : goal.pull-requires-clause-named
+pull-requires-clause-named c = pull_named c.args.app.now c.args.choice.now c.in-Pull.sub c.in-Pull.is c.requires.named
 
-pub unreachable-requires-in-Repull : goal.unreachable-requires-in-Repull
-unreachable-requires-in-Repull c =
-    no_sub_there c.args.app.now c.in-Repull.sub c.requires.sound
-    (choice_is c.args.app.now c.args.choice.now (Repull c.in-Repull.sub c.in-Repull.version) c.in-Repull.is c.requires.named).0
+pub repull-requires-clause-named : goal.repull-requires-clause-named
+repull-requires-clause-named c = repull_named c.args.app.now c.args.choice.now c.in-Repull.sub c.in-Repull.version c.in-Repull.is c.requires.named
 
 pub returns-in-Go-clause-ended : goal.returns-in-Go-clause-ended
 returns-in-Go-clause-ended c = λ trace s.

@@ -1,79 +1,15 @@
-use Rattle.std.proofs.Common.{◌≡◌, ◌++◌, ◌∷◌, [], List, Ok, Some, refl, subst}
+use Rattle.std.proofs.Common.{ℕ, ap}
 use Rattle.anti_kind.specs.declared.call.Call.TheVariants.{Take}
-use Rattle.anti_kind.specs.declared.entry.Entry.{Entry}
 use Rattle.anti_app.proofs.Runnable.{can_run}
-use Rattle.anti_proc.specs.declared.process.Process.{Process}
 use Rattle.anti_play.specs.Schedule.{bearing, made_at}
-use Rattle.anti_trace.specs.inner.Living.{born_at, Changes, lists}
-use Rattle.anti_play.specs.inner.Standing.{WorldStands}
-use Rattle.anti_trace.proofs.Changed.{changes_then}
-use Rattle.anti_trace.proofs.Followed.{reserved_are}
-use Rattle.anti_play.proofs.NextEntry.{outcome_is}
-use Rattle.anti_play.proofs.Stepped.{starts_task, may_grow, has_list}
-use Rattle.anti_play.proofs.Chose.{take_done, chose_kept}
+use Rattle.anti_play.proofs.Tried.{chose_of}
 use Rattle.anti_play.proofs.world.World.take.Goals as goal
-use Rattle.anti_play.proofs.world.World.take.Goals.{In-Ok}
-
--- the entry that is made
-made : (c : In-Ok) (trace : List Entry) → WorldStands c.args.app.now c.args.self.now trace
-    → made_at c.args.app.now trace (bearing trace c.inbox_number.result (Take c.args.nth)) ≡ Some c.in-Ok.entry
-made c trace s =
-    outcome_is c.args.app.now trace (bearing trace c.inbox_number.result (Take c.args.nth)) c.in_ok-entry.field-0 (Ok c.in-Ok.entry) c.in-Ok.is
-    (c.in_ok-entry.ensures c.args.app.now trace c.requires.sound s refl)
-
-pub born-requires-clause-starts : goal.born-requires-clause-starts
-born-requires-clause-starts c =
-    let trace = c.requires.world.trace in
-    let s = c.requires.world.stands in
-    starts_task c.args.app.now c.requires.sound c.args.self.now trace s (bearing trace c.inbox_number.result (Take c.args.nth)) (refl, refl) refl c.in-Ok.entry
-    (made ((goal.at.born-requires-clause-starts c).In-Ok) trace s) refl
-
-pub make_entry-requires : goal.make_entry-requires
-make_entry-requires c =
-    let trace = c.requires.world.trace in
-    let s = c.requires.world.stands in
-    may_grow c.args.app.now c.requires.sound c.args.self.now trace s (bearing trace c.inbox_number.result (Take c.args.nth)) (refl, refl) refl c.in-Ok.entry
-    (made ((goal.at.make_entry-requires c).In-Ok) trace s)
-
-pub reserve-requires : goal.reserve-requires
-reserve-requires c =
-    let trace = c.requires.world.trace in
-    let s = c.requires.world.stands in
-    has_list c.args.app.now c.requires.sound c.args.self.now trace s (bearing trace c.inbox_number.result (Take c.args.nth)) (refl, refl) refl c.in-Ok.entry (made ((goal.at.reserve-requires c).In-Ok) trace s)
-
-pub returns-in_err-reserve : goal.returns-in_err-reserve
-returns-in_err-reserve c = λ trace s.
-    chose_kept c.args.app.now c.args.self.now _ trace _ _ c.from_residual-in_err-reserve.ensures.0 s s.objects
-    (reserved_are c.args.app.now (lists c.args.self.now.processes) _ trace c.in-Ok.entry.object s.processes c.reserve.ensures.changes) refl
-
-pub returns-in_err-make_entry : goal.returns-in_err-make_entry
-returns-in_err-make_entry c = λ trace s.
-    chose_kept c.args.app.now c.args.self.now _ trace _ _ c.from_residual-in_err-make_entry.ensures.0 s (c.in_err-make_entry.ensures.err c.args.app.now trace s.objects)
-    (reserved_are c.args.app.now (lists c.args.self.now.processes) _ trace c.in-Ok.entry.object s.processes c.reserve.ensures.changes) refl
-
-pub returns : goal.returns
-returns c = λ trace s.
-    let object = c.in-Ok.entry.object in
-    let p = c.in_ok-process.process in
-    let before = lists c.args.self.now.processes in
-    let between = lists c.reserve.new.self in
-    let after = lists c.put.new.self in
-    let room = c.reserve.ensures.changes in
-    let added : Changes before after object (born_at before object ++ p ∷ []) =
-    changes_then before between after object (born_at before object ++ p ∷ []) room
-    (subst (λ (xs : List Process). Changes between after object (xs ++ p ∷ [])) room.here_are c.put.ensures) in
-    take_done c.args.app.now c.requires.sound c.args.self.now _ trace c.inbox_number.result c.args.service c.args.nth c.in-Ok.entry p
-    s c.inbox_number.ensures (made ((goal.at.returns c).In-Ok) trace s)
-    (c.in_ok-make_entry.ensures.stand c.args.app.now)
-    added refl
-    (record {
-      run = c.in_ok-process.ensures.run;
-      tree = c.in_ok-process.ensures.stands;
-      clock = c.in_ok-process.ensures.clock;
-      birth = c.in_ok-process.ensures.birth;
-      role = c.in_ok-process.ensures.role;
-      full = c.in_ok-process.ensures.full;
-    })
 
 pub inbox_number-requires-clause-runs : goal.inbox_number-requires-clause-runs
 inbox_number-requires-clause-runs c = can_run c.args.app.now c.requires.sound
+
+pub returns : goal.returns
+returns c = λ trace s.
+    let app = c.args.app.now in
+    chose_of app trace _ _ _ c.bear.new.self (ap (λ (object : ℕ). made_at app trace (bearing trace object (Take c.args.nth))) c.inbox_number.ensures)
+    (c.bear.ensures trace s)
