@@ -1,2 +1,5 @@
+pub mod Items
 pub mod Looks
+pub mod Pieces
+pub mod Shapes
 pub mod Worked

@@ -1,5 +1,6 @@
 pub mod Calls
 pub mod Entries
+pub mod Json
 pub mod Processes
 pub mod Record
 pub mod Report

@@ -11,7 +11,7 @@ use anti_ids::NoMemory;
 use anti_kind::{Actor, Entry};
 
 // Writes who made a call.
-fn actor_name(out: &mut Output, app: &App, actor: Actor) -> Result<(), NoMemory>
+pub fn actor_name(out: &mut Output, app: &App, actor: Actor) -> Result<(), NoMemory>
     ensures { OnOk result (out.new ≡ out.old ++ actor_name app.now actor) }
 {
     match actor {

@@ -3,8 +3,10 @@
 
 mod call_words;
 mod entry_lines;
+mod json_items;
 mod output;
 mod printed;
+mod printed_json;
 mod printer;
 mod process_lines;
 mod reply_words;
@@ -13,4 +15,5 @@ mod wait_lines;
 mod words;
 
 pub use printed::{print, text};
+pub use printed_json::{json, print_json};
 pub use report::Report;

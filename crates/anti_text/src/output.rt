@@ -64,6 +64,13 @@ impl Output {
         add_lineage(&mut self.bytes, stores, lineage)
     }
 
+    /// The text.
+    pub fn bytes(&self) -> &[u8]
+        ensures { result.now ≡ self.now }
+    {
+        self.bytes.as_slice()
+    }
+
     /// The text as a list of bytes.
     pub fn into_bytes(self) -> Bytes
         ensures { result ≡ plain self }

@@ -11,7 +11,7 @@ use std::alloc::Global;
 /// once.
 #[derive(Drop)]
 pub struct Printer<'a> {
-    alloc: Global,
+    pub alloc: Global,
     /// The application.
     pub app: &'a App,
     stores: Vec<Name>,

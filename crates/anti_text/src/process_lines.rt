@@ -9,7 +9,7 @@ use anti_proc::End;
 use anti_trace::ProcessEnd;
 
 // Writes how a process ended.
-fn end_text(out: &mut Output, app: &App, end: Option<End>) -> Result<(), NoMemory>
+pub fn end_text(out: &mut Output, app: &App, end: Option<End>) -> Result<(), NoMemory>
     ensures { OnOk result (out.new ≡ out.old ++ end_text app.now end) }
 {
     match end {

@@ -92,7 +92,7 @@ fn choice_text(out: &mut Output, app: &App, choice: &Choice) -> Result<(), NoMem
 }
 
 // Writes the choice with a number, counted from 1.
-fn choice_numbered(out: &mut Output, app: &App, number: u32) -> Result<(), NoMemory>
+pub fn choice_numbered(out: &mut Output, app: &App, number: u32) -> Result<(), NoMemory>
     ensures { OnOk result (out.new ≡ out.old ++ choice_numbered app.now number) }
 {
     match app
