@@ -1,14 +1,18 @@
--- What bytes state, a run of it, and its printed form.
+-- What bytes state, a run of it, and its printed forms.
 use Rattle.std.specs.Prelude.{ℕ, ◌≡◌, ◌≤◌, List, length, Option, IfSome, Result, Ok, IsTrue}
 use Rattle.anti_ids.specs.List.{plain}
 use Rattle.anti_app.specs.declared.app.App.{App}
 use Rattle.anti_app.specs.declared.app.AppFault.{AppFault}
 use Rattle.anti_app.specs.Sound.{is_sound}
 use Rattle.anti_app.specs.Stated.{app_of}
+use Rattle.anti_text.specs.Json.{json_of}
 use Rattle.anti_text.specs.Record.{text_of}
 use Rattle.anti_text.specs.Report.{told_of}
 use Rattle.anti_trace.specs.Legal.{IsLegalTrace}
+use Rattle.anti_causal.specs.Settled.{BarriersFindAll, DryRunsName}
 use Rattle.anti_play.specs.Schedule.{trace_of, waits_of}
+use Rattle.anti_command.specs.declared.command.Command.{Command}
+use Rattle.anti_command.specs.declared.command.Command.TheVariants.{Step, Json}
 use Rattle.anti_command.specs.declared.outcome.RunKept.{RunKept}
 use Rattle.anti_ids.specs.declared.limits.TheConstants.{LONGEST_DOCUMENT}
 
@@ -28,12 +32,18 @@ IsPlayed kept = (kept.trace ≡ trace_of kept.app) × (kept.waits ≡ plain (wai
 unfoldable pub IsLegalRun : RunKept → Type 0
 IsLegalRun kept = IsLegalTrace kept.app kept.trace
 
--- the record of the run
-unfoldable pub printed : RunKept → List ℕ
-printed kept = text_of kept.app (told_of kept.app kept.trace kept.waits.items)
+-- each answered barrier of the run found all that its process carries, and each look of a dry run named just what was not visible
+unfoldable pub FindsAll : RunKept → Type 0
+FindsAll kept = BarriersFindAll kept.app kept.trace × DryRunsName kept.app kept.trace
+
+-- the record of the run, as a command writes it
+unfoldable pub printed : Command → RunKept → List ℕ
+printed Step kept = text_of kept.app (told_of kept.app kept.trace kept.waits.items)
+printed Json kept = json_of kept.app (told_of kept.app kept.trace kept.waits.items)
 
 -- the run is that of the application which the bytes state, where the source tells them
 pub record IsRunOf (left : Option (List ℕ)) (kept : RunKept) : Type 0 where
   pub given : IfSome left (λ bytes. (length bytes ≤ LONGEST_DOCUMENT) × (application_of bytes ≡ Ok kept.app))
   pub played : IsPlayed kept
   pub legal : IsLegalRun kept
+  pub barriers : FindsAll kept

@@ -4,17 +4,18 @@ ghost use Rattle.anti_command.specs.Words.{command_of};
 ghost use Rattle.anti_command.specs.Faults.{writes};
 ghost use Rattle.anti_command.specs.Commands.{reads_source, plays, IsDone};
 ghost use Rattle.anti_command.specs.Causes.{HasCause, IsFaultOf};
-ghost use Rattle.anti_command.specs.Runs.{application_of, IsPlayable, IsLegalRun, IsPlayed, IsRunOf, printed};
+ghost use Rattle.anti_command.specs.Runs.{application_of, IsPlayable, IsLegalRun, IsPlayed, IsRunOf, FindsAll, printed};
 ghost use Rattle.anti_trace.specs.Ends.{ends_of};
 
 use crate::command::{Command, asked_for};
 use crate::fault::{TopFault, fault_of};
 use crate::outcome::RunKept;
 use anti_app::{App, read_app};
+use anti_causal::barriers_find_all;
 use anti_edge::{ReadRefused, Source, read_all};
 use anti_ids::{Bytes, LONGEST_DOCUMENT, NoMemory, Value};
 use anti_play::{Played, play};
-use anti_text::{Report, print};
+use anti_text::{Report, print, print_json};
 use anti_trace::Ends;
 use std::alloc::Global;
 
@@ -65,34 +66,39 @@ struct RunAndEnds {
 }
 
 // The run of the application.
-#[tactic(auto, unfolding(crate::specs::Runs::IsPlayable, crate::specs::Runs::IsPlayed, crate::specs::Runs::IsLegalRun))]
+#[tactic(auto, unfolding(crate::specs::Runs::IsPlayable, crate::specs::Runs::IsPlayed, crate::specs::Runs::IsLegalRun, crate::specs::Runs::FindsAll))]
 fn run(alloc: Global, app: App) -> Result<RunAndEnds, NoMemory>
     requires { IsPlayable app }
     ensures app { IfOk result (λ run. run.kept.app ≡ app) }
     ensures played { IfOk result (λ run. IsPlayed run.kept) }
     ensures legal { IfOk result (λ run. IsLegalRun run.kept) }
+    ensures barriers { IfOk result (λ run. FindsAll run.kept) }
     ensures ends { IfOk result (λ run.
         run.ends.items ≡ ends_of run.kept.app run.kept.trace) }
 {
     let Played { trace, waits, ends } = play(alloc, &app)?;
+    barriers_find_all();
     Ok(RunAndEnds {
         kept: RunKept { app, trace, waits },
         ends,
     })
 }
 
-// The record of a run, of which these are the ends.
+// The record of a run, of which these are the ends, as the command writes it.
 #[tactic(auto, unfolding(crate::specs::Runs::printed))]
-fn record_of(alloc: Global, run: &RunKept, ends: Ends) -> Result<Bytes, NoMemory>
+fn record_of(alloc: Global, command: Command, run: &RunKept, ends: Ends) -> Result<Bytes, NoMemory>
     requires { ends.items ≡ ends_of run.now.app run.now.trace }
-    ensures { IfOk result (λ text. text.items ≡ printed run.now) }
+    ensures { IfOk result (λ text. text.items ≡ printed command run.now) }
 {
     let report = Report {
         trace: &run.trace,
         waits: &run.waits,
         ends,
     };
-    print(alloc, &run.app, &report)
+    match command {
+        Command::Step => print(alloc, &run.app, &report),
+        Command::Json => print_json(alloc, &run.app, &report),
+    }
 }
 
 // The run of the document that the source has.
@@ -113,17 +119,17 @@ fn run_of<S: Source>(alloc: Global, src: &mut S) -> Result<RunAndEnds, TopFault>
     }
 }
 
-// Plays the choices of the document, and makes the record of the run.
-fn step<S: Source>(alloc: Global, src: &mut S) -> Result<Prepared, TopFault>
+// Plays the choices of the document, and makes the record of the run as the command writes it.
+fn played<S: Source>(alloc: Global, command: Command, src: &mut S) -> Result<Prepared, TopFault>
     ensures done { IfOk result (λ p.
-        IsDone (Some Command.Step) (S.left src.old) p.kept p.text.items) }
+        IsDone (Some command) (S.left src.old) p.kept p.text.items) }
     ensures plays { IfOk result (λ p. is_some p.kept ≡ true) }
-    ensures cause { IfErr result (HasCause (Some Command.Step) (S.left src.old) (S.left src.new)
+    ensures cause { IfErr result (HasCause (Some command) (S.left src.old) (S.left src.new)
         (Rose (S.faults src.old) (S.faults src.new)) ⊥) }
     ensures unwritten { IfErr result (λ fault. writes (Some fault) ≡ false) }
 {
     let RunAndEnds { kept, ends } = run_of(alloc, src)?;
-    match record_of(alloc, &kept, ends) {
+    match record_of(alloc, command, &kept, ends) {
         Ok(text) => Ok(Prepared {
             kept: Some(kept),
             text,
@@ -146,7 +152,7 @@ pub fn prepare<S: Source>(alloc: Global, words: &[Value], src: &mut S) -> Result
     ensures src { reads_source (command_of words.now) ≡ false → src.new ≡ src.old }
 {
     match asked_for(words) {
-        Some(Command::Step) => step(alloc, src),
+        Some(command) => played(alloc, command, src),
         None => Err(TopFault::Usage),
     }
 }

@@ -1,4 +1,5 @@
-//! `antipode step` plays the choices of the document on standard input, and writes the record of the run to standard output.
+//! `antipode step` plays the choices of the document on standard input, and writes the record of the run to standard output; `antipode
+//! json` writes it as JSON.
 #![tactic(auto)]
 
 ghost use Rattle.std.specs.Prelude.{◌≡◌, IfOk};
