@@ -4,11 +4,12 @@ use anti_lang::Statement;
 use std::alloc::{AllocError, Global};
 use std::test::Fail;
 
-// A document with a choice: two stores, of which one has no replica in `us`, a service, and a request.
+// A document with a choice: two stores, of which one has no replica in `us`, a service, a subscription to that store, and a request.
 fn document(alloc: Global, choice: &str) -> Result<String, AllocError> {
     format!(in alloc;
         "regions = ['us', 'eu']
-store = [{{name = 's', kind = 'kv', replicas = ['us', 'eu']}}, {{name = 't', kind = 'kv', replicas = ['eu']}}]
+store = [{{name = 's', kind = 'kv', replicas = ['us', 'eu']}}, {{name = 't', kind = 'topic', replicas = ['eu']}}]
+sub = [{{name = 'p', store = 't', channel = 'c', service = 'w', handler = 'one'}}]
 service = [{{name = 'w', region = 'eu', handler = [{{name = 'one', body = []}}]}}]
 request = [{{service = 'w', handler = 'one'}}]
 choices = ['{choice}']"
@@ -62,6 +63,8 @@ fn choices_have_their_forms(rt: HostRuntime) -> Result<(), Fail> {
                 number: 3,
             },
         ),
+        (" pull  p ", Choice::Pull { sub: 0 }),
+        ("repull p 7", Choice::Repull { sub: 0, version: 7 }),
         ("ship s us 1", ship(0, 0, 1, None)),
         ("ship s eu 4096 2", ship(0, 1, 4096, Some(2))),
         ("ship t us 1", ship(1, 0, 1, None)),
@@ -93,7 +96,7 @@ fn choices_have_their_forms(rt: HostRuntime) -> Result<(), Fail> {
     Ok(())
 }
 
-static NO_CHOICES: [&str; 39] = [
+static NO_CHOICES: [&str; 44] = [
     "",
     "take",
     "take w",
@@ -110,9 +113,14 @@ static NO_CHOICES: [&str; 39] = [
     "Take w 1",
     "repost w 0",
     "repost s 1",
-    "pull p",
     "pull",
-    "repull p 1",
+    "pull t",
+    "pull w",
+    "pull p 1",
+    "repull p",
+    "repull p 0",
+    "repull t 1",
+    "repull p 1 1",
     "ship s us",
     "ship s us 0",
     "ship s us 1 0",
@@ -163,8 +171,8 @@ fn faults_come_in_their_order(rt: HostRuntime) -> Result<(), Fail> {
         (b"regions = ['us'] # \xff", AppFault::NotToml),
         (b"regions = []\nchoices = ['x']", bad(4, Part::Top, 0, 0)),
         (
-            b"regions = ['us']\nstore = [{name = 's', kind = 'queue', replicas = ['us']}]\nchoices = ['x']",
-            bad(25, Part::Top, 0, 0),
+            b"regions = ['us']\nstore = [{name = 's', kind = 'kv', replicas = ['us']}]\nsub = [{name = 'p', store = 's', channel = 'c', service = 'w', handler = 'a'}]\nchoices = ['x']",
+            bad(15, Part::Sub, 1, 0),
         ),
         (
             b"regions = ['us']\nservice = [{name = 'w', region = 'us', handler = [{name = 'a', body = ['call w a $in as x', 'send w b $x']}]}]",
@@ -187,7 +195,7 @@ fn faults_come_in_their_order(rt: HostRuntime) -> Result<(), Fail> {
 
 // Whether the stores are those of the test's document.
 fn has_stores(app: &App) -> bool {
-    let [one, two] = app.stores.as_slice() else {
+    let [one, two, three] = app.stores.as_slice() else {
         return false;
     };
     one.name.bytes() == b"s".as_slice()
@@ -196,6 +204,20 @@ fn has_stores(app: &App) -> bool {
         && one.tries == 3
         && two.name.bytes() == b"t".as_slice()
         && two.replicas.as_slice() == [1].as_slice()
+        && three.kind == StoreKind::Queue
+        && three.tries == 5
+}
+
+// Whether the subscription is that of the test's document.
+fn has_sub(app: &App) -> bool {
+    let [sub] = app.subs.as_slice() else {
+        return false;
+    };
+    sub.name.bytes() == b"p".as_slice()
+        && sub.store == 2
+        && sub.channel.bytes() == b"c".as_slice()
+        && sub.service == 1
+        && sub.handler == 1
 }
 
 // Whether the services and requests are those of the test's document.
@@ -254,7 +276,8 @@ fn documents_are_read(rt: HostRuntime) -> Result<(), Fail> {
     let text = b"regions = ['us', 'eu']
 seed = 9223372036854775807
 workers = 8
-store = [{name = 's', kind = 'kv', replicas = ['eu', 'us']}, {name = 't', kind = 'kv', replicas = ['eu']}]
+store = [{name = 's', kind = 'kv', replicas = ['eu', 'us']}, {name = 't', kind = 'kv', replicas = ['eu']}, {name = 'q', kind = 'queue', replicas = ['eu'], tries = 5}]
+sub = [{name = 'p', store = 'q', channel = 'c', service = 'w', handler = 'two'}]
 request = [{service = 'w', handler = 'two', value = 'a.1'}, {service = 'v', handler = 'two'}]
 [[service]]
 name = 'v'
@@ -267,6 +290,7 @@ handler = [{name = 'one', body = []}, {name = 'two', body = ['read t k as x', ' 
     let app = read_app(rt.alloc(), text).ok().ok_or("an application")?;
     assert!(rt; app.regions.len() == 2);
     assert!(rt; has_stores(&app));
+    assert!(rt; has_sub(&app));
     assert!(rt; has_services(&app));
     assert!(rt; has_body(&app));
     assert!(rt; app.seed == 9223372036854775807 && app.workers == 8);

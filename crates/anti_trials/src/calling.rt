@@ -12,6 +12,10 @@ pub const STORE_ALONE: &[u8] =
 /// The record of a run without choices.
 pub const NOTHING_HAPPENED: &[u8] = b"record 1\nend 0\n";
 
+/// The same as JSON.
+pub const NOTHING_AS_JSON: &[u8] =
+    b"{\"end\":0,\"entries\":[],\"processes\":[],\"record\":1,\"spans\":[],\"waits\":[]}\n";
+
 /// A call, and what it has to come to.
 #[derive(Clone, Copy)]
 pub struct Row<'a> {

@@ -1,6 +1,8 @@
 // The words of the top call, its faults, and each read and write that fails.
 
-use crate::calling::{NOTHING_HAPPENED, Row, STORE_ALONE, TWO_REQUESTS, ends_as, served, step};
+use crate::calling::{
+    NOTHING_AS_JSON, NOTHING_HAPPENED, Row, STORE_ALONE, TWO_REQUESTS, ends_as, served, step,
+};
 use anti_command::antipode_plain;
 use anti_edge::{MemorySink, MemorySource};
 use anti_ids::{Bytes, LONGEST_DOCUMENT, List, Value};
@@ -41,6 +43,7 @@ fn words_that_are_no_command_are_told(rt: HostRuntime) {
     assert_eq!(rt; is_usage(rt.alloc(), &["load", "0"]), Some(true));
     assert_eq!(rt; is_usage(rt.alloc(), &["load", "401"]), Some(true));
     assert_eq!(rt; is_usage(rt.alloc(), &["step", "x"]), Some(true));
+    assert_eq!(rt; is_usage(rt.alloc(), &["step", "json"]), Some(true));
 }
 
 // The document with a comment behind it, and so many bytes in all. `None` where memory runs out.
@@ -83,9 +86,17 @@ fn runs_are_written_and_refusals_are_told(rt: HostRuntime) {
             ..step(STORE_ALONE, 4, b"record 1\ne", b"")
         },
         Row {
+            word: b"json",
+            ..step(STORE_ALONE, 0, NOTHING_AS_JSON, b"")
+        },
+        Row {
+            word: b"json",
             write_fails: 2,
-            line_fails: 1,
-            ..step(STORE_ALONE, 4, b"record 1\ne", b"")
+            ..step(STORE_ALONE, 4, b"{\"end\":0,\"", b"write fault\n")
+        },
+        Row {
+            word: b"json",
+            ..step(b"regions = [", 5, b"", b"not toml\n")
         },
         Row {
             line_fails: 1,

@@ -54,7 +54,7 @@ fn what_an_inbox_answers(rt: HostRuntime) -> Result<(), Fail> {
         Step(Asked::Repost(4), Told::NotNow, 8, 1),
         Step(Asked::Take(1), Told::Got(1, b'q'), 9, 0),
         Step(Asked::Take(1), Told::NotNow, 9, 0),
-        Step(Asked::Ack, Told::NotNow, 9, 0),
+        Step(Asked::Ack(1), Told::NotNow, 9, 0),
     ];
     let start = Inbox::new(alloc, requests(alloc)?)?;
     let Ok(mut inbox) = Recorded::new(alloc, start) else {

@@ -25,6 +25,10 @@ mod lang;
 #[cfg(test)]
 mod made;
 #[cfg(test)]
+mod pulls;
+#[cfg(test)]
+mod queue;
+#[cfg(test)]
 mod refusals;
 #[cfg(test)]
 mod rules;
@@ -44,5 +48,7 @@ mod stores;
 mod table;
 #[cfg(test)]
 mod text;
+#[cfg(test)]
+mod topic;
 #[cfg(test)]
 mod trace;

@@ -1,8 +1,9 @@
-// Names, values, ids, lineages and messages, as the tests make them.
-ghost use Rattle.std.specs.Prelude.{◌≡◌, IfOk};
+// Names, values, ids, lineages, messages and subscriptions, as the tests make them.
+ghost use Rattle.std.specs.Prelude.{◌≡◌, true, IfOk};
+ghost use Rattle.anti_ids.specs.Names.{is_plain};
 
 use anti_ids::{Bytes, Lineage, Name, Value, WriteId};
-use anti_kind::{Message, MessageKind};
+use anti_kind::{Message, MessageKind, Sub};
 use std::alloc::Global;
 use std::test::Fail;
 
@@ -67,4 +68,16 @@ pub fn message(alloc: Global, kind: MessageKind, to: u32, letter: u8) -> Result<
         value,
         baggage: Bytes::new(alloc),
     })
+}
+
+/// A subscription to a plain channel, in region 0.
+pub fn sub(channel: &[u8]) -> Result<Sub, Fail>
+    ensures region { IfOk result (λ sub. sub.region ≡ 0) }
+    ensures plain { IfOk result (λ sub. is_plain sub.channel ≡ true) }
+{
+    let channel = name(channel)?;
+    if !channel.plain() {
+        return Err("no plain name".into());
+    }
+    Ok(Sub { channel, region: 0 })
 }

@@ -259,8 +259,8 @@ request = [{service = 'a', handler = 'h', value = '",
     ),
 ];
 
-// Documents that fail a rule on bodies, and what is not built yet, and the line that each is refused with.
-static BODIES: [(&str, &str); 33] = [
+// Documents that fail a rule on bodies or state a wrong choice, and the line that each is refused with.
+static BODIES: [(&str, &str); 30] = [
     (
         "regions = ['us']
 store = [{name = 's', kind = 'kv', replicas = ['us']}]
@@ -416,25 +416,6 @@ service = [{name = 'a', region = 'us', handler = [{name = 'h', body = ['nack', '
 store = [{name = 's', kind = 'kv', replicas = ['us']}]
 service = [{name = 'a', region = 'us', handler = [{name = 'h', body = ['send s h v']}]}]",
         "app 24 handler 1 1\n",
-    ),
-    (
-        "regions = ['us']
-store = [{name = 's', kind = 'queue', replicas = ['us']}]",
-        "app 25 top 0 0\n",
-    ),
-    (
-        "regions = ['us']
-store = [{name = 's', kind = 'queue', replicas = ['us']}]
-sub = [{name = 'n', store = 's', channel = 'c', service = 'a', handler = 'h'}]
-service = [{name = 'a', region = 'us', handler = [{name = 'h', body = []}]}]",
-        "app 25 top 0 0\n",
-    ),
-    (
-        "regions = ['us']
-choices = ['finish', ' repost a 1']
-service = [{name = 'a', region = 'us', handler = [{name = 'h', body = ['call a h v as x', 'send a h $x', 'reply $x']}]}]
-store = [{name = 's', kind = 'topic', replicas = ['us']}]",
-        "app 25 top 0 0\n",
     ),
     (
         "regions = ['us']

@@ -2,18 +2,23 @@ ghost use Rattle.std.specs.Prelude.{◌≡◌, ℕ, ◌∷◌, [], true, is_some
 ghost use Rattle.anti_blob.specs.BlobStates as blobs;
 ghost use Rattle.anti_kind.specs.Lones.{lone_start};
 ghost use Rattle.anti_kv.specs.KvStates.{its_start};
+ghost use Rattle.anti_queue.specs.QueueStates as queues;
 ghost use Rattle.anti_shim.specs.Sights.{IsHere};
 ghost use Rattle.anti_table.specs.TableStates as tables;
+ghost use Rattle.anti_topic.specs.TopicStates as topics;
 
-use crate::made::{id, lineage, name, value, versions};
+use crate::made::{id, lineage, name, sub, value, versions};
 use anti_blob::Blob;
 use anti_ids::{Lineage, Name, NoMemory};
 use anti_kind::{Actor, Answer, Call, Lone, Machine, Port};
 use anti_kv::Kv;
+use anti_queue::Queue;
 use anti_shim::{
-    Barrier, BarrierAnswer, BlobShim, Caller, KvShim, ShimFault, TableShim, barrier, dry_run,
+    Barrier, BarrierAnswer, BlobShim, Caller, KvShim, QueueShim, ShimFault, TableShim, TopicShim,
+    barrier, dry_run,
 };
 use anti_table::Table;
+use anti_topic::Topic;
 use std::alloc::Global;
 use std::test::Fail;
 
@@ -211,6 +216,34 @@ fn blob_port(alloc: Global) -> Result<Lone<Blob>, NoMemory>
     }
 }
 
+// A port over the queue 0, of which the only replica is in region 0, with two subscriptions.
+#[tactic(auto, using(crate::proofs::Subscribed::queue_starts))]
+fn queue_port(alloc: Global) -> Result<Lone<Queue>, Fail>
+    ensures { IfOk result (λ port. is_some (lone_start queues.its_start port 0) ≡ true) }
+{
+    let first = sub(b"n")?;
+    let second = sub(b"n")?;
+    let queue = Queue::new(alloc, 0, &[0], &[first, second], 2)?;
+    match Lone::new(alloc, 0, queue) {
+        Ok(port) => Ok(port),
+        Err(_) => Err("no memory".into()),
+    }
+}
+
+// A port over the topic 0, of which the only replica is in region 0, with two subscriptions.
+#[tactic(auto, using(crate::proofs::Subscribed::topic_starts))]
+fn topic_port(alloc: Global) -> Result<Lone<Topic>, Fail>
+    ensures { IfOk result (λ port. is_some (lone_start topics.its_start port 0) ≡ true) }
+{
+    let first = sub(b"n")?;
+    let second = sub(b"n")?;
+    let topic = Topic::new(alloc, 0, &[0], &[first, second])?;
+    match Lone::new(alloc, 0, topic) {
+        Ok(port) => Ok(port),
+        Err(_) => Err("no memory".into()),
+    }
+}
+
 // Brings a part of a version to the region.
 fn ship_part<M: Machine>(port: &mut Lone<M>, version: u64, part: u32) -> Answer
     ensures { (o : ℕ) → lone_start M.start port.new o ≡ lone_start M.start port.old o }
@@ -289,5 +322,44 @@ fn a_blob_is_read_once_all_its_parts_are_there(rt: HostRuntime) -> Result<(), Fa
     assert!(rt; blobs.wait(alloc, &mut port, &mut who, &lineage).is_ok());
     let row = blobs.read(&mut port, &mut who, key).ok().ok_or("no row")?;
     assert_eq!(rt; (row.version, row.value.bytes().len()), (1, 65));
+    Ok(())
+}
+
+#[test]
+fn a_message_is_named_by_its_channel(rt: HostRuntime) -> Result<(), Fail> {
+    let alloc = rt.alloc();
+    let mut port = queue_port(alloc)?;
+    let queue = QueueShim::new(0, 0);
+    let mut who = caller();
+    let mut lineage = Lineage::root(alloc);
+    let channel = name(b"n")?;
+    let value = value(alloc, b"a")?;
+    let written = queue.write(alloc, &mut port, &mut who, channel, value, &mut lineage);
+    assert!(rt; written == Ok(id(0, b"n#1", 1)?));
+    assert!(rt; queue.wait(alloc, &mut port, &mut who, &lineage).err() == Some(ShimFault::NotYet));
+    assert!(rt; matches!(ship_part(&mut port, 1, 1), Answer::Made { .. }));
+    assert!(rt; queue.wait(alloc, &mut port, &mut who, &lineage).is_ok());
+    Ok(())
+}
+
+#[test]
+fn a_cell_is_polled_by_its_key(rt: HostRuntime) -> Result<(), Fail> {
+    let alloc = rt.alloc();
+    let mut port = topic_port(alloc)?;
+    let topic = TopicShim::new(0, 0);
+    let mut who = caller();
+    let mut lineage = Lineage::root(alloc);
+    let channel = name(b"n")?;
+    let value = value(alloc, b"a")?;
+    let written = topic.write(alloc, &mut port, &mut who, channel, value, &mut lineage);
+    assert!(rt; written == Ok(id(0, b"n#1", 1)?));
+    let cell = name(b"n#1")?;
+    let row = topic.poll(&mut port, &mut who, cell).ok().ok_or("no row")?;
+    assert_eq!(rt; row.version, 0);
+    assert!(rt; topic.wait(alloc, &mut port, &mut who, &lineage).err() == Some(ShimFault::NotYet));
+    assert!(rt; matches!(ship_part(&mut port, 1, 1), Answer::Made { .. }));
+    assert!(rt; topic.wait(alloc, &mut port, &mut who, &lineage).is_ok());
+    let row = topic.poll(&mut port, &mut who, cell).ok().ok_or("no row")?;
+    assert_eq!(rt; (row.version, row.value.bytes()), (1, b"a".as_slice()));
     Ok(())
 }

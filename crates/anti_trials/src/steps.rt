@@ -18,6 +18,8 @@ pub enum Asked<'a> {
     Read(&'a [u8]),
     /// To read the keys that begin with a prefix, in region 0.
     Scan(&'a [u8]),
+    /// To read a cell, in region 0.
+    Poll(&'a [u8]),
     /// To look for these versions of the store 0, in region 0.
     Look(&'a [Version<'a>]),
     /// To bring a part of a version to region 0.
@@ -32,8 +34,14 @@ pub enum Asked<'a> {
     Repost(u32),
     /// To take the reply to a call.
     TakeReply(u32),
-    /// To say that version 1 is done.
-    Ack,
+    /// To pull what is next for a subscription.
+    Pull(u32),
+    /// To pull a version once more for a subscription.
+    Repull(u32, u64),
+    /// To say that a version is done.
+    Ack(u64),
+    /// To give a version back.
+    Nack(u64),
 }
 
 /// What is told.
@@ -43,6 +51,8 @@ pub enum Told<'a> {
     NotNow,
     /// The version that was written.
     Wrote(u64),
+    /// The key and the version that was written.
+    WroteAs(&'a [u8], u64),
     /// The rows: of each its key, its version and its value.
     Rows(&'a [(&'a [u8], u64, &'a [u8])]),
     /// How many ids are missing.
@@ -53,6 +63,8 @@ pub enum Told<'a> {
     Posted(u32),
     /// The number and the letter of the message that was taken.
     Got(u32, u8),
+    /// The key and the version of the row that was pulled.
+    Pulled(&'a [u8], u64),
     /// That it was done.
     Done,
 }
@@ -108,6 +120,10 @@ fn call_of(alloc: Global, asked: Asked) -> Result<Call, Fail> {
             let prefix = name(prefix)?;
             Ok(Call::Scan { region: 0, prefix })
         }
+        Asked::Poll(key) => {
+            let key = name(key)?;
+            Ok(Call::Poll { region: 0, key })
+        }
         Asked::Look(ids) => {
             let ids = lineage(alloc, ids)?;
             Ok(look(ids))
@@ -121,7 +137,10 @@ fn call_of(alloc: Global, asked: Asked) -> Result<Call, Fail> {
         Asked::Take(nth) => Ok(Call::Take { nth }),
         Asked::Repost(number) => Ok(Call::Repost { number }),
         Asked::TakeReply(number) => Ok(Call::TakeReply { number }),
-        Asked::Ack => Ok(Call::Ack { version: 1 }),
+        Asked::Pull(sub) => Ok(Call::Pull { sub }),
+        Asked::Repull(sub, version) => Ok(Call::Repull { sub, version }),
+        Asked::Ack(version) => Ok(Call::Ack { version }),
+        Asked::Nack(version) => Ok(Call::Nack { version }),
     }
 }
 
@@ -145,6 +164,8 @@ fn is_told(reply: &Option<Reply>, told: Told) -> bool {
         Told::NotNow => false,
         Told::Wrote(wanted) =>
             matches!(reply, Reply::Written { version, .. } if *version == wanted),
+        Told::WroteAs(named, wanted) =>
+            matches!(reply, Reply::Written { key, version } if key.bytes() == named && *version == wanted),
         Told::Rows(wanted) =>
             matches!(reply, Reply::Shown(rows) if are_rows(rows.as_slice(), wanted)),
         Told::Missing(count) =>
@@ -153,6 +174,8 @@ fn is_told(reply: &Option<Reply>, told: Told) -> bool {
         Told::Posted(wanted) => matches!(reply, Reply::Posted(number) if *number == wanted),
         Told::Got(wanted, letter) =>
             matches!(reply, Reply::Got { number, message } if *number == wanted && message.value.bytes() == [letter].as_slice()),
+        Told::Pulled(named, wanted) =>
+            matches!(reply, Reply::Pulled(row) if row.key.bytes() == named && row.version == wanted),
         Told::Done => matches!(reply, Reply::Done),
     }
 }

@@ -1,0 +1,41 @@
+-- Stores with two subscriptions, in tests: what they start as is a start.
+use Rattle.std.proofs.Common.{◌≡◌, true, ℕ, ◌<◌, [], ◌∷◌, sym, arith}
+use Rattle.std.specs.List.{Contains}
+use Rattle.std.proofs.lemmas.List.Elements.{All-nil, All-cons}
+use Rattle.anti_ids.specs.Names.{is_plain}
+use Rattle.anti_ids.specs.declared.limits.TheConstants.{MOST_REGIONS}
+use Rattle.anti_kind.specs.declared.store_kind.Sub.{Sub}
+use Rattle.anti_kind.specs.declared.store_kind.StoreKind.{StoreKind}
+use Rattle.anti_kind.specs.declared.store_kind.StoreKind.TheVariants.{Queue, Topic}
+use Rattle.anti_kind.specs.Objects.{IsStart, IsStore, HasTries}
+use Rattle.anti_kind.specs.Store.{store_of}
+use Rattle.anti_queue.specs.QueueStarts.{queue_start}
+use Rattle.anti_topic.specs.TopicStates.{topic_start}
+
+-- it is to a plain channel in region 0
+abbrev IsHere : Sub → Type 0
+IsHere sub = Contains (0 ∷ []) sub.region × (is_plain sub.channel ≡ true)
+
+is_here : (sub : Sub) → sub.region ≡ 0 → is_plain sub.channel ≡ true → IsHere sub
+is_here sub here plain = ((0, omega arith, sym here), plain)
+
+-- the store 0, of which the only replica is in region 0, with two subscriptions
+two_subs : (kind : StoreKind) (tries : ℕ) (a b : Sub) → HasTries kind tries → IsHere a → IsHere b
+    → IsStore (store_of kind 0 (0 ∷ []) (a ∷ b ∷ []) tries)
+two_subs kind tries a b enough first second = record {
+  some = omega arith;
+  few = omega arith;
+  below = All-cons (λ (g : ℕ). g < MOST_REGIONS) 0 [] (omega arith) (All-nil (λ (g : ℕ). g < MOST_REGIONS));
+  distinct = λ i j d less short. absurd (omega arith);
+  subscribed = All-cons IsHere a (b ∷ []) first (All-cons IsHere b [] second (All-nil IsHere));
+  tries = enough;
+}
+
+pub topic_starts : (a b : Sub) → a.region ≡ 0 → is_plain a.channel ≡ true → b.region ≡ 0 → is_plain b.channel ≡ true
+    → IsStart (topic_start 0 (0 ∷ []) (a ∷ b ∷ []))
+topic_starts a b here_a plain_a here_b plain_b = two_subs Topic 0 a b tt (is_here a here_a plain_a) (is_here b here_b plain_b)
+
+-- each message may go out twice
+pub queue_starts : (a b : Sub) → a.region ≡ 0 → is_plain a.channel ≡ true → b.region ≡ 0 → is_plain b.channel ≡ true
+    → IsStart (queue_start 0 (0 ∷ []) (a ∷ b ∷ []) 2)
+queue_starts a b here_a plain_a here_b plain_b = two_subs Queue 2 a b (omega arith, omega arith) (is_here a here_a plain_a) (is_here b here_b plain_b)
