@@ -1,0 +1,4 @@
+pub mod Fronts
+pub mod Asked
+pub mod Came
+pub mod Settledness

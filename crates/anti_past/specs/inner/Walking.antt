@@ -1,0 +1,19 @@
+-- What is known of an entry to which a walk along a trace has come.
+use Rattle.std.specs.Prelude.{ℕ, ◌≡◌, IsTrue, List, Some, slice_get, take}
+use Rattle.anti_kind.specs.declared.entry.Entry.{Entry}
+use Rattle.anti_app.specs.declared.app.App.{App}
+use Rattle.anti_app.specs.Sound.{is_sound}
+use Rattle.anti_proc.specs.Trees.{Ask}
+use Rattle.anti_trace.specs.Legal.{IsLegalTrace}
+use Rattle.anti_trace.specs.declared.processes.AtObject.{AtObject}
+use Rattle.anti_trace.specs.inner.Living.{AreProcessesOf}
+use Rattle.anti_causal.specs.Carried.{ask_at}
+
+-- The entry at place j of a legal trace is what its process asks for, and the processes stand for what comes before it.
+pub record IsAskedNext (app : App) (trace : List Entry) (j : ℕ) (processes : List AtObject) (e : Entry) : Type 0 where
+  pub sound : IsTrue (is_sound app)
+  pub legal : IsLegalTrace app trace
+  pub there : slice_get trace j ≡ Some e
+  pub are : AreProcessesOf app processes (take j trace)
+  pub ask : Ask
+  pub asked : ask_at app trace j e ≡ Some ask
