@@ -1,1 +1,3 @@
+pub mod Losses
+pub mod Spans
 pub mod inner

@@ -1,2 +1,4 @@
+pub mod Came
+pub mod Keys
 pub mod Looking
 pub mod Walking

@@ -1,9 +1,17 @@
-//! What the processes of a trace carried, and which of its reads are settled: found by one walk along the trace.
+//! What the processes of a trace carried, what they lost, and which reads are settled: found by one walk along the trace.
 #![tactic(auto)]
 
+mod calls;
+mod came;
 mod carrying;
+mod holding;
+mod keys;
+mod losses;
+mod reading;
 mod settling;
 mod walk;
 
 pub use carrying::carried;
+pub use losses::first_loss;
+pub use reading::{Span, Spans, spans};
 pub use settling::settled;

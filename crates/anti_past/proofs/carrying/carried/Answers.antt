@@ -4,7 +4,7 @@ use Rattle.std.proofs.lemmas.Result.{IfOk-weaker}
 use Rattle.anti_ids.specs.declared.id.WriteId.{WriteId}
 use Rattle.anti_kind.specs.declared.entry.Entry.{Entry}
 use Rattle.anti_causal.specs.Carried.{carried_at}
-use Rattle.anti_past.proofs.Came.{asked_next, no_birth, of_front}
+use Rattle.anti_past.proofs.CameBefore.{asked_next, no_birth, of_front}
 use Rattle.anti_past.proofs.carrying.carried.Goals as goal
 
 pub carried_into-requires : goal.carried_into-requires

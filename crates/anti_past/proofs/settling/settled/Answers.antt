@@ -8,7 +8,7 @@ use Rattle.anti_causal.specs.Carried.{carried_at}
 use Rattle.anti_causal.specs.Settled.{IsSettled}
 use Rattle.anti_causal.proofs.Processes.{IsAsked}
 use Rattle.anti_past.specs.inner.Looking.{is_found}
-use Rattle.anti_past.proofs.Came.{asked_next, of_front, read_asked}
+use Rattle.anti_past.proofs.CameBefore.{asked_next, of_front, read_asked}
 use Rattle.anti_past.proofs.Settledness.{settled_is}
 use Rattle.anti_past.proofs.settling.settled.Goals as goal
 

@@ -1,0 +1,62 @@
+use Rattle.std.proofs.Common.{suc, ◌≤◌, Bool, List, length, take, drop, refl, sym, subst, arith}
+use Rattle.anti_kind.specs.declared.entry.Entry.{Entry}
+use Rattle.anti_app.proofs.Runnable.{can_run}
+use Rattle.anti_trace.specs.Legal.{IsLegalTrace}
+use Rattle.anti_trace.specs.inner.Living.{AreProcessesOf}
+use Rattle.anti_causal.proofs.Lists.{cut_at}
+use Rattle.anti_past.specs.inner.Came.{IsToldLoss}
+use Rattle.anti_past.proofs.Losing.{lossless, none_more, taken}
+use Rattle.anti_past.proofs.losses.first_loss.Goals as goal
+
+pub object_count-requires : goal.object_count-requires
+object_count-requires c = can_run c.args.app.now c.requires.sound
+
+pub returns-then-branch : goal.returns-then-branch
+returns-then-branch c =
+    let app = c.args.app.now in
+    let trace = c.args.trace.now in
+    let k = c.loop-index.index in
+    let e = c.at-entry.result.now in
+    record {
+      place = k;
+      entry = e;
+      there = c.at-entry.ensures;
+      marked = refl;
+      loses = subst (λ (t : Bool). IsToldLoss app trace k e t c.loses.new.came) c.if-branch.true (c.in_ok-loses.ensures e c.at-entry.ensures);
+      first = c.loop-index.invariant.2;
+    }
+
+pub follow-requires-clause-next : goal.follow-requires-clause-next
+follow-requires-clause-next c =
+    let trace = c.args.trace.now in
+    let k = c.loop-index.index in
+    let e = c.at-entry.result.now in
+    record {
+      before = take k trace;
+      after = drop (suc k) trace;
+      legal = subst (IsLegalTrace c.args.app.now) (cut_at trace k e c.at-entry.ensures) c.requires.legal;
+      are = c.loop-index.invariant.0;
+    }
+
+pub loop-index-preserved : goal.loop-index-preserved
+loop-index-preserved c =
+    let app = c.args.app.now in
+    let trace = c.args.trace.now in
+    let k = c.loop-index.index in
+    let e = c.at-entry.result.now in
+    let at = c.at-entry.ensures in
+    let told = subst (λ (t : Bool). IsToldLoss app trace k e t c.loses.new.came) c.if-branch.false (c.in_ok-loses.ensures e at) in (
+      subst (λ (es : List Entry). AreProcessesOf app c.follow.new.self.at.items es) (sym (taken app trace k e at))
+          (c.in_ok-follow.ensures (take k trace) (drop (suc k) trace) (subst (IsLegalTrace app) (cut_at trace k e at) c.requires.legal) c.loop-index.invariant.0),
+      told.1,
+      none_more app trace k e at c.loop-index.invariant.2 told.0,
+    )
+
+pub returns : goal.returns
+returns c =
+    let trace = c.args.trace.now in
+    let count = c.len-index-end.ensures.len in
+    let end = c.loop-index.auto.index-end in
+    let past = c.loop-index-test.false in
+    let long : length trace ≤ c.loop-index.index = omega arith in
+    lossless c.args.app.now trace c.loop-index.index long c.loop-index.invariant.2

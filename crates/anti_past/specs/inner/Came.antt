@@ -1,0 +1,49 @@
+-- What came to the spans of a trace, and how a program knows it.
+use Rattle.std.specs.Prelude.{ℕ, ◌≡◌, ◌+◌, ◌<◌, ◌++◌, Bool, List, [], Some, slice_get, take, flat_map, MatchBool}
+use Rattle.std.specs.List.{filter, list_all}
+use Rattle.std.specs.Option.{option_map_or}
+use Rattle.std.specs.BTreeMap as tree
+use Rattle.anti_ids.specs.Ids.{has_id}
+use Rattle.anti_ids.specs.declared.id.WriteId.{WriteId}
+use Rattle.anti_kind.specs.declared.entry.Entry.{Entry}
+use Rattle.anti_app.specs.declared.app.App.{App}
+use Rattle.anti_causal.specs.Words.{brings}
+use Rattle.anti_past.specs.Losses.{Loses}
+use Rattle.anti_past.specs.declared.came.AllCame.{AllCame}
+use Rattle.anti_past.specs.declared.came.Came.{Came}
+use Rattle.anti_past.specs.declared.keys.Key.{Key}
+use Rattle.anti_past.specs.inner.Keys.{is_in, key_cmp}
+
+-- whether these ids are all in a lineage
+abbrev pub holds : List WriteId → List WriteId → Bool
+holds lineage ids = list_all (λ w. has_id w lineage) ids
+
+-- what comes to a span with entries
+abbrev pub came_to : App → Key → List Entry → List WriteId
+came_to app q entries = flat_map (brings app) (filter (is_in q) entries)
+
+-- what the entry at an index brings
+abbrev pub brought_at : App → List Entry → ℕ → List WriteId
+brought_at app trace i = option_map_or (brings app) (slice_get trace i) []
+
+abbrev pub ids_since : App → List Entry → List ℕ → List WriteId
+ids_since app trace since = flat_map (brought_at app trace) since
+
+-- what is known to have come to a span: what was carried, and what some entries brought
+abbrev pub came_ids : App → List Entry → Came → List WriteId
+came_ids app trace c = c.carried ++ ids_since app trace c.since.items
+
+abbrev pub ids_known : App → List Entry → AllCame → Key → List WriteId
+ids_known app trace all q = option_map_or (came_ids app trace) (tree.get key_cmp all.spans q) []
+
+-- For each span that is what came to it before the entry at index k.
+abbrev pub IsKnown : App → List Entry → ℕ → AllCame → Type 0
+IsKnown app trace k all = (q : Key) (w : WriteId) → has_id w (ids_known app trace all q) ≡ has_id w (came_to app q (take k trace))
+
+-- no entry before index k loses an id
+abbrev pub NoneLoses : App → List Entry → ℕ → Type 0
+NoneLoses app trace k = (i : ℕ) (a : Entry) → i < k → slice_get trace i ≡ Some a → Loses app trace i a → ⊥
+
+-- It is told whether the entry e at index k loses an id. Where it does not, what comes to the spans is known behind it.
+abbrev pub IsToldLoss : App → List Entry → ℕ → Entry → Bool → AllCame → Type 0
+IsToldLoss app trace k e lost all = MatchBool lost (Loses app trace k e) ((Loses app trace k e → ⊥) × IsKnown app trace (k + 1) all)

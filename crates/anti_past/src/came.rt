@@ -1,0 +1,125 @@
+ghost use Rattle.std.specs.Prelude.{◌≡◌, ◌||◌, ◌&&◌, ◌++◌, List, [], ◌∷◌, cond, IfOk, OnOk, IsTrue};
+ghost use Rattle.anti_ids.specs.Ids.{has_id};
+ghost use Rattle.anti_ids.specs.declared.id.WriteId.{WriteId};
+ghost use Rattle.anti_kind.specs.declared.entry.Entry.{Entry};
+ghost use Rattle.anti_app.specs.declared.app.App.{App};
+ghost use Rattle.anti_app.specs.Sound.{is_sound};
+ghost use Rattle.anti_past.specs.inner.Came.{brought_at, came_ids, holds, ids_known};
+ghost use Rattle.anti_past.specs.inner.Keys.{same_key};
+ghost use Rattle.anti_past.specs.declared.keys.Key.{Key};
+
+use crate::holding::{holds_all, holds_since};
+use crate::keys::Key;
+use anti_app::App;
+use anti_ids::{Lineage, NoMemory};
+use anti_trace::Trace;
+use std::alloc::Global;
+use std::collections::BTreeMap;
+
+/// What came to a span so far: all that its process carried into the last entry at which it was to carry all, and what this entry and the
+/// later ones bring, which are given by their indices. Before the first such entry nothing is known to be carried.
+#[derive(Drop)]
+pub struct Came {
+    pub(crate) carried: Lineage,
+    pub(crate) since: Vec<u32>,
+}
+
+/// What came to the spans of a trace.
+#[derive(Drop)]
+pub struct AllCame {
+    pub(crate) spans: BTreeMap<Key, Came>,
+}
+
+// What one entry brings, behind what was carried into it.
+fn came_since(alloc: Global, carried: Lineage, index: u32) -> Result<Came, NoMemory>
+    ensures carried { IfOk result (λ came. came.carried ≡ carried) }
+    ensures since { IfOk result (λ came. came.since.items ≡ index ∷ []) }
+{
+    let mut since = Vec::new(alloc);
+    match since.push(index) {
+        Ok(()) => Ok(Came { carried, since }),
+        Err(_) => Err(NoMemory),
+    }
+}
+
+impl Came {
+    // Whether all that came is in a lineage.
+    fn is_in(
+        &self,
+        alloc: Global,
+        app: &App,
+        trace: &Trace,
+        lineage: &Lineage,
+    ) -> Result<bool, NoMemory>
+        requires { IsTrue (is_sound app.now) }
+        ensures { IfOk result (λ answer. answer ≡ holds lineage.now (came_ids app.now trace.now self.now)) }
+    {
+        if !holds_all(lineage, &self.carried) {
+            return Ok(false);
+        }
+        holds_since(alloc, app, lineage, trace, self.since.as_slice())
+    }
+}
+
+impl AllCame {
+    /// Nothing came to any span.
+    pub fn new(alloc: Global) -> AllCame
+        ensures { (app : App) (trace : List Entry) (q : Key) → ids_known app trace result q ≡ [] }
+    {
+        AllCame {
+            spans: BTreeMap::new(alloc),
+        }
+    }
+
+    /// Whether all that came to a span is in a lineage.
+    pub fn are_in(
+        &self,
+        alloc: Global,
+        app: &App,
+        trace: &Trace,
+        key: &Key,
+        lineage: &Lineage,
+    ) -> Result<bool, NoMemory>
+        requires { IsTrue (is_sound app.now) }
+        ensures { IfOk result (λ answer. answer ≡ holds lineage.now (ids_known app.now trace.now self.now key.now)) }
+    {
+        match self.spans.get(key) {
+            Some(came) => came.is_in(alloc, app, trace, lineage),
+            None => Ok(true),
+        }
+    }
+
+    /// Adds the index of an entry, which brings what comes to its span.
+    pub fn add(&mut self, alloc: Global, key: Key, index: u32) -> Result<(), NoMemory>
+        ensures { (app : App) (trace : List Entry) (q : Key) (w : WriteId)
+            → OnOk result (has_id w (ids_known app trace self.new q)
+            ≡ (has_id w (ids_known app trace self.old q) || (same_key key q && has_id w (brought_at app trace index)))) }
+    {
+        match self.spans.get_mut(&key) {
+            Some(came) => match came.since.push(index) {
+                Ok(()) => Ok(()),
+                Err(_) => Err(NoMemory),
+            },
+            None => self.set(alloc, key, Lineage::root(alloc), index),
+        }
+    }
+
+    /// Sets what came to a span: what its process carries into an entry that is given by its index, and what this brings.
+    pub fn set(
+        &mut self,
+        alloc: Global,
+        key: Key,
+        carried: Lineage,
+        index: u32,
+    ) -> Result<(), NoMemory>
+        ensures { (app : App) (trace : List Entry) (q : Key)
+            → OnOk result (ids_known app trace self.new q
+            ≡ cond (same_key key q) (carried ++ (brought_at app trace index ++ [])) (ids_known app trace self.old q)) }
+    {
+        let came = came_since(alloc, carried, index)?;
+        match self.spans.insert(key, came) {
+            Ok(_) => Ok(()),
+            Err(_) => Err(NoMemory),
+        }
+    }
+}
