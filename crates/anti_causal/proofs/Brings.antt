@@ -11,7 +11,7 @@ use Rattle.anti_kind.specs.declared.row.Row.{Row}
 use Rattle.anti_app.specs.declared.app.App.{App}
 use Rattle.anti_proc.specs.Local.{id_at, row_ids, rows_ids}
 use Rattle.anti_causal.specs.Words.{Letter, beside, brings, comes_with, hands_all, id_written, posts_in, reads, rows_in, shown, taken, taken_in, wrote}
-use Rattle.anti_causal.proofs.Ids.{has_append, has_joined, joined_has}
+use Rattle.anti_causal.proofs.Ids.{has_joined, in_either, joined_has}
 
 -- ---- the parts
 
@@ -55,24 +55,24 @@ module _ (app : App) (e : Entry) (w : WriteId) where
   of_rows : has_id w ids_of_rows ≡ true → Part app e w
   of_rows has =
       let (r, at, its) = has_joined (row_ids e.object) w its_rows has in
-      elim ((has_append w (id_at e.object r.key r.version) r.lineage).0 its) [ inl own ↦ of_row r at own | inr further ↦ of_lineage r at further ]
+      elim ((in_either w (id_at e.object r.key r.version) r.lineage).0 its) [ inl own ↦ of_row r at own | inr further ↦ of_lineage r at further ]
 
   of_others : has_id w (ids_of_rows ++ taken app e) ≡ true → Part app e w
-  of_others has = elim ((has_append w ids_of_rows (taken app e)).0 has) [ inl row ↦ of_rows row | inr message ↦ of_message message ]
+  of_others has = elim ((in_either w ids_of_rows (taken app e)).0 has) [ inl row ↦ of_rows row | inr message ↦ of_message message ]
 
   pub part_of : has_id w (brings app e) ≡ true → Part app e w
   part_of has =
-      elim ((has_append w (wrote e) (ids_of_rows ++ taken app e)).0 (sym all_come ∙ has)) [ inl own ↦ of_write own | inr other ↦ of_others other ]
+      elim ((in_either w (wrote e) (ids_of_rows ++ taken app e)).0 (sym all_come ∙ has)) [ inl own ↦ of_write own | inr other ↦ of_others other ]
 
   others_come : (has_id w ids_of_rows ≡ true) ⊎ (has_id w (taken app e) ≡ true) → has_id w (brings app e) ≡ true
-  others_come either = all_come ∙ (has_append w (wrote e) (ids_of_rows ++ taken app e)).1 (inr ((has_append w ids_of_rows (taken app e)).1 either))
+  others_come either = all_come ∙ (in_either w (wrote e) (ids_of_rows ++ taken app e)).1 (inr ((in_either w ids_of_rows (taken app e)).1 either))
 
   row_comes : (r : Row) → Contains its_rows r → (has_id w (id_at e.object r.key r.version) ≡ true) ⊎ (has_id w r.lineage ≡ true) → has_id w (brings app e) ≡ true
   row_comes r at either =
-      others_come (inl (joined_has (row_ids e.object) w its_rows r at ((has_append w (id_at e.object r.key r.version) r.lineage).1 either)))
+      others_come (inl (joined_has (row_ids e.object) w its_rows r at ((in_either w (id_at e.object r.key r.version) r.lineage).1 either)))
 
   pub part_comes : Part app e w → has_id w (brings app e) ≡ true
-  part_comes (of_write own) = all_come ∙ (has_append w (wrote e) (ids_of_rows ++ taken app e)).1 (inl own)
+  part_comes (of_write own) = all_come ∙ (in_either w (wrote e) (ids_of_rows ++ taken app e)).1 (inl own)
   part_comes (of_row r at own) = row_comes r at (inl own)
   part_comes (of_lineage r at further) = row_comes r at (inr further)
   part_comes (of_message its) = others_come (inr its)

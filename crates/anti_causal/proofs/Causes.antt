@@ -9,7 +9,8 @@ use Rattle.anti_causal.specs.Causal.{Before}
 use Rattle.anti_causal.specs.Carried.{Brought, CarriedIsCausal, CarriedWasWritten, InPast, IsLossless, WrittenBefore}
 use Rattle.anti_causal.proofs.Facts.{Facts}
 use Rattle.anti_causal.proofs.Brings.{part_comes, of_write, reads_hand, writes_only}
-use Rattle.anti_causal.proofs.Known.{Knows, before_it, brought_before, flow, forward, keeps, same_entry, source, source_order, with_it}
+use Rattle.anti_causal.proofs.Lists.{same_at}
+use Rattle.anti_causal.proofs.Known.{Knows, before_it, brought_before, flow, forward, keeps, source, source_order, with_it}
 
 module _ (app : App) (trace : List Entry) (facts : Facts app trace) where
   -- ---- what is carried was written
@@ -38,7 +39,7 @@ module _ (app : App) (trace : List Entry) (facts : Facts app trace) where
 
       not_itself : i ≡ j → Before trace i j
       not_itself same =
-          let here : a ≡ b = same_entry trace j a b (ap (slice_get trace) (sym same) ∙ at_i) at_j in
+          let here : a ≡ b = same_at trace j a b (ap (slice_get trace) (sym same) ∙ at_i) at_j in
           let never = (writes_only app b w (ap (λ (e : Entry). has_id w (wrote e)) (sym here) ∙ has)).no_read in
           absurd (cc)
 

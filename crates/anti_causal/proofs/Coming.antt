@@ -1,9 +1,9 @@
 -- What came to the span of a process came with the entries of the process: with its birth, or with what it asked for.
-use Rattle.std.proofs.Common.{◌≡◌, ℕ, ◌==◌, ◌||◌, ◌++◌, Bool, true, false, List, [], ◌∷◌, map, refl, sym, ap, ◌∙◌, eqb-true, inl, inr}
+use Rattle.std.proofs.Common.{◌≡◌, ℕ, ◌==◌, ◌++◌, Bool, true, false, List, [], ◌∷◌, map, refl, sym, ap, ◌∙◌, eqb-true, inl, inr}
 use Rattle.std.specs.Prelude.{Option, Some, None, nat_lt, length, unwrap_or, option_map, option_and_then, if◌then◌else◌}
 use Rattle.std.specs.Option.{option_map_or}
 use Rattle.std.proofs.lemmas.Bool.{or_cases}
-use Rattle.anti_ids.specs.Ids.{has_id, is_id, with_ids}
+use Rattle.anti_ids.specs.Ids.{has_id, with_ids}
 use Rattle.anti_ids.specs.declared.id.WriteId.{WriteId}
 use Rattle.anti_ids.specs.declared.limits.TheConstants.{MOST_IDS}
 use Rattle.anti_ids.proofs.IdLemmas.{has_id-with_ids}
@@ -30,16 +30,7 @@ use Rattle.anti_proc.specs.Tasks.{is_for, role_at, role_at_inbox, role_at_store,
 use Rattle.anti_proc.specs.Trees.{Tree, Asks, Ends}
 use Rattle.anti_trace.specs.Legal.{GoAlong}
 use Rattle.anti_causal.specs.Words.{brings, comes_with}
-
--- ---- ids of two lists
-
-pub has_append : (i : WriteId) (xs ys : List WriteId) → has_id i (xs ++ ys) ≡ (has_id i xs || has_id i ys)
-has_append i [] ys = refl
-has_append i (x ∷ xs) ys = ap (λ (b : Bool). is_id i x || b) (has_append i xs ys) ∙ regroup (is_id i x) (has_id i xs) (has_id i ys)
-  where
-    regroup : (a b c : Bool) → (a || (b || c)) ≡ ((a || b) || c)
-    regroup true b c = refl
-    regroup false b c = refl
+use Rattle.anti_causal.proofs.Ids.{in_either}
 
 -- ---- what a call brings
 
@@ -147,7 +138,7 @@ module _ (app : App) (n : ℕ) (w : WriteId) where
   by_entries (Asks ask go) (e ∷ es) along has =
       let ids : List WriteId = if ask.span == n then came app ask.object ask.call e.reply else [] in
       let later : List WriteId = brought_by app n (made (go e.reply) (map reply_of es)) in
-      elim (or_cases (has_id w ids) (has_id w later) (sym (has_append w ids later) ∙ has)) [
+      elim ((in_either w ids later).0 has) [
         | inl here ↦
             let its = in_span (ask.span == n) (came app ask.object ask.call e.reply) here in
             let same : has_id w (came app e.object e.call e.reply) ≡ has_id w (came app ask.object ask.call e.reply) =

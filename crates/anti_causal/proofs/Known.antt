@@ -10,7 +10,8 @@ use Rattle.anti_causal.specs.Words.{brings, kept_with, rows_in, wrote}
 use Rattle.anti_causal.specs.Causal.{Before, Delivers, Earlier, lineage, message, program, row, through}
 use Rattle.anti_causal.specs.Carried.{Brought, IsLossless}
 use Rattle.anti_causal.proofs.Facts.{Facts, RowSource}
-use Rattle.anti_causal.proofs.Ids.{not_none, some_version, version_has, version_of}
+use Rattle.anti_causal.proofs.Ids.{has_id_at, id_for, in_id_at, not_none}
+use Rattle.anti_causal.proofs.Lists.{same_at}
 use Rattle.anti_causal.proofs.Brings.{Part, part_comes, of_lineage, of_message, of_row, of_write, part_of, posts_bring_none, row_beside, row_shown, shows_row, writes_only}
 
 -- An id is known at the entry b, at place j: it came to the span before, or comes with the entry.
@@ -27,9 +28,6 @@ pub record Source (app : App) (trace : List Entry) (j : ℕ) (b : Entry) (w : Wr
   pub wrote : has_id w (wrote entry) ≡ true
   pub order : (place ≡ j) ⊎ (place < j) × Before trace place j
   pub flows : IsLossless app trace → (v : WriteId) → Knows app trace place entry v → Knows app trace j b v
-
-pub same_entry : (trace : List Entry) (i : ℕ) (a b : Entry) → slice_get trace i ≡ Some a → slice_get trace i ≡ Some b → a ≡ b
-same_entry trace i a b at_a at_b = cc
 
 further : (h i j : ℕ) (d a b : Entry) → Earlier h d i a → Earlier i a j b → Earlier h d j b
 further h i j d a b e f = record {
@@ -71,10 +69,10 @@ module _ (app : App) (trace : List Entry) (facts : Facts app trace) where
     its_write = facts.rows j b r at in_it some
 
     abbrev its_id : WriteId
-    its_id = version_of b.object r.key r.version
+    its_id = id_for b.object r.key r.version
 
     has_its_id : has_id its_id (wrote its_write.entry) ≡ true
-    has_its_id = ap (has_id its_id) its_write.wrote ∙ version_has b.object r.key r.version some
+    has_its_id = ap (has_id its_id) its_write.wrote ∙ has_id_at b.object r.key r.version some
 
     -- from its write to what shows the row
     to_row : IsLossless app trace → (v : WriteId) → Knows app trace its_write.place its_write.entry v → has_id v (brings app b) ≡ true
@@ -86,7 +84,7 @@ module _ (app : App) (trace : List Entry) (facts : Facts app trace) where
         part_comes app b v (of_row r in_it (sym (ap (has_id v) its_write.wrote) ∙ sym (ap (has_id v) own) ∙ came))
 
     row_before : Before trace its_write.place j
-    row_before = row its_write.entry b its_id its_write.there at has_its_id (shows_row b its_id r in_it (version_has b.object r.key r.version some))
+    row_before = row its_write.entry b its_id its_write.there at has_its_id (shows_row b its_id r in_it (has_id_at b.object r.key r.version some))
 
   -- ---- sources
 
@@ -130,13 +128,13 @@ module _ (app : App) (trace : List Entry) (facts : Facts app trace) where
   of_part : (j : ℕ) (b : Entry) (w : WriteId) → slice_get trace j ≡ Some b → Sources j w → Part app b w → Source app trace j b w
   of_part j b w at below (of_write has) = itself j b w at has
   of_part j b w at below (of_row r in_it has) =
-      let some = some_version b.object r.key r.version w has in
+      let some = (in_id_at w b.object r.key r.version has).0 in
       let from = facts.rows j b r at in_it some in
       from_row j b r at in_it some w (itself from.place from.entry w from.there (ap (has_id w) from.wrote ∙ has))
   of_part j b w at below (of_lineage r in_it has) =
       let some = has_version j b r w at in_it has in
       let from = facts.rows j b r at in_it some in
-      let came = (keeps from.place from.entry (version_of b.object r.key r.version) from.there (has_its_id j b r at in_it some) w).0 (ap (has_id w) from.kept ∙ has) in
+      let came = (keeps from.place from.entry (id_for b.object r.key r.version) from.there (has_its_id j b r at in_it some) w).0 (ap (has_id w) from.kept ∙ has) in
       from_row j b r at in_it some w (below from.place from.entry from.before from.there (before_it came))
   of_part j b w at below (of_message has) =
       let from = facts.letters j b w at has in
@@ -173,7 +171,7 @@ module _ (app : App) (trace : List Entry) (facts : Facts app trace) where
     source_flows : (j : ℕ) (b : Entry) → Source app trace j b w → IsLossless app trace → (v : WriteId) → Knows app trace i a v → Knows app trace j b v
     source_flows j b s lossless v k =
         let place = its_place j b s in
-        let entry = same_entry trace i s.entry a (ap (slice_get trace) (sym place) ∙ s.there) at_i in
+        let entry = same_at trace i s.entry a (ap (slice_get trace) (sym place) ∙ s.there) at_i in
         s.flows lossless v (subst₂ (λ (n : ℕ) (e : Entry). Knows app trace n e v) (sym place) (sym entry) k)
 
     -- what came to a span was written causally before
@@ -189,7 +187,7 @@ module _ (app : App) (trace : List Entry) (facts : Facts app trace) where
 
       other : i ≡ j → (i < j) × Before trace i j
       other same =
-          let here : a ≡ b = same_entry trace j a b (ap (slice_get trace) (sym same) ∙ at_i) at_j in
+          let here : a ≡ b = same_at trace j a b (ap (slice_get trace) (sym same) ∙ at_i) at_j in
           let none = (writes_only app b w (ap (λ (e : Entry). has_id w (wrote e)) (sym here) ∙ has)).no_rows in
           absurd (omega (arith, (subst (λ (rows : List Row). Contains rows r) none in_it).1))
 
@@ -218,7 +216,7 @@ module _ (app : App) (trace : List Entry) (facts : Facts app trace) where
   KnowsAt j v = (b : Entry) → slice_get trace j ≡ Some b → Knows app trace j b v
 
   known_at : (j : ℕ) (b : Entry) (v : WriteId) → slice_get trace j ≡ Some b → Knows app trace j b v → KnowsAt j v
-  known_at j b v at k c at_c = subst (λ (e : Entry). Knows app trace j e v) (same_entry trace j b c at at_c) k
+  known_at j b v at k c at_c = subst (λ (e : Entry). Knows app trace j e v) (same_at trace j b c at at_c) k
 
   goes_along : IsLossless app trace → {i j : ℕ} → Before trace i j → (v : WriteId) → KnowsAt i v → KnowsAt j v
   goes_along lossless (program {i = i} {j = j} a b at_i at_j e) v k = known_at j b v at_j (along i j a b at_i e v (k a at_i))

@@ -4,7 +4,6 @@ pub mod Facts
 pub mod Places
 pub mod Coming
 pub mod Processes
-pub mod Planned
 pub mod Looks
 pub mod Objects
 pub mod Stores
@@ -15,4 +14,8 @@ pub mod Causes
 pub mod Written
 pub mod Legal
 pub mod Barriers
+mod WorkedForms
 mod Worked
+mod WorkedLoss
+mod WorkedNote
+mod WorkedConcurrent

@@ -20,6 +20,7 @@ use Rattle.anti_proc.specs.Meaning.{process_after, reply_of, tree_of}
 use Rattle.anti_proc.specs.Tasks.{task_of}
 use Rattle.anti_proc.specs.Trees.{Tree, Ask, Asks, Ends, after, ask_of}
 use Rattle.anti_proc.proofs.InARow.{process_looks}
+use Rattle.anti_proc.proofs.LooksAreDue.{AreDue, FollowsLook, IsDue, LooksAreDue, process_due}
 use Rattle.anti_proc.proofs.Plans.{among_here, asked_of}
 use Rattle.anti_trace.specs.Legal.{GoAlong, IsLegalTrace}
 use Rattle.anti_trace.specs.Traces.{entries_by, is_by}
@@ -28,7 +29,6 @@ use Rattle.anti_causal.specs.Carried.{ask_at, carried_at}
 use Rattle.anti_causal.specs.Settled.{is_barrier_look, left_at, region_named}
 use Rattle.anti_causal.proofs.Lists.{kept_in_front}
 use Rattle.anti_causal.proofs.Places.{made_at}
-use Rattle.anti_causal.proofs.Planned.{AreDue, FollowsLook, IsDue, LooksAreDue, process_due}
 use Rattle.anti_causal.proofs.Processes.{IsAsked, asking, at_home, carried_is, handed, hands_asked, tree_asks}
 
 -- ---- trees

@@ -3,7 +3,6 @@
 use Rattle.std.proofs.Common.{◌≡◌, ℕ, suc, ◌==◌, ◌++◌, ◌⊎◌, Bool, true, false, List, [], ◌∷◌, map, refl, sym, ap, ◌∙◌, subst, eqb-true, inl, inr, arith}
 use Rattle.std.specs.Prelude.{All, Contains, IsTrue, Option, Some, None, Result, slice_get, take, drop, unwrap_or, option_and_then, if◌then◌else◌}
 use Rattle.std.specs.Option.{option_map_or}
-use Rattle.std.proofs.lemmas.Bool.{or_cases}
 use Rattle.std.proofs.lemmas.List.Elements.{All-filter, All-take}
 use Rattle.anti_ids.specs.Ids.{has_id}
 use Rattle.anti_ids.specs.List.{Listed, plain}
@@ -47,8 +46,9 @@ use Rattle.anti_trace.proofs.OfLegal.{at_cut, known_of_legal, none_cut}
 use Rattle.anti_causal.specs.Words.{Letter, hands_all, id_written, posts_in, wrote}
 use Rattle.anti_causal.specs.Causal.{is_process}
 use Rattle.anti_causal.specs.Carried.{Brought, ask_at, carried_at}
-use Rattle.anti_causal.proofs.Coming.{IsBroughtBy, by_entries, first_within, has_append}
+use Rattle.anti_causal.proofs.Coming.{IsBroughtBy, by_entries, first_within}
 use Rattle.anti_causal.proofs.Facts.{Writes}
+use Rattle.anti_causal.proofs.Ids.{in_either}
 use Rattle.anti_causal.proofs.Places.{did, made_at}
 
 -- ---- trees
@@ -307,7 +307,7 @@ module _ (app : App) (trace : List Entry) (legal : IsLegalTrace app trace) (j : 
       let further : List WriteId = brought_by app a.ask.span (made (tree_of app a.birth) rs) in
       let inside : has_id w a.ask.carried ≡ true = sym (ap (has_id w) (carried_is app trace j e a)) ∙ has in
       let both : has_id w (first ++ further) ≡ true = process_carries app a.birth rs a.ask (tree_asks app trace j e a) w inside in
-      elim (or_cases (has_id w first) (has_id w further) (sym (has_append w first further) ∙ both)) [
+      elim ((in_either w first further).0 both) [
         | inl here ↦ brought_first a w (a.ask.span == 1) refl here
         | inr later ↦ brought_later a w (by_entries app a.ask.span w (tree_of app a.birth) a.later a.along later)
       ]

@@ -1,15 +1,15 @@
 -- What the stores of a legal trace give the causal order: each write has an id of its own, each row is that of an earlier write, and what a
 -- look found visible stays visible.
-use Rattle.std.proofs.Common.{◌≡◌, ℕ, zero, suc, ◌+◌, ◌<◌, ◌≤◌, ◌++◌, ◌⊎◌, ◌&&◌, ◌||◌, ◌==◌, Bool, true, false, not, cond, List, [], ◌∷◌, length, length-append, get_or, refl, sym, ap, ap₂, ◌∙◌, subst, inl, inr, ⊎_elim, arith}
-use Rattle.std.specs.Prelude.{◌↔◌, Contains, Some, slice_get, take, nat_lt, bytes_eq}
+use Rattle.std.proofs.Common.{◌≡◌, ℕ, zero, suc, ◌+◌, ◌<◌, ◌≤◌, ◌++◌, ◌⊎◌, ◌&&◌, ◌||◌, ◌==◌, Bool, true, false, not, List, [], ◌∷◌, length, length-append, get_or, refl, sym, ap, ap₂, ◌∙◌, subst, inl, inr, ⊎_elim, arith}
+use Rattle.std.specs.Prelude.{◌↔◌, Contains, Some, slice_get, take, bytes_eq}
 use Rattle.std.specs.List.{list_all, list_any, Any}
-use Rattle.std.proofs.lemmas.Bool.{and_from, and_parts, both_ways, cases_order, eq-eqb, le-leb, leb-true, ltb-true, lt-ltb, not-true, or_cases, or_left, or_right}
+use Rattle.std.proofs.lemmas.Bool.{and_from, and_parts, both_ways, cases_order, eq-eqb, le-leb, leb-true, not-true, or_cases, or_left, or_right}
 use Rattle.std.proofs.lemmas.List.Elements.{All-contains, Contains-get_or}
 use Rattle.std.proofs.lemmas.List.Folds.{list_any-append}
 use Rattle.std.proofs.lemmas.List.Sums.{AllPass-from_list_all, list_all-from_AllPass}
-use Rattle.anti_ids.specs.Ids.{has_id, is_id}
+use Rattle.anti_ids.specs.Ids.{has_id}
 use Rattle.anti_ids.specs.declared.id.WriteId.{WriteId}
-use Rattle.anti_ids.proofs.IdLemmas.{Contains-from_has_id, has_id-from_Contains, is_id-itself, same_id}
+use Rattle.anti_ids.proofs.IdLemmas.{Contains-from_has_id, has_id-from_Contains}
 use Rattle.anti_kind.specs.declared.call.Call.{Call}
 use Rattle.anti_kind.specs.declared.call.Call.TheVariants as calls
 use Rattle.anti_kind.specs.declared.call.Reply.{Reply}
@@ -24,7 +24,7 @@ use Rattle.anti_kind.specs.Store.{Store, absent, can_look, is_replica, is_visibl
 use Rattle.anti_kind.specs.Stored.{rows, stored, wrote as wrote_row}
 use Rattle.anti_kind.proofs.Finding.{Found, find_found, joined_from}
 use Rattle.anti_kind.proofs.Keeping.{looks_right}
-use Rattle.anti_kind.proofs.Rows.{or_false, version_at}
+use Rattle.anti_kind.proofs.Rows.{version_at}
 use Rattle.anti_kind.proofs.Showing.{never_falls, rows-append, same_bytes}
 use Rattle.anti_kind.proofs.Sources.{calls_name_own, rows_have_sources}
 use Rattle.anti_app.specs.declared.app.App.{App}
@@ -35,25 +35,9 @@ use Rattle.anti_trace.specs.Traces.{entries_on}
 use Rattle.anti_causal.specs.Settled.{is_visible_after, is_visible_in}
 use Rattle.anti_causal.specs.Words.{id_written, rows_in, wrote}
 use Rattle.anti_causal.proofs.Facts.{RowSource}
+use Rattle.anti_causal.proofs.Ids.{id_for, in_id_at}
 use Rattle.anti_causal.proofs.Objects.{follows_at, history_cut, history_longer, legal_at, only, start_is_of_app}
 use Rattle.anti_causal.proofs.Places.{seen, there}
-
--- ---- the id of a version
-
-abbrev pub id_for : ℕ → List ℕ → ℕ → WriteId
-id_for o key version = record { store = o; key = key; version = version }
-
-pub in_id_at : (w : WriteId) (o : ℕ) (key : List ℕ) (version : ℕ) → has_id w (id_at o key version) ≡ true → (0 < version) × (w ≡ id_for o key version)
-in_id_at w o key version has = by_test (nat_lt 0 version) refl has
-  where
-    by_test : (t : Bool) → nat_lt 0 version ≡ t → has_id w (cond t (id_for o key version ∷ []) []) ≡ true → (0 < version) × (w ≡ id_for o key version)
-    by_test true some has = (ltb-true 0 version some, same_id w (id_for o key version) (sym (or_false (is_id w (id_for o key version))) ∙ has))
-    by_test false none has = absurd (cc)
-
-pub has_id_at : (o : ℕ) (key : List ℕ) (version : ℕ) → 0 < version → has_id (id_for o key version) (id_at o key version) ≡ true
-has_id_at o key version some =
-    ap (λ (t : Bool). has_id (id_for o key version) (cond t (id_for o key version ∷ []) [])) (lt-ltb 0 version some)
-    ∙ or_left (is_id (id_for o key version) (id_for o key version)) false (is_id-itself (id_for o key version))
 
 -- ---- writes
 

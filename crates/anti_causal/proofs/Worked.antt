@@ -5,8 +5,7 @@ use Rattle.anti_ids.specs.Ids.{has_id}
 use Rattle.anti_ids.specs.List.{plain}
 use Rattle.anti_ids.specs.declared.id.WriteId.{WriteId}
 use Rattle.anti_kind.specs.declared.actor.Actor.{Actor}
-use Rattle.anti_kind.specs.declared.actor.Actor.TheVariants.{Carrier, Process}
-use Rattle.anti_kind.specs.declared.call.Call.{Call}
+use Rattle.anti_kind.specs.declared.actor.Actor.TheVariants.{Carrier}
 use Rattle.anti_kind.specs.declared.call.Call.TheVariants as calls
 use Rattle.anti_kind.specs.declared.call.Reply.{Reply}
 use Rattle.anti_kind.specs.declared.call.Reply.TheVariants as replies
@@ -17,37 +16,21 @@ use Rattle.anti_kind.specs.declared.message.MessageKind.TheVariants as kinds
 use Rattle.anti_kind.specs.declared.row.Row.{Row}
 use Rattle.anti_kind.specs.declared.store_kind.StoreKind.TheVariants.{Kv}
 use Rattle.anti_app.specs.declared.app.App.{App}
-use Rattle.anti_app.specs.declared.app.StoreDef.{StoreDef}
 use Rattle.anti_baggage.specs.Reading.{read_lineage}
 use Rattle.anti_causal.specs.Words.{answered, asked, beside, brings, kept_with, posts_in, shown, wrote}
 use Rattle.anti_causal.specs.Causal.{Before, Earlier, lineage, message, program, row, through}
 use Rattle.anti_causal.specs.Carried.{Brought}
 use Rattle.anti_causal.specs.Settled.{found_in, is_visible_after, region_named}
-
-abbrev store_in : List ℕ → StoreDef
-store_in name = record { name = name; kind = Kv; replicas = plain (0 ∷ []); tries = 3 }
+use Rattle.anti_causal.proofs.WorkedForms.{app_with, born_at, made, service_in, store_in}
 
 abbrev app : App
-app = record {
-  regions = plain (codes "eu" ∷ []);
-  stores = plain (store_in (codes "s") ∷ store_in (codes "t") ∷ []);
-  services = plain (record { name = codes "v"; region = 0; handlers = plain [] } ∷ []);
-  subs = plain [];
-  requests = plain [];
-  choices = plain [];
-  seed = 1;
-  workers = 1;
-}
+app = app_with (codes "eu" ∷ []) (store_in 0 Kv (codes "s") ∷ store_in 0 Kv (codes "t") ∷ []) (service_in 0 (codes "v") [] ∷ []) [] []
 
 abbrev first : Actor
-first = Process (record { object = 2; place = 1 })
+first = born_at 2 1
 
 abbrev second : Actor
-second = Process (record { object = 2; place = 3 })
-
-abbrev made : ℕ → ℕ → ℕ → Actor → ℕ → Call → Reply → Entry
-made stamp object place actor span call reply =
-    record { stamp = stamp; object = object; place = place; seat = 0; actor = actor; span = span; call = call; reply = reply }
+second = born_at 2 3
 
 abbrev key : List ℕ
 key = codes "k"

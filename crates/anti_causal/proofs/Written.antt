@@ -19,7 +19,7 @@ use Rattle.anti_trace.specs.Traces.{entries_on, is_on}
 use Rattle.anti_causal.specs.Words.{id_written, kept_with, wrote}
 use Rattle.anti_causal.specs.Carried.{Brought, carried_at}
 use Rattle.anti_causal.proofs.Facts.{Facts}
-use Rattle.anti_causal.proofs.Ids.{is_version}
+use Rattle.anti_causal.proofs.Ids.{in_id_at}
 use Rattle.anti_causal.proofs.Known.{forward, keeps}
 use Rattle.anti_causal.proofs.Causes.{brought_was_written}
 
@@ -52,7 +52,7 @@ is_row w r = (r.version == w.version) && bytes_eq r.key w.key
 
 its_row : (o : ℕ) (c : Call) (r : Reply) (w : WriteId) → has_id w (id_written o c r) ≡ true → (o ≡ w.store) × (list_any (is_row w) (stored.wrote c r) ≡ true)
 its_row o (calls.Write key value lineage) (replies.Written name version) w has =
-    let is = is_version o name version w has in
+    let is = (in_id_at w o name version has).1 in
     let number : version ≡ w.version = ap (λ (i : WriteId). i.version) (sym is) in
     let named = (bytes_eq-Decides name w.key).1 (ap (λ (i : WriteId). i.key) (sym is)) in
     let both = and_from (version == w.version) (bytes_eq name w.key) (eq-eqb version w.version number) named in

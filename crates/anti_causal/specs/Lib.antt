@@ -1,4 +1,5 @@
 pub mod Words
+pub mod Reads
 pub mod Causal
 pub mod Carried
 pub mod Settled

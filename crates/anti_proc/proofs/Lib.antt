@@ -9,6 +9,7 @@ pub mod Knowing
 pub mod KnownCalls
 pub mod Lineages
 pub mod Looking
+pub mod LooksAreDue
 pub mod Owed
 pub mod Placed
 pub mod Plans
