@@ -1,0 +1,8 @@
+mod Cuts
+mod Listing
+mod Placing
+mod Readings
+mod Missed
+pub mod Pasts
+pub mod Chains
+mod Serial
