@@ -1,5 +1,5 @@
 -- A walk that has come to the entry at a place of a legal trace.
-use Rattle.std.proofs.Common.{◌≡◌, ℕ, true, false, nat_eq, List, take, refl, sym, ap, ◌∙◌, subst, inl, inr}
+use Rattle.std.proofs.Common.{◌≡◌, ℕ, true, false, nat_eq, List, take, refl, sym, ap, ◌∙◌, inl, inr}
 use Rattle.std.specs.Prelude.{IsTrue, Some, slice_get}
 use Rattle.std.proofs.lemmas.Bool.{and_from, eq-eqb}
 use Rattle.anti_kind.specs.declared.actor.Actor.{Actor}
@@ -18,39 +18,35 @@ use Rattle.anti_causal.proofs.Processes.{IsAsked, IsBorn, hands_asked, of_proces
 use Rattle.anti_past.specs.inner.Walking.{IsAskedNext}
 use Rattle.anti_past.proofs.Fronts.{legal_before}
 
-module _ (app : App) (trace entries : List Entry) (same : entries ≡ trace) (legal : IsLegalTrace app trace) (j : ℕ) (all : List AtObject)
-    (are : AreProcessesOf app all (take j entries)) where
-  are_here : AreProcessesOf app all (take j trace)
-  are_here = subst (λ (es : List Entry). AreProcessesOf app all (take j es)) same are
+-- the processes are those of a trace
+pub of_front : (app : App) (trace : List Entry) (j : ℕ) (all : List AtObject) (e : Entry) → IsAskedNext app trace j all e → AreOfSome all
+of_front app trace j all e n = record { app = app; trace = take j trace; legal = legal_before app trace j n.legal; are = n.are }
 
-  -- the processes are those of a trace
-  pub of_front : AreOfSome all
-  of_front = record { app = app; trace = take j trace; legal = legal_before app trace j legal; are = are_here }
+module _ (app : App) (sound : IsTrue (is_sound app)) (trace : List Entry) (legal : IsLegalTrace app trace) (j : ℕ) (e : Entry)
+    (at : slice_get trace j ≡ Some e) (all : List AtObject) (are : AreProcessesOf app all (take j trace)) where
+  asked_next : IsAsked app trace j e → IsAskedNext app trace j all e
+  asked_next a = record { sound = sound; legal = legal; there = at; are = are; ask = a.ask; asked = a.asked }
 
-  -- the entry is what its process asks for
-  pub asked_next : (e : Entry) → IsTrue (is_sound app) → slice_get trace j ≡ Some e → IsAsked app trace j e → IsAskedNext app trace j all e
-  asked_next e sound at a = record { sound = sound; legal = legal; there = at; are = are_here; ask = a.ask; asked = a.asked }
+  -- An entry of a process that is not its birth is what the process asks for.
+  pub no_birth_asked : (is_process e.actor ≡ true) × (is_birth e ≡ false) → IsAskedNext app trace j all e
+  no_birth_asked its =
+      elim (of_process app trace legal j e at its.0) [
+        | inl born ↦ absurd (let both : true ≡ false = sym (is_first born) ∙ its.1 in cc)
+        | inr asked ↦ asked_next asked
+      ]
+    where
+      is_first : IsBorn trace j e → is_birth e ≡ true
+      is_first born =
+          ap (λ (a : Actor). is_started_by a e) born.named
+          ∙ and_from (nat_eq e.object e.object) (nat_eq e.place e.place) (eq-eqb e.object e.object refl) (eq-eqb e.place e.place refl)
 
--- An entry of a process that is not its birth is what the process asks for.
-pub no_birth : (app : App) (trace : List Entry) → IsLegalTrace app trace → (j : ℕ) (e : Entry) → slice_get trace j ≡ Some e
-    → (is_process e.actor ≡ true) × (is_birth e ≡ false) → IsAsked app trace j e
-no_birth app trace legal j e at its =
-    elim (of_process app trace legal j e at its.0) [
-      | inl born ↦ absurd (let both : true ≡ false = sym (is_first born) ∙ its.1 in cc)
-      | inr asked ↦ asked
-    ]
-  where
-    is_first : IsBorn trace j e → is_birth e ≡ true
-    is_first born =
-        ap (λ (a : Actor). is_started_by a e) born.named
-        ∙ and_from (nat_eq e.object e.object) (nat_eq e.place e.place) (eq-eqb e.object e.object refl) (eq-eqb e.place e.place refl)
+  -- So is an entry at which all is to be carried.
+  pub checked_asked : hands_all e.call ≡ true → IsAskedNext app trace j all e
+  checked_asked on = asked_next (hands_asked app trace legal j e at on)
 
--- So is a read.
-pub read_asked : (app : App) (trace : List Entry) → IsLegalTrace app trace → (j : ℕ) (e : Entry) → slice_get trace j ≡ Some e → reads e.call ≡ true → IsAsked app trace j e
-read_asked app trace legal j e at is = hands_asked app trace legal j e at (by_call e.call is)
-  where
-    by_call : (call : Call) → reads call ≡ true → hands_all call ≡ true
-    by_call (calls.Read region key) is = refl
-    by_call (calls.Scan region prefix) is = refl
-    by_call (calls.Poll region key) is = refl
-    by_call call is = absurd (cc)
+-- Of these are the reads.
+pub read_hands : (call : Call) → reads call ≡ true → hands_all call ≡ true
+read_hands (calls.Read region key) is = refl
+read_hands (calls.Scan region prefix) is = refl
+read_hands (calls.Poll region key) is = refl
+read_hands call is = absurd (cc)

@@ -9,7 +9,7 @@ use Rattle.anti_ids.specs.Ids.{has_id}
 use Rattle.anti_ids.specs.declared.id.WriteId.{WriteId}
 use Rattle.anti_kind.specs.declared.entry.Entry.{Entry}
 use Rattle.anti_app.specs.declared.app.App.{App}
-use Rattle.anti_causal.proofs.Coming.{has_append}
+use Rattle.anti_causal.proofs.Ids.{has_append}
 use Rattle.anti_past.specs.declared.came.AllCame.{AllCame}
 use Rattle.anti_past.specs.declared.came.Came.{Came}
 use Rattle.anti_past.specs.declared.keys.Key.{Key}

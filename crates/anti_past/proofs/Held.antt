@@ -1,7 +1,7 @@
 -- Whether ids are all in a lineage, in the parts of lists.
 use Rattle.std.proofs.Common.{◌≡◌, ℕ, ◌&&◌, ◌++◌, Bool, true, false, List, [], ◌∷◌, refl, sym, ap, ◌∙◌, inl, inr}
 use Rattle.std.specs.List.{list_all}
-use Rattle.std.proofs.lemmas.Bool.{and_parts, or_cases, or_left, or_right}
+use Rattle.std.proofs.lemmas.Bool.{and_from, and_parts, or_cases, or_left, or_right}
 use Rattle.std.proofs.lemmas.List.Folds.{list_all-append}
 use Rattle.anti_ids.specs.Ids.{has_id, is_id}
 use Rattle.anti_ids.specs.List.{Listed}
@@ -31,17 +31,25 @@ holds_rows_ids lineage store (row ∷ rows) =
     holds_both lineage (row_ids store row) (rows_ids store rows)
     ∙ ap (λ (t : Bool). holds lineage (row_ids store row) && t) (holds_rows_ids lineage store rows)
 
--- Where they are, each of them is in the lineage; else one of them is not.
-module _ (lineage : List WriteId) where
-  pub held_each : (ids : List WriteId) → holds lineage ids ≡ true → (w : WriteId) → has_id w ids ≡ true → has_id w lineage ≡ true
-  held_each [] held w has = absurd (cc)
-  held_each (x ∷ xs) held w has =
-      let both = and_parts (has_id x lineage) (holds lineage xs) held in
-      elim (or_cases (is_id w x) (has_id w xs) has) [
-        | inl first ↦ ap (λ (i : WriteId). has_id i lineage) (same_id w x first) ∙ both.0
-        | inr later ↦ held_each xs both.1 w later
+-- what is so of all ids is so of each that is among them, and the other way round
+module _ (p : WriteId → Bool) where
+  pub all_has : (ids : List WriteId) → list_all p ids ≡ true → (w : WriteId) → has_id w ids ≡ true → p w ≡ true
+  all_has [] all w has = absurd (cc)
+  all_has (i ∷ is) all w has =
+      let parts = and_parts (p i) (list_all p is) all in
+      elim (or_cases (is_id w i) (has_id w is) has) [
+        | inl same ↦ ap p (same_id w i same) ∙ parts.0
+        | inr later ↦ all_has is parts.1 w later
       ]
 
+  pub has_all : (ids : List WriteId) → ((w : WriteId) → has_id w ids ≡ true → p w ≡ true) → list_all p ids ≡ true
+  has_all [] each = refl
+  has_all (i ∷ is) each =
+      and_from (p i) (list_all p is) (each i (or_left (is_id i i) (has_id i is) (is_id-itself i)))
+      (has_all is (λ w has. each w (or_right (is_id w i) (has_id w is) has)))
+
+-- where not all are in a lineage, one of them is not
+module _ (lineage : List WriteId) where
   pub lost_one : (ids : List WriteId) → holds lineage ids ≡ false → (w : WriteId) × (has_id w ids ≡ true) × (has_id w lineage ≡ false)
   lost_one [] lost = absurd (cc)
   lost_one (x ∷ xs) lost = by_test (has_id x lineage) refl lost (λ rest. lost_one xs rest)

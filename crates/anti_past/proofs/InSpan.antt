@@ -1,8 +1,7 @@
 -- The entries of a span, by its key.
-use Rattle.std.proofs.Common.{◌≡◌, ℕ, true, false, ◌&&◌, List, refl, sym, ap, ◌∙◌, subst, eqb-true}
+use Rattle.std.proofs.Common.{◌≡◌, ℕ, ◌<◌, Bool, true, false, cond, ◌&&◌, refl, sym, ap, ◌∙◌, subst, eqb-true}
 use Rattle.std.specs.Prelude.{◌==◌, Option, Some, None}
 use Rattle.std.specs.Cmp.{both_ways}
-use Rattle.std.specs.List.{list_any}
 use Rattle.std.specs.Option.{option_map_or}
 use Rattle.std.proofs.lemmas.Bool.{and_from, and_parts, eq-eqb}
 use Rattle.anti_kind.specs.declared.actor.Actor.{Actor}
@@ -11,10 +10,11 @@ use Rattle.anti_kind.specs.declared.actor.Birth.{Birth}
 use Rattle.anti_kind.specs.declared.entry.Entry.{Entry}
 use Rattle.anti_trace.specs.Traces.{is_by, same_actor}
 use Rattle.anti_trace.proofs.Puts.{same_actor_itself, same_actor_true}
+use Rattle.anti_causal.specs.Causal.{Earlier, is_process}
+use Rattle.anti_causal.specs.Reads.{is_read_of}
 use Rattle.anti_causal.specs.Words.{reads}
-use Rattle.anti_past.specs.Spans.{has_read}
 use Rattle.anti_past.specs.declared.keys.Key.{Key}
-use Rattle.anti_past.specs.inner.Keys.{birth_in, is_in, is_read_in, key_by, key_of, same_key, span_of}
+use Rattle.anti_past.specs.inner.Keys.{birth_in, is_in, is_read_in, key_by, key_of, read_key, same_key}
 use Rattle.anti_past.proofs.KeyOrder.{same_key_is, same_key_itself}
 
 -- ---- the key of an entry
@@ -45,13 +45,20 @@ by_actor (Process b) span k =
 by_actor (Carrier number) span k = refl
 by_actor Newborn span k = refl
 
+-- a process has a key in each of its spans
+pub no_process : (a : Actor) (span : ℕ) → key_by a span ≡ None → is_process a ≡ true → ⊥
+no_process (Process b) span none is = absurd (cc)
+no_process (Carrier number) span none is = absurd (cc)
+no_process Newborn span none is = absurd (cc)
+
 -- ---- the entries of a span
 
 pub in_is : (k : Key) (e : Entry) → is_in k e ≡ (is_by (Process (birth_in k)) e && e.span == k.span)
 in_is k e = by_actor e.actor e.span k
 
-pub read_in_is : (k : Key) (trace : List Entry) → list_any (is_read_in k) trace ≡ has_read trace (span_of k)
-read_in_is k trace = λ i. list_any (λ (e : Entry). reads e.call && in_is k e i) trace
+-- the reads of a span, by its key and by its birth and number
+pub read_in_is : (k : Key) → is_read_in k ≡ is_read_of (birth_in k) k.span
+read_in_is k = λ i. λ (e : Entry). reads e.call && in_is k e i
 
 -- an entry with a key is in a span just where the key is the span's
 pub in_by_key : (e : Entry) (key : Key) → key_of e ≡ Some key → (q : Key) → is_in q e ≡ same_key key q
@@ -66,3 +73,43 @@ key_in e q is = by_key (key_of e) refl is
     by_key : (found : Option Key) → key_of e ≡ found → option_map_or (λ (k : Key). same_key k q) found false ≡ true → key_of e ≡ Some q
     by_key None none is = absurd (cc)
     by_key (Some key) some is = some ∙ ap Some (same_key_is key q is)
+
+-- ---- earlier entries of the same span
+
+module _ (q : Key) (i : ℕ) (a : Entry) (j : ℕ) (e : Entry) (is : key_of e ≡ Some q) where
+  pub earlier_from : is_in q a ≡ true → i < j → Earlier i a j e
+  earlier_from within before =
+      let own = key_by_is e.actor e.span q is in
+      let its = key_by_is a.actor a.span q (key_in a q within) in
+      record { before = before; process = ap is_process its.0; actor = its.0 ∙ sym own.0; span = its.1 ∙ sym own.1 }
+
+  pub earlier_in : Earlier i a j e → is_in q a ≡ true
+  earlier_in earlier =
+      let one : key_of a ≡ Some q = ap (λ (x : Actor). key_by x a.span) earlier.actor ∙ ap (λ (n : ℕ). key_by e.actor n) earlier.span ∙ is in
+      in_by_key a q one q ∙ same_key_itself q
+
+-- ---- reads
+
+-- whether an entry reads in a span, by the key under which it reads
+pub read_by_key : (e : Entry) (found : Option Key) → read_key e ≡ found → (q : Key) → is_read_in q e ≡ option_map_or (λ k. same_key k q) found false
+read_by_key e found is q = by_test (reads e.call) (key_of e) ∙ ap (λ o. option_map_or (λ (k : Key). same_key k q) o false) is
+  where
+    by_test : (t : Bool) (o : Option Key) → (t && option_map_or (λ k. same_key k q) o false) ≡ option_map_or (λ k. same_key k q) (cond t o None) false
+    by_test true o = refl
+    by_test false o = refl
+
+-- what has such a key is a read, in the span of the key
+pub read_keyed : (e : Entry) (q : Key) → read_key e ≡ Some q → (reads e.call ≡ true) × (key_of e ≡ Some q)
+read_keyed e q is = by_test (reads e.call) refl is
+  where
+    by_test : (t : Bool) → reads e.call ≡ t → cond t (key_of e) None ≡ Some q → (reads e.call ≡ true) × (key_of e ≡ Some q)
+    by_test true on some = (on, some)
+    by_test false off some = absurd (cc)
+
+-- and each read of a process has one
+pub no_read : (e : Entry) → read_key e ≡ None → (reads e.call ≡ true → is_process e.actor ≡ true) → reads e.call ≡ false
+no_read e none process = by_test (reads e.call) refl none
+  where
+    by_test : (t : Bool) → reads e.call ≡ t → cond t (key_of e) None ≡ None → reads e.call ≡ false
+    by_test true on its = absurd (no_process e.actor e.span its (process on))
+    by_test false off its = off

@@ -1,11 +1,14 @@
-pub mod Fronts
-pub mod Asked
-pub mod CameBefore
-pub mod Settledness
-mod Held
-mod KeyOrder
-mod InSpan
-mod SpansRead
+mod Asked
+mod CameBefore
+mod Finding
+mod Fronts
 mod Grown
-mod Into
+mod Held
+mod InSpan
+mod KeyOrder
 mod Losing
+mod MarkPlaces
+pub mod OnePlace
+mod Told
+mod Settledness
+mod SpansRead

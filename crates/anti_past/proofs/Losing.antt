@@ -6,38 +6,29 @@ use Rattle.std.specs.List.{filter}
 use Rattle.std.specs.Option.{option_map_or}
 use Rattle.std.proofs.lemmas.Bool.{cases_lt, or_left, or_right}
 use Rattle.std.proofs.lemmas.Grind.{flat_map-append}
-use Rattle.std.proofs.lemmas.List.{take_more}
 use Rattle.std.proofs.lemmas.List.Elements.{filter-append}
-use Rattle.std.proofs.lemmas.Option.{get_or_from_slice_get, slice_get_within}
+use Rattle.std.proofs.lemmas.Option.{slice_get_within}
 use Rattle.anti_ids.specs.Ids.{has_id}
 use Rattle.anti_ids.specs.declared.id.WriteId.{WriteId}
-use Rattle.anti_kind.specs.declared.actor.Actor.{Actor}
-use Rattle.anti_kind.specs.declared.actor.Actor.TheVariants.{Carrier, Process, Newborn}
 use Rattle.anti_kind.specs.declared.entry.Entry.{Entry}
 use Rattle.anti_app.specs.declared.app.App.{App}
 use Rattle.anti_trace.specs.Legal.{IsLegalTrace}
 use Rattle.anti_causal.specs.Words.{brings, hands_all}
 use Rattle.anti_causal.specs.Causal.{is_process}
 use Rattle.anti_causal.specs.Carried.{Brought, IsLossless, carried_at}
-use Rattle.anti_causal.proofs.Coming.{has_append}
-use Rattle.anti_causal.proofs.Ids.{has_joined}
+use Rattle.anti_causal.proofs.Ids.{has_append, has_joined}
 use Rattle.anti_causal.proofs.Lists.{IsKept, cut_of, kept_at, kept_between, same_at}
 use Rattle.anti_causal.proofs.Processes.{came}
 use Rattle.anti_past.specs.Losses.{Loses}
 use Rattle.anti_past.specs.declared.came.AllCame.{AllCame}
 use Rattle.anti_past.specs.declared.keys.Key.{Key}
 use Rattle.anti_past.specs.inner.Came.{IsKnown, NoneLoses, brought_at, came_to, holds, ids_known}
-use Rattle.anti_past.specs.inner.Keys.{birth_in, is_in, key_by, key_of, same_key}
+use Rattle.anti_past.specs.inner.Keys.{is_in, key_of, same_key}
+use Rattle.anti_past.proofs.Fronts.{taken}
 use Rattle.anti_past.proofs.Grown.{has_alone, or_none}
-use Rattle.anti_past.proofs.Held.{held_each, lost_one}
-use Rattle.anti_past.proofs.InSpan.{in_by_key, in_none, key_by_is, key_in}
-use Rattle.anti_past.proofs.KeyOrder.{same_key_is, same_key_itself}
-
--- a process has a key in each of its spans
-no_process : (a : Actor) (span : ℕ) → key_by a span ≡ None → is_process a ≡ true → ⊥
-no_process (Process b) span none is = absurd (cc)
-no_process (Carrier number) span none is = absurd (cc)
-no_process Newborn span none is = absurd (cc)
+use Rattle.anti_past.proofs.Held.{all_has, lost_one}
+use Rattle.anti_past.proofs.InSpan.{earlier_from, earlier_in, in_by_key, in_none, no_process}
+use Rattle.anti_past.proofs.KeyOrder.{same_key_is}
 
 module _ (app : App) (trace : List Entry) (k : ℕ) (e : Entry) (at : slice_get trace k ≡ Some e) where
   -- ---- what came to a span
@@ -52,12 +43,9 @@ module _ (app : App) (trace : List Entry) (k : ℕ) (e : Entry) (at : slice_get 
       by_test true = has_alone w (brings app e)
       by_test false = refl
 
-  pub taken : take (k + 1) trace ≡ take k trace ++ e ∷ []
-  taken = take_more trace k e (slice_get_within trace k e at) ∙ ap (λ (x : Entry). take k trace ++ x ∷ []) (get_or_from_slice_get trace k e e at)
-
   came_more : (q : Key) (w : WriteId) → has_id w (came_to app q (take (k + 1) trace)) ≡ (has_id w (came_to app q (take k trace)) || is_in q e && has_id w (brings app e))
   came_more q w =
-      ap (λ (es : List Entry). has_id w (came_to app q es)) taken
+      ap (λ (es : List Entry). has_id w (came_to app q es)) (taken trace k e at)
       ∙ ap (has_id w) (came_behind q (take k trace) (e ∷ []))
       ∙ has_append w (came_to app q (take k trace)) (came_to app q (e ∷ []))
       ∙ ap (λ (t : Bool). has_id w (came_to app q (take k trace)) || t) (came_alone q w)
@@ -96,13 +84,9 @@ module _ (app : App) (trace : List Entry) (k : ℕ) (e : Entry) (at : slice_get 
 
     -- ---- what came to its span
 
-    its : (e.actor ≡ Process (birth_in key)) × (e.span ≡ key.span)
-    its = key_by_is e.actor e.span key is
-
     brought_came : (w : WriteId) → Brought app trace k e w → has_id w (came_to app key (take k trace)) ≡ true
     brought_came w b =
-        let one : key_of b.entry ≡ Some key = ap (λ (a : Actor). key_by a b.entry.span) b.earlier.actor ∙ ap (λ (n : ℕ). key_by e.actor n) b.earlier.span ∙ is in
-        let within : is_in key b.entry ≡ true = in_by_key b.entry key one key ∙ same_key_itself key in
+        let within : is_in key b.entry ≡ true = earlier_in key b.place b.entry k e is b.earlier in
         let kept = kept_between (is_in key) trace b.place k b.entry b.there within b.earlier.before in
         let front : List WriteId = came_to app key (take b.place trace) in
         let later : List WriteId = flat_map (brings app) kept.0 in
@@ -118,19 +102,8 @@ module _ (app : App) (trace : List Entry) (k : ℕ) (e : Entry) (at : slice_get 
         let a : Entry = joined.0 in
         let cut = cut_of (filter (is_in key) (take k trace)) a joined.1 in
         let kept : IsKept (is_in key) trace k cut.0 a = kept_at (is_in key) trace k cut.0 a cut.1 cut.2 in
-        let other = key_by_is a.actor a.span key (key_in a key kept.passes) in
-        record {
-          place = kept.place;
-          entry = a;
-          there = kept.there;
-          earlier = record {
-            before = kept.early;
-            process = ap is_process other.0;
-            actor = other.0 ∙ sym its.0;
-            span = other.1 ∙ sym its.1;
-          };
-          came = joined.2;
-        }
+        let earlier = earlier_from key kept.place a k e is kept.passes kept.early in
+        record { place = kept.place; entry = a; there = kept.there; earlier = earlier; came = joined.2 }
 
     -- ---- an entry at which all is to be carried
 
@@ -147,7 +120,7 @@ module _ (app : App) (trace : List Entry) (k : ℕ) (e : Entry) (at : slice_get 
 
       module _ (held : holds carried (ids_known app trace all key) ≡ true) where
         came_held : (w : WriteId) → has_id w (came_to app key (take k trace)) ≡ true → has_id w carried ≡ true
-        came_held w has = held_each carried (ids_known app trace all key) held w (known key w ∙ has)
+        came_held w has = all_has (λ i. has_id i carried) (ids_known app trace all key) held w (known key w ∙ has)
 
         pub held_lost : Loses app trace k e → ⊥
         held_lost loses =

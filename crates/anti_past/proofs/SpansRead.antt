@@ -1,22 +1,32 @@
--- The spans of keys that were found are those with a read.
-use Rattle.std.proofs.Common.{◌≡◌, ℕ, ◌+◌, ◌<◌, ◌||◌, List, map, length, get_or, sym, ap, ◌∙◌, subst, arith}
-use Rattle.std.specs.Prelude.{Contains, Some, slice_get, take}
-use Rattle.std.specs.List.{list_any}
+-- The reads that are noted under their spans are the reads of these spans.
+use Rattle.std.proofs.Common.{◌≡◌, ℕ, ◌+◌, ◌<◌, ◌||◌, ◌++◌, Bool, true, false, cond, List, [], ◌∷◌, map, length, get_or, refl, sym, ap, ◌∙◌, subst, arith}
+use Rattle.std.specs.Prelude.{Contains, Option, None, Some, is_some, option_map, slice_get}
+use Rattle.std.specs.BTreeMap as tree
+use Rattle.std.specs.Global.{Vec}
+use Rattle.std.specs.List.{filter, list_any, range_with_len}
+use Rattle.std.specs.Option.{option_map_or}
 use Rattle.std.specs.Ordering.{eq_by_cmp}
 use Rattle.std.specs.List.Sorted.{IsStrictlySortedBy}
 use Rattle.std.proofs.lemmas.Cmp.{eq_by_cmp_equiv}
-use Rattle.std.proofs.lemmas.List.{get_or-map, length-map}
-use Rattle.std.proofs.lemmas.List.Folds.{list_any_more}
-use Rattle.std.proofs.lemmas.Option.{get_or_from_slice_get, slice_get_within}
+use Rattle.std.proofs.lemmas.List.{append-nil, get_or-map, length-map, map-id, take_all}
+use Rattle.std.proofs.lemmas.List.Elements.{All-map, All-weaker, filter-append}
+use Rattle.std.proofs.lemmas.List.FromFn.{map-range_with_len_more}
 use Rattle.std.proofs.lemmas.Map.Keys.{Less-from_sorted}
-use Rattle.std.proofs.lemmas.Map.Views.{Contains-from_any, list_any-from_Contains}
+use Rattle.std.proofs.lemmas.Map.Made.{is_some-lookup}
+use Rattle.std.proofs.lemmas.Map.Views.{All-found, Contains-from_any, list_any-from_Contains}
 use Rattle.anti_kind.specs.declared.entry.Entry.{Entry}
-use Rattle.anti_past.specs.Spans.{AreSpansOf, IsBefore, has_read}
+use Rattle.anti_causal.specs.Reads.{is_at, reads_of}
+use Rattle.anti_past.specs.Spans.{AreReadsBySpan, AreSpansOf, IsBefore, has_read}
 use Rattle.anti_past.specs.declared.keys.Key.{Key}
+use Rattle.anti_past.specs.declared.reading.ReadsOfSpan.{ReadsOfSpan}
 use Rattle.anti_past.specs.declared.reading.Span.{Span}
-use Rattle.anti_past.specs.inner.Keys.{is_read_in, key_cmp, span_of}
+use Rattle.anti_past.specs.inner.Keys.{is_read_in, key_cmp, same_key, span_of}
+use Rattle.anti_past.specs.inner.Reading.{AreNoted, filled, noted_for, reads_before, reads_under, with_place}
+use Rattle.anti_past.proofs.Fronts.{any_more}
 use Rattle.anti_past.proofs.InSpan.{read_in_is}
 use Rattle.anti_past.proofs.KeyOrder.{before_is, key_total, same_key_is}
+
+-- ---- the spans of keys
 
 abbrev key_for : Span → Key
 key_for s = record { object = s.birth.object; place = s.birth.place; span = s.span }
@@ -36,7 +46,7 @@ module _ (keys : List Key) where
       let count : length (map span_of keys) ≡ length keys = length-map keys span_of in
       (i, omega arith, span_at i s low ∙ ap span_of is)
 
-  pub are_spans : (trace : List Entry) → IsStrictlySortedBy key_cmp keys
+  are_spans : (trace : List Entry) → IsStrictlySortedBy key_cmp keys
       → ((q : Key) → list_any (eq_by_cmp key_cmp q) keys ≡ list_any (is_read_in q) trace) → AreSpansOf trace (map span_of keys)
   are_spans trace ordered found = record {
     ascending = λ i j s less low.
@@ -46,15 +56,122 @@ module _ (keys : List Key) where
         (subst (λ (b : Span). IsBefore (span_of (get_or keys i (key_for s))) b) (sym (span_at j s within))
         (before_is (get_or keys i (key_for s)) (get_or keys j (key_for s)) (Less-from_sorted key_cmp keys i j (key_for s) ordered less within)));
     just = λ s.
-        let same : list_any (eq_by_cmp key_cmp (key_for s)) keys ≡ has_read trace s = found (key_for s) ∙ read_in_is (key_for s) trace in (
+        let same : list_any (eq_by_cmp key_cmp (key_for s)) keys ≡ has_read trace s =
+        found (key_for s) ∙ ap (λ test. list_any test trace) (read_in_is (key_for s)) in (
           λ among. sym same ∙ list_any-from_Contains (eq_by_cmp_equiv key_total) (key_for s) keys (contains_key s among),
           λ read. contains_span s (Contains-from_any same_key_is (key_for s) keys (same ∙ read)),
         );
   }
 
--- the reads of one entry more
-pub reads_more : (q : Key) (trace : List Entry) (k : ℕ) (e : Entry) → slice_get trace k ≡ Some e
-    → list_any (is_read_in q) (take (k + 1) trace) ≡ (list_any (is_read_in q) (take k trace) || is_read_in q e)
-reads_more q trace k e at =
-    list_any_more (is_read_in q) trace k e (slice_get_within trace k e at)
-    ∙ ap (λ (x : Entry). list_any (is_read_in q) (take k trace) || is_read_in q x) (get_or_from_slice_get trace k e e at)
+-- ---- the places of reads
+
+range_more : (k : ℕ) → range_with_len 0 (k + 1) ≡ range_with_len 0 k ++ k ∷ []
+range_more k =
+    sym (map-id (range_with_len 0 (k + 1)))
+    ∙ map-range_with_len_more (λ (i : ℕ). i) 0 k k (omega arith)
+    ∙ ap (λ (is : List ℕ). is ++ k ∷ []) (map-id (range_with_len 0 k))
+
+-- one entry more
+module _ (trace : List Entry) (k : ℕ) (e : Entry) (at : slice_get trace k ≡ Some e) (q : Key) where
+  pub reads_more : reads_before trace (k + 1) q ≡ reads_before trace k q ++ cond (is_read_in q e) (k ∷ []) []
+  reads_more =
+      ap (filter (is_at (is_read_in q) trace)) (range_more k)
+      ∙ filter-append (is_at (is_read_in q) trace) (range_with_len 0 k) (k ∷ [])
+      ∙ ap (λ found. reads_before trace k q ++ cond (option_map_or (is_read_in q) found false) (k ∷ []) []) at
+
+filled_more : (t : Bool) (k : ℕ) (is : List ℕ) → with_place t k (filled is) ≡ filled (is ++ cond t (k ∷ []) [])
+filled_more true k [] = refl
+filled_more true k (i ∷ is) = refl
+filled_more false k is = ap filled (sym (append-nil is))
+
+-- ---- what a map notes
+
+some_more : (t : Bool) (k : ℕ) (noted : Option (List ℕ)) → is_some (with_place t k noted) ≡ (is_some noted || t)
+some_more true k None = refl
+some_more true k (Some is) = refl
+some_more false k None = refl
+some_more false k (Some is) = refl
+
+-- one entry more
+pub noted_more : (trace : List Entry) (k : ℕ) (e : Entry) → slice_get trace k ≡ Some e → (old new : tree.BTreeMap Key (Vec ℕ)) → AreNoted trace k old
+    → ((q : Key) → noted_for new q ≡ with_place (is_read_in q e) k (noted_for old q)) → AreNoted trace (k + 1) new
+noted_more trace k e at old new noted adds = record {
+  places = λ q.
+      adds q
+      ∙ ap (with_place (is_read_in q e) k) (noted.places q)
+      ∙ filled_more (is_read_in q e) k (reads_before trace k q)
+      ∙ ap filled (sym (reads_more trace k e at q));
+  any = λ q.
+      ap is_some (adds q)
+      ∙ some_more (is_read_in q e) k (noted_for old q)
+      ∙ ap (λ (t : Bool). t || is_read_in q e) (noted.any q)
+      ∙ sym (any_more trace k e at (is_read_in q));
+}
+
+-- the first place of a span
+pub noted_first : (m n : tree.BTreeMap Key (Vec ℕ)) (key : Key) (reads : Vec ℕ) (is : List ℕ) → reads.items ≡ is → tree.Updates key_cmp m n key (Some reads)
+    → (q : Key) → noted_for n q ≡ cond (same_key key q) (Some is) (noted_for m q)
+noted_first m n key reads is same updates q =
+    ap (option_map (λ (v : Vec ℕ). v.items)) (updates.0 q) ∙ by_test (same_key key q) (tree.get key_cmp m q)
+  where
+    by_test : (t : Bool) (was : Option (Vec ℕ)) → option_map (λ (v : Vec ℕ). v.items) (cond t (Some reads) was) ≡ cond t (Some is) (option_map (λ (v : Vec ℕ). v.items) was)
+    by_test true was = ap Some same
+    by_test false was = refl
+
+module _ (m n : tree.BTreeMap Key (Vec ℕ)) (key : Key) (e : Entry) (k : ℕ) (read : (q : Key) → is_read_in q e ≡ same_key key q) where
+  pub noted_new : noted_for m key ≡ None → (q : Key) → noted_for n q ≡ cond (same_key key q) (Some (k ∷ [])) (noted_for m q)
+      → noted_for n q ≡ with_place (is_read_in q e) k (noted_for m q)
+  noted_new none q is = is ∙ by_test (same_key key q) refl ∙ ap (λ (t : Bool). with_place t k (noted_for m q)) (sym (read q))
+    where
+      by_test : (t : Bool) → same_key key q ≡ t → cond t (Some (k ∷ [])) (noted_for m q) ≡ with_place t k (noted_for m q)
+      by_test true on = ap (with_place true k) (sym none ∙ ap (noted_for m) (same_key_is key q on))
+      by_test false off = refl
+
+  -- and a further one
+  pub noted_further : (was now : Vec ℕ) → tree.get key_cmp m key ≡ Some was → now.items ≡ was.items ++ k ∷ [] → tree.Updates key_cmp m n key (Some now)
+      → (q : Key) → noted_for n q ≡ with_place (is_read_in q e) k (noted_for m q)
+  noted_further was now there more updates q =
+      noted_first m n key now (was.items ++ k ∷ []) more updates q
+      ∙ by_test (same_key key q) refl
+      ∙ ap (λ (t : Bool). with_place t k (noted_for m q)) (sym (read q))
+    where
+      by_test : (t : Bool) → same_key key q ≡ t → cond t (Some (was.items ++ k ∷ [])) (noted_for m q) ≡ with_place t k (noted_for m q)
+      by_test true on =
+          ap (λ found. with_place true k (option_map (λ (v : Vec ℕ). v.items) found)) (sym there)
+          ∙ ap (λ (z : Key). with_place true k (noted_for m z)) (same_key_is key q on)
+      by_test false off = refl
+
+-- ---- the entries of the map are the spans and their reads
+
+is_filled : (is js : List ℕ) → Some js ≡ filled is → js ≡ is
+is_filled [] js is = absurd (cc)
+is_filled (i ∷ is) js same = cc
+
+some_of : (found : Option (Vec ℕ)) → is_some (option_map (λ (v : Vec ℕ). v.items) found) ≡ is_some found
+some_of None = refl
+some_of (Some v) = refl
+
+spans_under : (es : List (Key × Vec ℕ)) → map (λ (s : ReadsOfSpan). s.span) (map reads_under es) ≡ map span_of (map (λ e. e.0) es)
+spans_under [] = refl
+spans_under (e ∷ es) = ap (λ (ss : List Span). span_of e.0 ∷ ss) (spans_under es)
+
+module _ (trace : List Entry) (n : ℕ) (m : tree.BTreeMap Key (Vec ℕ)) (whole : length trace ≡ n) (ordered : tree.IsOrdered key_cmp m) (noted : AreNoted trace n m) where
+  has_key : (q : Key) → list_any (eq_by_cmp key_cmp q) (tree.keys m) ≡ list_any (is_read_in q) trace
+  has_key q =
+      sym (is_some-lookup (eq_by_cmp key_cmp q) m.entries)
+      ∙ sym (some_of (tree.get key_cmp m q))
+      ∙ noted.any q
+      ∙ ap (list_any (is_read_in q)) (take_all n trace (omega arith))
+
+  its_reads : (e : Key × Vec ℕ) → tree.get key_cmp m e.0 ≡ Some e.1 → e.1.items ≡ reads_of trace (span_of e.0).birth (span_of e.0).span
+  its_reads e found =
+      is_filled (reads_before trace n e.0) e.1.items (sym (ap (option_map (λ (v : Vec ℕ). v.items)) found) ∙ noted.places e.0)
+      ∙ λ i. filter (is_at (read_in_is e.0 i) trace) (range_with_len 0 (sym whole i))
+
+  pub are_reads_by_span : AreReadsBySpan trace (map reads_under m.entries)
+  are_reads_by_span = record {
+    spans = subst (AreSpansOf trace) (sym (spans_under m.entries)) (are_spans (tree.keys m) trace ordered has_key);
+    reads = All-map (λ (s : ReadsOfSpan). s.reads.items ≡ reads_of trace s.span.birth s.span.span) reads_under m.entries
+        (All-weaker (λ (e : Key × Vec ℕ). tree.get key_cmp m e.0 ≡ Some e.1) (λ e. (reads_under e).reads.items ≡ reads_of trace (span_of e.0).birth (span_of e.0).span)
+        its_reads m.entries (All-found key_total m ordered));
+  }

@@ -1,3 +1,4 @@
 pub mod Losses
+pub mod Pasts
 pub mod Spans
 pub mod inner

@@ -1,4 +1,7 @@
 pub mod Came
+pub mod Found
 pub mod Keys
 pub mod Looking
+pub mod Marks
+pub mod Reading
 pub mod Walking

@@ -22,9 +22,6 @@ pub fn carried(alloc: Global, app: &App, trace: &Trace, index: u32) -> Result<Li
     ensures { IfOk result (λ lineage. (e : Entry) → slice_get trace.now index ≡ Some e
         → lineage ≡ carried_at app.now trace.now index e) }
 {
-    let processes = processes_before(alloc, app, trace.as_slice(), index)?;
-    match carried_into(&processes, trace.at(index)) {
-        Some(lineage) => lineage.copy(alloc),
-        None => unreachable!(),
-    }
+    let processes = processes_before(alloc, app, trace, index)?;
+    carried_into(&processes, trace.at(index)).copy(alloc)
 }

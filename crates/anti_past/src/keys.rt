@@ -1,6 +1,7 @@
 ghost use Rattle.std.specs.Prelude.{◌≡◌};
-ghost use Rattle.anti_past.specs.inner.Keys.{birth_in, key_of};
+ghost use Rattle.anti_past.specs.inner.Keys.{birth_in, key_of, read_key};
 
+use crate::calls::reads;
 use anti_kind::{Actor, Birth, Entry};
 
 /// A span of a process: the object and the place of the entry that started the process, and the number of the span.
@@ -22,6 +23,17 @@ pub fn key_of(entry: &Entry) -> Option<Key>
             span: entry.span,
         }),
         _ => None,
+    }
+}
+
+/// The span that an entry reads in, where it is a read of a process.
+pub fn read_key(entry: &Entry) -> Option<Key>
+    ensures { result ≡ read_key entry.now }
+{
+    if reads(&entry.call) {
+        key_of(entry)
+    } else {
+        None
     }
 }
 

@@ -1,38 +1,19 @@
-ghost use Rattle.std.specs.Prelude.{ℕ, ◌≡◌, ◌<◌, List, length, Some, IfOk, IsTrue, slice_get, take};
-ghost use Rattle.anti_kind.specs.declared.actor.Actor.TheVariants.{Process};
+ghost use Rattle.std.specs.Prelude.{◌≡◌, ◌<◌, length, Some, IfOk, IsTrue, slice_get, take};
 ghost use Rattle.anti_kind.specs.declared.entry.Entry.{Entry};
-ghost use Rattle.anti_app.specs.declared.app.App.{App};
 ghost use Rattle.anti_app.specs.Sound.{is_sound};
-ghost use Rattle.anti_causal.specs.Carried.{carried_at};
 ghost use Rattle.anti_trace.specs.Legal.{IsLegalTrace};
-ghost use Rattle.anti_trace.specs.inner.Living.{AreOfSome, AreProcessesOf, lists};
+ghost use Rattle.anti_trace.specs.inner.Living.{AreProcessesOf, lists};
 ghost use Rattle.anti_past.specs.Losses.{IsFirstLoss};
 ghost use Rattle.anti_past.specs.inner.Came.{IsKnown, IsToldLoss};
 
 use crate::calls::hands_all;
 use crate::came::AllCame;
 use crate::keys::key_of;
+use crate::walk::carried_into;
 use anti_app::{App, object_count};
-use anti_ids::{Copies, Lineage, NoMemory};
-use anti_kind::Birth;
+use anti_ids::{Copies, NoMemory};
 use anti_trace::{Mark, Processes, Trace};
 use std::alloc::Global;
-
-// The lineage that a process carries into its next entry.
-fn carried_into(alloc: Global, processes: &Processes, birth: Birth) -> Result<Lineage, NoMemory>
-    requires { AreOfSome (lists processes.now) }
-    ensures { (app : App) (trace : List Entry) (j : ℕ) (e : Entry) → IsTrue (is_sound app) → IsLegalTrace app trace
-        → AreProcessesOf app (lists processes.now) (take j trace) → slice_get trace j ≡ Some e → e.actor ≡ Process birth
-        → IfOk result (λ lineage. lineage ≡ carried_at app trace j e) }
-{
-    match processes.of(birth) {
-        Some(process) => match process.next() {
-            Some(asked) => asked.carried.copy(alloc),
-            None => Ok(Lineage::root(alloc)),
-        },
-        None => Ok(Lineage::root(alloc)),
-    }
-}
 
 // Whether an entry loses an id. Where it does not, what came to the spans is known behind it too.
 fn loses(
@@ -60,7 +41,7 @@ fn loses(
         came.add(alloc, key, index)?;
         return Ok(false);
     }
-    let carried = carried_into(alloc, processes, key.birth())?;
+    let carried = carried_into(processes, entry).copy(alloc)?;
     if !came.are_in(alloc, app, trace, &key, &carried)? {
         return Ok(true);
     }

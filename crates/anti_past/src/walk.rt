@@ -10,14 +10,14 @@ ghost use Rattle.anti_past.specs.inner.Walking.{IsAskedNext};
 use anti_app::{App, object_count};
 use anti_ids::{Lineage, NoMemory};
 use anti_kind::{Actor, Entry};
-use anti_trace::Processes;
+use anti_trace::{Processes, Trace};
 use std::alloc::Global;
 
 /// The processes of a legal trace as they are before the entry at an index.
 pub fn processes_before(
     alloc: Global,
     app: &App,
-    trace: &[Entry],
+    trace: &Trace,
     index: u32,
 ) -> Result<Processes, NoMemory>
     requires sound { IsTrue (is_sound app.now) }
@@ -26,15 +26,14 @@ pub fn processes_before(
     ensures { IfOk result (λ processes. AreProcessesOf app.now (lists processes) (take index trace.now)) }
 {
     let mut processes = Processes::new(alloc, object_count(app) as usize)?;
-    let before = &trace[..index as usize];
-    for entry in before {
-        processes.follow(alloc, app, entry)?;
+    for at in 0..index {
+        processes.follow(alloc, app, trace.at(at))?;
     }
     Ok(processes)
 }
 
-/// The lineage that the process of an entry carries into it, by the processes before it. There is one where the process asks for the entry.
-pub fn carried_into<'a>(processes: &'a Processes, entry: &Entry) -> Option<&'a Lineage>
+// The lineage that the process of an entry carries into its next call; `None` where there is no process, or no call.
+fn carried_next<'a>(processes: &'a Processes, entry: &Entry) -> Option<&'a Lineage>
     requires { AreOfSome (lists processes.now) }
     ensures { (app : App) (trace : Entries) (index : ℕ)
         → IsAskedNext app trace index (lists processes.now) entry.now
@@ -47,5 +46,19 @@ pub fn carried_into<'a>(processes: &'a Processes, entry: &Entry) -> Option<&'a L
             Some(asked.carried)
         }
         _ => None,
+    }
+}
+
+/// The lineage that the process of an entry carries into it, by the processes before it. The process asks for the entry.
+pub fn carried_into<'a>(processes: &'a Processes, entry: &Entry) -> &'a Lineage
+    requires { (app : App) × (trace : Entries) × (index : ℕ)
+        × IsAskedNext app trace index (lists processes.now) entry.now }
+    ensures { (app : App) (trace : Entries) (index : ℕ)
+        → IsAskedNext app trace index (lists processes.now) entry.now
+        → result.now ≡ carried_at app trace index entry.now }
+{
+    match carried_next(processes, entry) {
+        Some(lineage) => lineage,
+        None => unreachable!(),
     }
 }

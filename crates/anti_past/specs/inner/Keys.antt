@@ -1,5 +1,5 @@
 -- The spans of processes as the keys of maps and sets, in their order.
-use Rattle.std.specs.Prelude.{ℕ, ◌&&◌, Bool, false, Option, Some, None}
+use Rattle.std.specs.Prelude.{ℕ, ◌&&◌, Bool, false, cond, Option, Some, None}
 use Rattle.std.specs.Option.{option_map_or}
 use Rattle.std.specs.Ordering.{nat_cmp, ordering_then, is_eq}
 use Rattle.std.specs.declared.cmp.Ordering.{Ordering}
@@ -25,6 +25,10 @@ key_by _ span = None
 
 abbrev pub key_of : Entry → Option Key
 key_of e = key_by e.actor e.span
+
+-- the span that an entry reads in
+abbrev pub read_key : Entry → Option Key
+read_key e = cond (reads e.call) (key_of e) None
 
 -- whether an entry is in a span
 abbrev pub is_in : Key → Entry → Bool

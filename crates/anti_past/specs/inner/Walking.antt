@@ -1,5 +1,5 @@
--- What is known of an entry to which a walk along a trace has come.
-use Rattle.std.specs.Prelude.{ℕ, ◌≡◌, IsTrue, List, Some, slice_get, take}
+-- What is known of an entry to which a walk along a trace has come, and what is told of those before it.
+use Rattle.std.specs.Prelude.{ℕ, ◌≡◌, IsTrue, List, Option, Some, length, slice_get, take}
 use Rattle.anti_kind.specs.declared.entry.Entry.{Entry}
 use Rattle.anti_app.specs.declared.app.App.{App}
 use Rattle.anti_app.specs.Sound.{is_sound}
@@ -8,6 +8,8 @@ use Rattle.anti_trace.specs.Legal.{IsLegalTrace}
 use Rattle.anti_trace.specs.declared.processes.AtObject.{AtObject}
 use Rattle.anti_trace.specs.inner.Living.{AreProcessesOf}
 use Rattle.anti_causal.specs.Carried.{ask_at}
+use Rattle.anti_past.specs.Pasts.{IsPastOf}
+use Rattle.anti_past.specs.declared.before_reads.Past.{Past}
 
 -- The entry at place j of a legal trace is what its process asks for, and the processes stand for what comes before it.
 pub record IsAskedNext (app : App) (trace : List Entry) (j : ℕ) (processes : List AtObject) (e : Entry) : Type 0 where
@@ -17,3 +19,8 @@ pub record IsAskedNext (app : App) (trace : List Entry) (j : ℕ) (processes : L
   pub are : AreProcessesOf app processes (take j trace)
   pub ask : Ask
   pub asked : ask_at app trace j e ≡ Some ask
+
+-- what is told of each entry before place k
+pub record ArePastsBefore (app : App) (trace : List Entry) (k : ℕ) (pasts : List (Option Past)) : Type 0 where
+  pub count : length pasts ≡ k
+  pub each : (j : ℕ) (e : Entry) (past : Option Past) → slice_get trace j ≡ Some e → slice_get pasts j ≡ Some past → IsPastOf app trace j e past

@@ -1,11 +1,8 @@
-use Rattle.std.proofs.Common.{suc, ◌≤◌, Bool, List, length, take, drop, refl, sym, subst, arith}
-use Rattle.anti_kind.specs.declared.entry.Entry.{Entry}
+use Rattle.std.proofs.Common.{◌≤◌, Bool, length, refl, subst, arith}
 use Rattle.anti_app.proofs.Runnable.{can_run}
-use Rattle.anti_trace.specs.Legal.{IsLegalTrace}
-use Rattle.anti_trace.specs.inner.Living.{AreProcessesOf}
-use Rattle.anti_causal.proofs.Lists.{cut_at}
 use Rattle.anti_past.specs.inner.Came.{IsToldLoss}
-use Rattle.anti_past.proofs.Losing.{lossless, none_more, taken}
+use Rattle.anti_past.proofs.Fronts.{followed, next_of}
+use Rattle.anti_past.proofs.Losing.{lossless, none_more}
 use Rattle.anti_past.proofs.losses.first_loss.Goals as goal
 
 pub object_count-requires : goal.object_count-requires
@@ -28,15 +25,7 @@ returns-then-branch c =
 
 pub follow-requires-clause-next : goal.follow-requires-clause-next
 follow-requires-clause-next c =
-    let trace = c.args.trace.now in
-    let k = c.loop-index.index in
-    let e = c.at-entry.result.now in
-    record {
-      before = take k trace;
-      after = drop (suc k) trace;
-      legal = subst (IsLegalTrace c.args.app.now) (cut_at trace k e c.at-entry.ensures) c.requires.legal;
-      are = c.loop-index.invariant.0;
-    }
+    next_of c.args.app.now c.args.trace.now c.requires.legal c.loop-index.index c.at-entry.result.now c.at-entry.ensures _ c.loop-index.invariant.0
 
 pub loop-index-preserved : goal.loop-index-preserved
 loop-index-preserved c =
@@ -46,8 +35,7 @@ loop-index-preserved c =
     let e = c.at-entry.result.now in
     let at = c.at-entry.ensures in
     let told = subst (λ (t : Bool). IsToldLoss app trace k e t c.loses.new.came) c.if-branch.false (c.in_ok-loses.ensures e at) in (
-      subst (λ (es : List Entry). AreProcessesOf app c.follow.new.self.at.items es) (sym (taken app trace k e at))
-          (c.in_ok-follow.ensures (take k trace) (drop (suc k) trace) (subst (IsLegalTrace app) (cut_at trace k e at) c.requires.legal) c.loop-index.invariant.0),
+      followed app trace c.requires.legal k e at _ c.loop-index.invariant.0 c.follow.new.self.at.items c.in_ok-follow.ensures,
       told.1,
       none_more app trace k e at c.loop-index.invariant.2 told.0,
     )

@@ -1,0 +1,9 @@
+use crate::keys::Key;
+use anti_ids::WriteId;
+
+/// An id that a look found, under the span of the look.
+#[derive(Clone, Copy, PartialEq, Eq, PartialOrd, Ord)]
+pub struct Find {
+    pub span: Key,
+    pub id: WriteId,
+}
