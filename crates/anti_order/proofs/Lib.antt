@@ -1,0 +1,10 @@
+mod AnswersMore
+mod Explaining
+mod InPast
+mod Listed
+mod Listing
+mod MarksKnown
+mod Noting
+mod Places
+mod ReadPlaces
+mod Unsettled
