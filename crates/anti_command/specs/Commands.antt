@@ -2,7 +2,7 @@
 use Rattle.std.specs.Prelude.{ℕ, ◌≡◌, ◌≤◌, List, length, Option, None, Some, IsSomeAnd, Ok, Bool, true, false, ◌&&◌}
 use Rattle.anti_app.specs.declared.app.App.{App}
 use Rattle.anti_command.specs.Faults.{writes}
-use Rattle.anti_command.specs.Runs.{application_of, IsRunOf, printed}
+use Rattle.anti_command.specs.Runs.{application_of, IsRecordOf, IsRunOf}
 use Rattle.anti_command.specs.declared.command.Command.{Command}
 use Rattle.anti_command.specs.declared.command.Command.TheVariants.{Step, Json}
 use Rattle.anti_command.specs.declared.fault.TopFault.{TopFault}
@@ -28,7 +28,7 @@ keeps_run asked fault = writes fault && plays asked
 -- what is asked was done to what the source had: this is the run that is kept, and this the text
 abbrev pub IsDone : Option Command → Option (List ℕ) → Option RunKept → List ℕ → Type 0
 IsDone None left kept text = ⊥
-IsDone (Some command) left kept text = IsSomeAnd kept (λ run. IsRunOf left run × (text ≡ printed command run))
+IsDone (Some command) left kept text = IsSomeAnd kept (λ run. IsRunOf left run × IsRecordOf command run text)
 
 -- what is asked was done, and of its text this is true
 pub record IsDoneAnd (asked : Option Command) (left : Option (List ℕ)) (kept : Option RunKept) (IsSo : List ℕ → Type 0) : Type 0 where

@@ -1,4 +1,4 @@
--- What bytes state, a run of it, and its printed forms.
+-- What bytes state, a run of it, what this is worth, and its printed forms.
 use Rattle.std.specs.Prelude.{ℕ, ◌≡◌, ◌≤◌, List, length, Option, IfSome, Result, Ok, IsTrue}
 use Rattle.anti_ids.specs.List.{plain}
 use Rattle.anti_app.specs.declared.app.App.{App}
@@ -7,9 +7,10 @@ use Rattle.anti_app.specs.Sound.{is_sound}
 use Rattle.anti_app.specs.Stated.{app_of}
 use Rattle.anti_text.specs.Json.{json_of}
 use Rattle.anti_text.specs.Record.{text_of}
-use Rattle.anti_text.specs.Report.{told_of}
+use Rattle.anti_text.specs.Report.{IsPrinted, Told}
 use Rattle.anti_trace.specs.Legal.{IsLegalTrace}
 use Rattle.anti_causal.specs.Settled.{BarriersFindAll, DryRunsName}
+use Rattle.anti_order.specs.Answers.{SpansAreExplained}
 use Rattle.anti_play.specs.Schedule.{trace_of, waits_of}
 use Rattle.anti_command.specs.declared.command.Command.{Command}
 use Rattle.anti_command.specs.declared.command.Command.TheVariants.{Step, Json}
@@ -36,10 +37,19 @@ IsLegalRun kept = IsLegalTrace kept.app kept.trace
 unfoldable pub FindsAll : RunKept → Type 0
 FindsAll kept = BarriersFindAll kept.app kept.trace × DryRunsName kept.app kept.trace
 
--- the record of the run, as a command writes it
-unfoldable pub printed : Command → RunKept → List ℕ
-printed Step kept = text_of kept.app (told_of kept.app kept.trace kept.waits.items)
-printed Json kept = json_of kept.app (told_of kept.app kept.trace kept.waits.items)
+-- each order that is answered for the reads of a span has all writes and these reads once each, respects the causal order, and explains what
+-- the reads show
+unfoldable pub ExplainsSpans : RunKept → Type 0
+ExplainsSpans kept = SpansAreExplained kept.app kept.trace
+
+-- the form in which a command writes a record
+abbrev pub form_of : Command → App → Told → List ℕ
+form_of Step app told = text_of app told
+form_of Json app told = json_of app told
+
+-- the bytes are the record of the run, as a command writes it
+unfoldable pub IsRecordOf : Command → RunKept → List ℕ → Type 0
+IsRecordOf command kept bytes = IsPrinted (form_of command kept.app) kept.app kept.trace kept.waits.items bytes
 
 -- the run is that of the application which the bytes state, where the source tells them
 pub record IsRunOf (left : Option (List ℕ)) (kept : RunKept) : Type 0 where
@@ -47,3 +57,4 @@ pub record IsRunOf (left : Option (List ℕ)) (kept : RunKept) : Type 0 where
   pub played : IsPlayed kept
   pub legal : IsLegalRun kept
   pub barriers : FindsAll kept
+  pub orders : ExplainsSpans kept

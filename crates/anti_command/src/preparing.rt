@@ -4,7 +4,7 @@ ghost use Rattle.anti_command.specs.Words.{command_of};
 ghost use Rattle.anti_command.specs.Faults.{writes};
 ghost use Rattle.anti_command.specs.Commands.{reads_source, plays, IsDone};
 ghost use Rattle.anti_command.specs.Causes.{HasCause, IsFaultOf};
-ghost use Rattle.anti_command.specs.Runs.{application_of, IsPlayable, IsLegalRun, IsPlayed, IsRunOf, FindsAll, printed};
+ghost use Rattle.anti_command.specs.Runs.{application_of, IsPlayable, IsLegalRun, IsPlayed, IsRunOf, FindsAll, ExplainsSpans, IsRecordOf};
 ghost use Rattle.anti_trace.specs.Ends.{ends_of};
 
 use crate::command::{Command, asked_for};
@@ -14,6 +14,7 @@ use anti_app::{App, read_app};
 use anti_causal::barriers_find_all;
 use anti_edge::{ReadRefused, Source, read_all};
 use anti_ids::{Bytes, LONGEST_DOCUMENT, NoMemory, Value};
+use anti_order::answered_orders_explain;
 use anti_play::{Played, play};
 use anti_text::{Report, print, print_json};
 use anti_trace::Ends;
@@ -66,18 +67,20 @@ struct RunAndEnds {
 }
 
 // The run of the application.
-#[tactic(auto, unfolding(crate::specs::Runs::IsPlayable, crate::specs::Runs::IsPlayed, crate::specs::Runs::IsLegalRun, crate::specs::Runs::FindsAll))]
+#[tactic(auto, unfolding(crate::specs::Runs::IsPlayable, crate::specs::Runs::IsPlayed, crate::specs::Runs::IsLegalRun, crate::specs::Runs::FindsAll, crate::specs::Runs::ExplainsSpans))]
 fn run(alloc: Global, app: App) -> Result<RunAndEnds, NoMemory>
     requires { IsPlayable app }
     ensures app { IfOk result (λ run. run.kept.app ≡ app) }
     ensures played { IfOk result (λ run. IsPlayed run.kept) }
     ensures legal { IfOk result (λ run. IsLegalRun run.kept) }
     ensures barriers { IfOk result (λ run. FindsAll run.kept) }
+    ensures orders { IfOk result (λ run. ExplainsSpans run.kept) }
     ensures ends { IfOk result (λ run.
         run.ends.items ≡ ends_of run.kept.app run.kept.trace) }
 {
     let Played { trace, waits, ends } = play(alloc, &app)?;
     barriers_find_all();
+    answered_orders_explain();
     Ok(RunAndEnds {
         kept: RunKept { app, trace, waits },
         ends,
@@ -85,16 +88,14 @@ fn run(alloc: Global, app: App) -> Result<RunAndEnds, NoMemory>
 }
 
 // The record of a run, of which these are the ends, as the command writes it.
-#[tactic(auto, unfolding(crate::specs::Runs::printed))]
+#[tactic(auto, unfolding(crate::specs::Runs::IsPlayable, crate::specs::Runs::IsLegalRun, crate::specs::Runs::IsRecordOf))]
 fn record_of(alloc: Global, command: Command, run: &RunKept, ends: Ends) -> Result<Bytes, NoMemory>
-    requires { ends.items ≡ ends_of run.now.app run.now.trace }
-    ensures { IfOk result (λ text. text.items ≡ printed command run.now) }
+    requires sound { IsPlayable run.now.app }
+    requires legal { IsLegalRun run.now }
+    requires ends { ends.items ≡ ends_of run.now.app run.now.trace }
+    ensures { IfOk result (λ text. IsRecordOf command run.now text.items) }
 {
-    let report = Report {
-        trace: &run.trace,
-        waits: &run.waits,
-        ends,
-    };
+    let report = Report::with_ends(alloc, &run.app, &run.trace, &run.waits, ends)?;
     match command {
         Command::Step => print(alloc, &run.app, &report),
         Command::Json => print_json(alloc, &run.app, &report),
@@ -104,6 +105,7 @@ fn record_of(alloc: Global, command: Command, run: &RunKept, ends: Ends) -> Resu
 // The run of the document that the source has.
 fn run_of<S: Source>(alloc: Global, src: &mut S) -> Result<RunAndEnds, TopFault>
     ensures run { IfOk result (λ run. IsRunOf (S.left src.old) run.kept) }
+    ensures sound { IfOk result (λ run. IsPlayable run.kept.app) }
     ensures ends { IfOk result (λ run.
         run.ends.items ≡ ends_of run.kept.app run.kept.trace) }
     ensures cause { (asked : Option Command) → reads_source asked ≡ true →

@@ -1,4 +1,4 @@
--- The JSON of an entry, of a wait, of a process and of a whole record, piece by piece.
+-- The JSON of an entry, of a wait, of a process, of a span and of a whole record, piece by piece.
 use Rattle.std.proofs.Common.{◌≡◌, ℕ, List, [], ◌∷◌, ◌++◌, false, length, codes, map, decimal, refl, sym, ap, ◌∙◌}
 use Rattle.std.specs.Fmt.{digits}
 use Rattle.serde_json.specs.View.{items_of}
@@ -7,12 +7,14 @@ use Rattle.serde_json.proofs.OnLiterals.{serde_json_on_literals}
 use Rattle.anti_kind.specs.declared.entry.Entry.{Entry}
 use Rattle.anti_app.specs.declared.app.App.{App}
 use Rattle.anti_trace.specs.declared.ends.ProcessEnd.{ProcessEnd}
+use Rattle.anti_order.specs.declared.answer.SpanAnswer.{SpanAnswer}
 use Rattle.anti_text.specs.Words.{object_name, mark_text, service_name, handler_name}
 use Rattle.anti_text.specs.Calls.{call_text, reply_text}
 use Rattle.anti_text.specs.Entries.{actor_name, choice_numbered}
 use Rattle.anti_text.specs.Processes.{end_text}
 use Rattle.anti_text.specs.Report.{Told}
-use Rattle.anti_text.specs.Json.{text, entry_data, wait_data, process_data, record_data}
+use Rattle.anti_text.specs.Spans.{answer_text, span_name}
+use Rattle.anti_text.specs.Json.{text, entry_data, wait_data, process_data, span_data, record_data}
 use Rattle.anti_text.proofs.Pieces.{added, joined, added_is}
 
 abbrev entry_rest : App → Entry → List (List ℕ)
@@ -59,6 +61,21 @@ process_is app p = refl
 pub process_added : (out : List ℕ) (app : App) (p : ProcessEnd) → out ++ compact_text (process_data app p) ≡ added out (codes "{\"end\":" ∷ process_rest app p)
 process_added out app p = ap (λ t. out ++ t) (process_is app p) ∙ sym (added_is out (codes "{\"end\":") (process_rest app p))
 
+abbrev span_rest : App → SpanAnswer → List (List ℕ)
+span_rest app a =
+    compact_text (text (answer_text app a.answer))
+    ∷ codes ",\"name\":"
+    ∷ compact_text (text (span_name app a.span))
+    ∷ codes "}"
+    ∷ []
+
+span_is : (app : App) (a : SpanAnswer) → compact_text (span_data app a) ≡ joined (codes "{\"answer\":") (span_rest app a)
+unfolding span_data serde_json_on_literals
+span_is app a = refl
+
+pub span_added : (out : List ℕ) (app : App) (a : SpanAnswer) → out ++ compact_text (span_data app a) ≡ added out (codes "{\"answer\":" ∷ span_rest app a)
+span_added out app a = ap (λ t. out ++ t) (span_is app a) ∙ sym (added_is out (codes "{\"answer\":") (span_rest app a))
+
 abbrev wait_rest : App → ℕ → List (List ℕ)
 wait_rest app n =
     compact_text (text (choice_numbered app n))
@@ -82,7 +99,8 @@ record_rest app t =
     ∷ codes ",\"processes\":["
     ∷ items_text false (items_of (map (process_data app) t.ends))
     ∷ codes ",\"record\":1"
-    ∷ codes ",\"spans\":[]"
+    ∷ codes ",\"spans\":["
+    ∷ items_text false (items_of (map (span_data app) t.spans))
     ∷ codes ",\"waits\":["
     ∷ items_text false (items_of (map (wait_data app) t.waits))
     ∷ codes "}"

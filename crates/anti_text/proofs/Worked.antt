@@ -27,10 +27,20 @@ use Rattle.anti_proc.specs.Births.{birth_at}
 use Rattle.anti_proc.specs.declared.end.End.{End}
 use Rattle.anti_proc.specs.declared.end.End.TheVariants.{Fine, Depth, StoreFull}
 use Rattle.anti_trace.specs.declared.ends.ProcessEnd.{ProcessEnd}
+use Rattle.anti_trace.specs.declared.mark.Mark.{Mark}
+use Rattle.anti_trace.specs.Ends.{ends_of}
+use Rattle.anti_order.specs.declared.answer.OrderAnswer.{OrderAnswer}
+use Rattle.anti_order.specs.declared.answer.OrderAnswer.TheVariants.{Lossy, Unguarded, Order}
+use Rattle.anti_order.specs.declared.answer.SpanAnswer.{SpanAnswer}
 use Rattle.std.specs.List.{flat_map}
 use Rattle.anti_text.specs.Words.{lineage_text}
+use Rattle.serde_json.proofs.OnLiterals.{serde_json_on_literals}
+use Rattle.std.specs.Str.{chars, is_utf8}
+use Rattle.std.specs.Str.Lossy.{utf8_valid_len, utf8_lossy}
+use Rattle.anti_text.specs.Json.{text, entry_data, wait_data, process_data, span_data, record_data, json_of}
 use Rattle.anti_text.specs.Record.{text_of}
-use Rattle.anti_text.specs.Report.{told_of}
+use Rattle.anti_text.specs.Report.{Told}
+use Rattle.anti_text.specs.Spans.{span_line}
 
 abbrev store_s : StoreDef
 store_s = record { name = codes "s"; kind = Kv; replicas = plain (0 ∷ []); tries = 3 }
@@ -105,15 +115,47 @@ pub open-yet : process_line app (ended None) ≡ codes "process w.1 w one open\n
 unfolding digits
 open-yet = refl
 
-pub nothing : text_of app (told_of app [] []) ≡ codes "record 1\nend 0\n"
+-- what is told of entries, with waits and answers
+abbrev told_with : List Entry → List ℕ → List SpanAnswer → Told
+told_with entries waits spans = record { entries = entries; waits = waits; ends = ends_of app entries; spans = spans }
+
+abbrev mark : ℕ → ℕ → Mark
+mark object place = record { object = object; place = place }
+
+-- the answer of the first span of the process w.1
+abbrev answered : OrderAnswer → SpanAnswer
+answered answer = record { span = record { birth = record { object = 1; place = 1 }; span = 1 }; answer = answer }
+
+abbrev ordered : SpanAnswer
+ordered = answered (Order (plain (mark 0 1 ∷ mark 0 14 ∷ [])))
+
+pub nothing : text_of app (told_with [] [] []) ≡ codes "record 1\nend 0\n"
 unfolding digits
 nothing = refl
 
 -- the whole record of a run in which one process was born, whose handler has an empty body
-pub told : text_of app (told_of app (taken ∷ []) (4 ∷ []))
-    ≡ codes "record 1\n1 w.1 w.1/1 take 1 = got 1 request one 0 \"\" 1;\nwait 4 go w.1\nprocess w.1 w one fine\nend 1\n"
+pub told : text_of app (told_with (taken ∷ []) (4 ∷ []) (ordered ∷ []))
+    ≡ codes "record 1\n1 w.1 w.1/1 take 1 = got 1 request one 0 \"\" 1;\nwait 4 go w.1\nprocess w.1 w one fine\nspan w.1/1 order s.1 s.14\nend 1\n"
 unfolding digits
 told = refl
+
+pub lossy : span_line app (answered (Lossy (mark 0 4))) ≡ codes "span w.1/1 lossy s.4\n"
+unfolding digits
+lossy = refl
+
+pub unguarded : span_line app (answered (Unguarded (mark 0 2))) ≡ codes "span w.1/1 unguarded s.2\n"
+unfolding digits
+unguarded = refl
+
+-- the same two runs as JSON
+pub nothing-json : json_of app (told_with [] [] []) ≡ codes "{\"end\":0,\"entries\":[],\"processes\":[],\"record\":1,\"spans\":[],\"waits\":[]}\n"
+unfolding record_data digits serde_json_on_literals
+nothing-json = refl
+
+pub told-json : json_of app (told_with (taken ∷ []) (4 ∷ []) (ordered ∷ []))
+    ≡ codes "{\"end\":1,\"entries\":[{\"actor\":\"w.1\",\"call\":\"take 1\",\"object\":\"w\",\"place\":1,\"reply\":\"got 1 request one 0 \\\"\\\" 1;\",\"span\":1,\"stamp\":1}],\"processes\":[{\"end\":\"fine\",\"handler\":\"one\",\"name\":\"w.1\",\"service\":\"w\"}],\"record\":1,\"spans\":[{\"answer\":\"order s.1 s.14\",\"name\":\"w.1/1\"}],\"waits\":[{\"choice\":\"go w.1\",\"number\":4}]}\n"
+unfolding record_data entry_data process_data span_data wait_data text chars is_utf8 utf8_valid_len utf8_lossy digits serde_json_on_literals
+told-json = refl
 
 pub waits : wait_line app 3 ≡ codes "wait 3 ship s eu 1\n"
 unfolding digits

@@ -1,7 +1,7 @@
 -- The record of a run, as one JSON object (RFC 8259) without spaces: the names of each object ascend.
 use Rattle.std.specs.Prelude.{ℕ, List, [], ◌∷◌, ◌++◌, length, map, codes}
 use Rattle.std.specs.Str.Lossy.{utf8_lossy}
-use Rattle.serde_json.specs.Data.{Data, Members, number, unsigned, string, array, object, no_items, no_members, member}
+use Rattle.serde_json.specs.Data.{Data, Members, number, unsigned, string, array, object, no_members, member}
 use Rattle.serde_json.specs.View.{items_of}
 use Rattle.serde_json.specs.Written.{compact_text}
 use Rattle.anti_kind.specs.declared.entry.Entry.{Entry}
@@ -12,6 +12,8 @@ use Rattle.anti_text.specs.Calls.{call_text, reply_text}
 use Rattle.anti_text.specs.Entries.{actor_name, choice_numbered}
 use Rattle.anti_text.specs.Processes.{end_text}
 use Rattle.anti_text.specs.Report.{Told}
+use Rattle.anti_text.specs.Spans.{answer_text, span_name}
+use Rattle.anti_order.specs.declared.answer.SpanAnswer.{SpanAnswer}
 
 -- a number; a text, of which what is no UTF-8 is replaced; and an object of names and values
 abbrev pub count : ℕ → Data
@@ -55,14 +57,21 @@ process_data app p = fields
     ∷ (codes "service", text (service_name app p.service))
     ∷ [])
 
--- the whole record; no span has its line yet
+-- a span with a read: its name, and what is answered of its reads
+unfoldable pub span_data : App → SpanAnswer → Data
+span_data app a = fields
+    ((codes "answer", text (answer_text app a.answer))
+    ∷ (codes "name", text (span_name app a.span))
+    ∷ [])
+
+-- the whole record
 unfoldable pub record_data : App → Told → Data
 record_data app t = fields
     ((codes "end", count (length t.entries))
     ∷ (codes "entries", array (items_of (map (entry_data app) t.entries)))
     ∷ (codes "processes", array (items_of (map (process_data app) t.ends)))
     ∷ (codes "record", count 1)
-    ∷ (codes "spans", array no_items)
+    ∷ (codes "spans", array (items_of (map (span_data app) t.spans)))
     ∷ (codes "waits", array (items_of (map (wait_data app) t.waits)))
     ∷ [])
 

@@ -4,4 +4,5 @@ pub mod Json
 pub mod Processes
 pub mod Record
 pub mod Report
+pub mod Spans
 pub mod Words

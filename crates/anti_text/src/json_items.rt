@@ -1,6 +1,6 @@
 ghost use Rattle.std.specs.Prelude.{◌≡◌, ◌++◌, OnOk, decimal};
 ghost use Rattle.serde_json.specs.Written.{compact_text};
-ghost use Rattle.anti_text.specs.Json.{entry_data, process_data, text, wait_data};
+ghost use Rattle.anti_text.specs.Json.{entry_data, process_data, span_data, text, wait_data};
 
 use crate::call_words::call_text;
 use crate::entry_lines::actor_name;
@@ -8,10 +8,12 @@ use crate::output::Output;
 use crate::printer::Printer;
 use crate::process_lines::end_text;
 use crate::reply_words::reply_text;
+use crate::span_lines::{answer_text, span_name};
 use crate::wait_lines::choice_numbered;
 use crate::words::{handler_name, mark_text, object_name, service_name};
 use anti_ids::NoMemory;
 use anti_kind::Entry;
+use anti_order::SpanAnswer;
 use anti_trace::ProcessEnd;
 use serde_json::Value;
 
@@ -98,6 +100,22 @@ impl Item for ProcessEnd {
         let mut service = Output::new(printer.alloc);
         service_name(&mut service, app, self.service)?;
         add_string(out, printer, b",\"service\":", &service)?;
+        out.put(b"}")
+    }
+}
+
+impl Item for SpanAnswer {
+    ghost says = { span_data };
+
+    #[tactic(auto, using(crate::proofs::Shapes::span_added))]
+    fn print(&self, out: &mut Output, printer: &Printer) -> Result<(), NoMemory> {
+        let app = printer.app;
+        let mut answer = Output::new(printer.alloc);
+        answer_text(&mut answer, app, &self.answer)?;
+        add_string(out, printer, b"{\"answer\":", &answer)?;
+        let mut name = Output::new(printer.alloc);
+        span_name(&mut name, app, self.span)?;
+        add_string(out, printer, b",\"name\":", &name)?;
         out.put(b"}")
     }
 }

@@ -11,6 +11,7 @@ mod printer;
 mod process_lines;
 mod reply_words;
 mod report;
+mod span_lines;
 mod wait_lines;
 mod words;
 

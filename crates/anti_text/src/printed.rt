@@ -6,17 +6,20 @@ ghost use Rattle.anti_trace.specs.Legal.{IsLegalTrace};
 ghost use Rattle.anti_text.specs.Entries.{entry_line, wait_line};
 ghost use Rattle.anti_text.specs.Processes.{process_line};
 ghost use Rattle.anti_text.specs.Record.{text_of};
-ghost use Rattle.anti_text.specs.Report.{told_of};
+ghost use Rattle.anti_text.specs.Report.{IsPrinted};
+ghost use Rattle.anti_text.specs.Spans.{span_line};
 
 use crate::entry_lines::entry_line;
 use crate::output::Output;
 use crate::printer::Printer;
 use crate::process_lines::process_line;
 use crate::report::Report;
+use crate::span_lines::span_line;
 use crate::wait_lines::wait_line;
 use anti_app::{App, Waits};
 use anti_ids::{Bytes, NoMemory};
 use anti_kind::Entry;
+use anti_order::SpanAnswer;
 use anti_trace::{ProcessEnd, Trace};
 use std::alloc::Global;
 
@@ -51,8 +54,18 @@ fn process_lines(out: &mut Output, app: &App, ends: &[ProcessEnd]) -> Result<(),
     Ok(())
 }
 
-/// The record of what a report tells, as text: a line for each entry in the order of the trace, for each choice that made no entry, and for
-/// each process. The only error is want of memory.
+// Writes the lines of the spans.
+fn span_lines(out: &mut Output, app: &App, spans: &[SpanAnswer]) -> Result<(), NoMemory>
+    ensures { OnOk result (out.new ≡ out.old ++ flat_map (span_line app.now) spans.now) }
+{
+    for answered in spans {
+        span_line(out, app, answered)?;
+    }
+    Ok(())
+}
+
+/// The record of what a report tells, as text: a line for each entry in the order of the trace, for each choice that made no entry, for each
+/// process, and for each span with a read. The only error is want of memory.
 pub fn print(alloc: Global, app: &App, report: &Report) -> Result<Bytes, NoMemory>
     ensures { IfOk result (λ t. t ≡ plain (text_of app.now report.now)) }
 {
@@ -63,6 +76,7 @@ pub fn print(alloc: Global, app: &App, report: &Report) -> Result<Bytes, NoMemor
     entry_lines(&mut out, &printer, entries)?;
     wait_lines(&mut out, app, report.waits.as_slice())?;
     process_lines(&mut out, app, report.ends.as_slice())?;
+    span_lines(&mut out, app, report.spans.as_slice())?;
     out.put(b"end ")?;
     out.number(entries.len() as u64)?;
     out.put(b"\n")?;
@@ -73,8 +87,8 @@ pub fn print(alloc: Global, app: &App, report: &Report) -> Result<Bytes, NoMemor
 pub fn text(alloc: Global, app: &App, trace: &Trace, waits: &Waits) -> Result<Bytes, NoMemory>
     requires sound { IsTrue (is_sound app.now) }
     requires legal { IsLegalTrace app.now trace.now }
-    ensures { IfOk result
-        (λ t. t ≡ plain (text_of app.now (told_of app.now trace.now waits.now.items))) }
+    ensures { IfOk result (λ t. IsPrinted (text_of app.now)
+        app.now trace.now waits.now.items t.items) }
 {
     let report = Report::of(alloc, app, trace, waits)?;
     print(alloc, app, &report)

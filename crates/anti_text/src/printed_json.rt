@@ -6,7 +6,7 @@ ghost use Rattle.anti_ids.specs.List.{plain};
 ghost use Rattle.anti_app.specs.Sound.{is_sound};
 ghost use Rattle.anti_trace.specs.Legal.{IsLegalTrace};
 ghost use Rattle.anti_text.specs.Json.{json_of};
-ghost use Rattle.anti_text.specs.Report.{told_of};
+ghost use Rattle.anti_text.specs.Report.{IsPrinted};
 
 use crate::json_items::{Item, add_number};
 use crate::output::Output;
@@ -65,7 +65,7 @@ pub fn print_json(alloc: Global, app: &App, report: &Report) -> Result<Bytes, No
         report.ends.as_slice(),
     )?;
     out.put(b",\"record\":1")?;
-    out.put(b",\"spans\":[]")?;
+    add_list(&mut out, &printer, b",\"spans\":[", report.spans.as_slice())?;
     add_list(&mut out, &printer, b",\"waits\":[", report.waits.as_slice())?;
     out.put(b"}")?;
     out.put(b"\n")?;
@@ -76,8 +76,8 @@ pub fn print_json(alloc: Global, app: &App, report: &Report) -> Result<Bytes, No
 pub fn json(alloc: Global, app: &App, trace: &Trace, waits: &Waits) -> Result<Bytes, NoMemory>
     requires sound { IsTrue (is_sound app.now) }
     requires legal { IsLegalTrace app.now trace.now }
-    ensures { IfOk result
-        (λ t. t ≡ plain (json_of app.now (told_of app.now trace.now waits.now.items))) }
+    ensures { IfOk result (λ t. IsPrinted (json_of app.now)
+        app.now trace.now waits.now.items t.items) }
 {
     let report = Report::of(alloc, app, trace, waits)?;
     print_json(alloc, app, &report)

@@ -1,3 +1,2 @@
 pub mod Here
-pub mod Sound
 pub mod Subscribed

@@ -25,71 +25,93 @@ fn first_choice(alloc: Global, bytes: &[u8]) -> Result<Option<Choice>, AppFault>
     }
 }
 
-// The choice that brings a part of a version to a region.
-fn ship(store: u32, region: u32, version: u64, part: Option<u32>) -> Choice {
-    Choice::Ship {
-        store,
-        region,
-        version,
-        part,
-    }
-}
-
-// The same once more.
-fn again(store: u32, region: u32, version: u64, part: Option<u32>) -> Choice {
-    Choice::Again {
-        store,
-        region,
-        version,
-        part,
-    }
-}
+// Choices, and what each is.
+static CHOICES: [(&str, Choice); 13] = [
+    ("take w 1", Choice::Take { service: 0, nth: 1 }),
+    (
+        "  take   w 4096 ",
+        Choice::Take {
+            service: 0,
+            nth: 4096,
+        },
+    ),
+    (
+        "repost w 3",
+        Choice::Repost {
+            service: 0,
+            number: 3,
+        },
+    ),
+    (" pull  p ", Choice::Pull { sub: 0 }),
+    ("repull p 7", Choice::Repull { sub: 0, version: 7 }),
+    (
+        "ship s us 1",
+        Choice::Ship {
+            store: 0,
+            region: 0,
+            version: 1,
+            part: None,
+        },
+    ),
+    (
+        "ship s eu 4096 2",
+        Choice::Ship {
+            store: 0,
+            region: 1,
+            version: 4096,
+            part: Some(2),
+        },
+    ),
+    (
+        "ship t us 1",
+        Choice::Ship {
+            store: 1,
+            region: 0,
+            version: 1,
+            part: None,
+        },
+    ),
+    (
+        "again s eu 3",
+        Choice::Again {
+            store: 0,
+            region: 1,
+            version: 3,
+            part: None,
+        },
+    ),
+    (
+        "again t us 10 4096",
+        Choice::Again {
+            store: 1,
+            region: 0,
+            version: 10,
+            part: Some(4096),
+        },
+    ),
+    (
+        "go t.1",
+        Choice::Go {
+            object: 1,
+            place: 1,
+        },
+    ),
+    (
+        "go w.12",
+        Choice::Go {
+            object: 2,
+            place: 12,
+        },
+    ),
+    ("finish", Choice::Finish),
+];
 
 #[test]
 fn choices_have_their_forms(rt: HostRuntime) -> Result<(), Fail> {
-    let rows = [
-        ("take w 1", Choice::Take { service: 0, nth: 1 }),
-        (
-            "  take   w 4096 ",
-            Choice::Take {
-                service: 0,
-                nth: 4096,
-            },
-        ),
-        (
-            "repost w 3",
-            Choice::Repost {
-                service: 0,
-                number: 3,
-            },
-        ),
-        (" pull  p ", Choice::Pull { sub: 0 }),
-        ("repull p 7", Choice::Repull { sub: 0, version: 7 }),
-        ("ship s us 1", ship(0, 0, 1, None)),
-        ("ship s eu 4096 2", ship(0, 1, 4096, Some(2))),
-        ("ship t us 1", ship(1, 0, 1, None)),
-        ("again s eu 3", again(0, 1, 3, None)),
-        ("again t us 10 4096", again(1, 0, 10, Some(4096))),
-        (
-            "go t.1",
-            Choice::Go {
-                object: 1,
-                place: 1,
-            },
-        ),
-        (
-            "go w.12",
-            Choice::Go {
-                object: 2,
-                place: 12,
-            },
-        ),
-        ("finish", Choice::Finish),
-    ];
-    for (text, wanted) in rows {
+    for (text, wanted) in &CHOICES {
         let text = document(rt.alloc(), text)?;
         assert!(rt;
-            first_choice(rt.alloc(), text.as_bytes()) == Ok(Some(wanted)),
+            first_choice(rt.alloc(), text.as_bytes()) == Ok(Some(*wanted)),
             "{text}"
         );
     }
@@ -156,39 +178,64 @@ fn near_misses_are_no_choices(rt: HostRuntime) -> Result<(), Fail> {
     Ok(())
 }
 
-// A fault of a rule.
-fn bad(rule: u32, part: Part, item: u32, line: u32) -> AppFault {
-    AppFault::Bad {
-        rule,
-        place: Place { part, item, line },
-    }
-}
+// Documents with more than one fault, and the one that is told.
+static FAULTS: [(&[u8], AppFault); 7] = [
+    (b"regions", AppFault::NotToml),
+    (b"regions = ['us'] # \xff", AppFault::NotToml),
+    (
+        b"regions = []\nchoices = ['x']",
+        AppFault::Bad {
+            rule: 4,
+            place: Place {
+                part: Part::Top,
+                item: 0,
+                line: 0,
+            },
+        },
+    ),
+    (
+        b"regions = ['us']\nstore = [{name = 's', kind = 'kv', replicas = ['us']}]\nsub = [{name = 'p', store = 's', channel = 'c', service = 'w', handler = 'a'}]\nchoices = ['x']",
+        AppFault::Bad {
+            rule: 15,
+            place: Place {
+                part: Part::Sub,
+                item: 1,
+                line: 0,
+            },
+        },
+    ),
+    (
+        b"regions = ['us']\nservice = [{name = 'w', region = 'us', handler = [{name = 'a', body = ['call w a $in as x', 'send w b $x']}]}]",
+        AppFault::Bad {
+            rule: 24,
+            place: Place {
+                part: Part::Handler,
+                item: 1,
+                line: 2,
+            },
+        },
+    ),
+    (
+        b"regions = ['us']\nchoices = ['finish', 'finish', 'x', 'y']",
+        AppFault::BadChoice { number: 3 },
+    ),
+    (
+        b"regions = ['us']\nservice = [{name = 'w', region = 'us', handler = [{name = 'a', body = ['nack', 'end']}]}]",
+        AppFault::Bad {
+            rule: 21,
+            place: Place {
+                part: Part::Handler,
+                item: 1,
+                line: 2,
+            },
+        },
+    ),
+];
 
 #[test]
 fn faults_come_in_their_order(rt: HostRuntime) -> Result<(), Fail> {
-    let rows: [(&[u8], AppFault); 7] = [
-        (b"regions", AppFault::NotToml),
-        (b"regions = ['us'] # \xff", AppFault::NotToml),
-        (b"regions = []\nchoices = ['x']", bad(4, Part::Top, 0, 0)),
-        (
-            b"regions = ['us']\nstore = [{name = 's', kind = 'kv', replicas = ['us']}]\nsub = [{name = 'p', store = 's', channel = 'c', service = 'w', handler = 'a'}]\nchoices = ['x']",
-            bad(15, Part::Sub, 1, 0),
-        ),
-        (
-            b"regions = ['us']\nservice = [{name = 'w', region = 'us', handler = [{name = 'a', body = ['call w a $in as x', 'send w b $x']}]}]",
-            bad(24, Part::Handler, 1, 2),
-        ),
-        (
-            b"regions = ['us']\nchoices = ['finish', 'finish', 'x', 'y']",
-            AppFault::BadChoice { number: 3 },
-        ),
-        (
-            b"regions = ['us']\nservice = [{name = 'w', region = 'us', handler = [{name = 'a', body = ['nack', 'end']}]}]",
-            bad(21, Part::Handler, 1, 2),
-        ),
-    ];
-    for (bytes, wanted) in rows {
-        assert!(rt; first_choice(rt.alloc(), bytes) == Err(wanted));
+    for (bytes, wanted) in &FAULTS {
+        assert!(rt; first_choice(rt.alloc(), bytes) == Err(*wanted));
     }
     Ok(())
 }
@@ -271,9 +318,8 @@ fn has_body(app: &App) -> bool {
     true
 }
 
-#[test]
-fn documents_are_read(rt: HostRuntime) -> Result<(), Fail> {
-    let text = b"regions = ['us', 'eu']
+// A document in which most of what may stand in one does.
+const WHOLE: &[u8] = b"regions = ['us', 'eu']
 seed = 9223372036854775807
 workers = 8
 store = [{name = 's', kind = 'kv', replicas = ['eu', 'us']}, {name = 't', kind = 'kv', replicas = ['eu']}, {name = 'q', kind = 'queue', replicas = ['eu'], tries = 5}]
@@ -287,17 +333,39 @@ handler = [{name = 'two', body = []}]
 name = 'w'
 region = 'eu'
 handler = [{name = 'one', body = []}, {name = 'two', body = ['read t k as x', ' repeat 3', 'write s $in $x as y untracked', 'end', 'call v two $x as z', 'send w one $z', 'stop']}]";
-    let app = read_app(rt.alloc(), text).ok().ok_or("an application")?;
-    assert!(rt; app.regions.len() == 2);
-    assert!(rt; has_stores(&app));
-    assert!(rt; has_sub(&app));
-    assert!(rt; has_services(&app));
-    assert!(rt; has_body(&app));
-    assert!(rt; app.seed == 9223372036854775807 && app.workers == 8);
+
+// Whether the application is the one that it states.
+fn is_whole(app: &App) -> bool {
+    app.regions.len() == 2
+        && has_stores(app)
+        && has_sub(app)
+        && has_services(app)
+        && has_body(app)
+        && app.seed == 9223372036854775807
+        && app.workers == 8
+}
+
+#[test]
+fn documents_are_read(rt: HostRuntime) -> Result<(), Fail> {
+    let app = read_app(rt.alloc(), WHOLE).ok().ok_or("an application")?;
+    assert!(rt; is_whole(&app));
+    Ok(())
+}
+
+// Whether all that may be left out was left out.
+fn is_bare(app: &App) -> bool {
+    app.seed == 0
+        && app.workers == 2
+        && app.stores.is_empty()
+        && app.subs.is_empty()
+        && app.choices.is_empty()
+}
+
+#[test]
+fn a_document_may_be_short(rt: HostRuntime) -> Result<(), Fail> {
     let app = read_app(rt.alloc(), b"regions = ['us']")
         .ok()
         .ok_or("an application")?;
-    assert!(rt; app.seed == 0 && app.workers == 2);
-    assert!(rt; app.stores.is_empty() && app.subs.is_empty() && app.choices.is_empty());
+    assert!(rt; is_bare(&app));
     Ok(())
 }

@@ -30,57 +30,61 @@ fn full(alloc: Global, behind: &[u8]) -> Result<Bytes, Fail> {
     Ok(text)
 }
 
+// Texts, and what each comes to.
+static TEXTS: [(&[u8], Result<bool, BaggageFault>); 24] = [
+    (b"1;", Ok(true)),
+    (b"1;posts/p1@1,notes/n%231@7", Ok(true)),
+    (b"1;posts/a@18446744073709551615", Ok(true)),
+    (
+        b"1;posts/a@18446744073709551616",
+        Err(BaggageFault::BadId(1)),
+    ),
+    (b"", Err(BaggageFault::BadHead)),
+    (b"2;", Err(BaggageFault::BadHead)),
+    (b"1;posts/a%2d@1", Err(BaggageFault::BadId(1))),
+    (b"1;posts/%70@1", Err(BaggageFault::BadId(1))),
+    (b"1;posts/n#1@1", Err(BaggageFault::BadId(1))),
+    (b"1;posts/a", Err(BaggageFault::BadId(1))),
+    (b"1;posts/@1", Err(BaggageFault::BadId(1))),
+    (b"1;posts@1", Err(BaggageFault::BadId(1))),
+    (b"1;posts/a@0", Err(BaggageFault::BadId(1))),
+    (b"1;posts/a@01", Err(BaggageFault::BadId(1))),
+    (b"1;posts/a@+1", Err(BaggageFault::BadId(1))),
+    (b"1;posts/a@-1", Err(BaggageFault::BadId(1))),
+    (b"1;posts/a@1,", Err(BaggageFault::BadId(2))),
+    (b"1;posts/a@1,,", Err(BaggageFault::BadId(2))),
+    (b"1;blogs/a@0", Err(BaggageFault::BadId(1))),
+    (b"1;blogs/a@1", Err(BaggageFault::UnknownStore(1))),
+    (b"1;posts/b@2,blogs/a@1", Err(BaggageFault::UnknownStore(2))),
+    (b"1;posts/a@2,posts/a@1", Err(BaggageFault::NotAscending(2))),
+    (b"1;posts/a@2,posts/a@2", Err(BaggageFault::NotAscending(2))),
+    (b"1;notes/a@1,posts/a@2", Err(BaggageFault::NotAscending(2))),
+];
+
 #[test]
 fn texts_are_read_exactly(rt: HostRuntime) -> Result<(), Fail> {
     texts_state_lineages();
-    let texts: [(&[u8], Result<bool, BaggageFault>); 24] = [
-        (b"1;", Ok(true)),
-        (b"1;posts/p1@1,notes/n%231@7", Ok(true)),
-        (b"1;posts/a@18446744073709551615", Ok(true)),
-        (
-            b"1;posts/a@18446744073709551616",
-            Err(BaggageFault::BadId(1)),
-        ),
-        (b"", Err(BaggageFault::BadHead)),
-        (b"2;", Err(BaggageFault::BadHead)),
-        (b"1;posts/a%2d@1", Err(BaggageFault::BadId(1))),
-        (b"1;posts/%70@1", Err(BaggageFault::BadId(1))),
-        (b"1;posts/n#1@1", Err(BaggageFault::BadId(1))),
-        (b"1;posts/a", Err(BaggageFault::BadId(1))),
-        (b"1;posts/@1", Err(BaggageFault::BadId(1))),
-        (b"1;posts@1", Err(BaggageFault::BadId(1))),
-        (b"1;posts/a@0", Err(BaggageFault::BadId(1))),
-        (b"1;posts/a@01", Err(BaggageFault::BadId(1))),
-        (b"1;posts/a@+1", Err(BaggageFault::BadId(1))),
-        (b"1;posts/a@-1", Err(BaggageFault::BadId(1))),
-        (b"1;posts/a@1,", Err(BaggageFault::BadId(2))),
-        (b"1;posts/a@1,,", Err(BaggageFault::BadId(2))),
-        (b"1;blogs/a@0", Err(BaggageFault::BadId(1))),
-        (b"1;blogs/a@1", Err(BaggageFault::UnknownStore(1))),
-        (b"1;posts/b@2,blogs/a@1", Err(BaggageFault::UnknownStore(2))),
-        (b"1;posts/a@2,posts/a@1", Err(BaggageFault::NotAscending(2))),
-        (b"1;posts/a@2,posts/a@2", Err(BaggageFault::NotAscending(2))),
-        (b"1;notes/a@1,posts/a@2", Err(BaggageFault::NotAscending(2))),
-    ];
-    for (text, told) in texts {
-        assert!(rt; outcome(rt.alloc(), text) == Some(told), "at {text:?}");
+    for (text, told) in &TEXTS {
+        assert!(rt; outcome(rt.alloc(), text) == Some(*told), "at {text:?}");
     }
     Ok(())
 }
 
+// What stands behind a full text, and what the whole comes to.
+static ENDS: [(&[u8], Result<bool, BaggageFault>); 5] = [
+    (b"", Ok(true)),
+    (b",posts/a@257", Err(BaggageFault::TooMany(257))),
+    (b",posts/a@256", Err(BaggageFault::NotAscending(257))),
+    (b",blogs/a@257", Err(BaggageFault::UnknownStore(257))),
+    (b",posts/a@257x", Err(BaggageFault::BadId(257))),
+];
+
 #[test]
 fn the_faults_have_an_order(rt: HostRuntime) -> Result<(), Fail> {
-    let ends: [(&[u8], Result<bool, BaggageFault>); 5] = [
-        (b"", Ok(true)),
-        (b",posts/a@257", Err(BaggageFault::TooMany(257))),
-        (b",posts/a@256", Err(BaggageFault::NotAscending(257))),
-        (b",blogs/a@257", Err(BaggageFault::UnknownStore(257))),
-        (b",posts/a@257x", Err(BaggageFault::BadId(257))),
-    ];
-    for (behind, told) in ends {
+    for (behind, told) in &ENDS {
         let text = full(rt.alloc(), behind)?;
         assert!(rt;
-            outcome(rt.alloc(), text.bytes()) == Some(told),
+            outcome(rt.alloc(), text.bytes()) == Some(*told),
             "at {behind:?}"
         );
     }

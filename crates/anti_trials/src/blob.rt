@@ -1,4 +1,4 @@
-use crate::steps::{Asked, Step, Told, steps_made, write};
+use crate::steps::{Asked, Step, Told, is_whole_to, write, wrong_step};
 use anti_blob::Blob;
 use anti_ids::NoMemory;
 use anti_kind::{Machine, Recorded};
@@ -15,33 +15,35 @@ fn blob(alloc: Global) -> Result<Recorded<Blob>, NoMemory> {
 }
 
 // A value of four parts.
-static LONG: [u8; 200] = [b'v'; 200];
+const LONG: &[u8] = &[b'v'; 200];
+
+// A write of four parts, of which three are shipped.
+static THREE_PARTS: [Step; 8] = [
+    Step(Asked::Write(b"m", LONG, &[]), Told::Wrote(1), 1, 4),
+    Step(Asked::Ship(1, 5), Told::NotNow, 1, 4),
+    Step(Asked::Ship(1, 4), Told::Moved, 2, 3),
+    Step(Asked::Read(b"m"), Told::Rows(&[(b"m", 0, b"")]), 3, 3),
+    Step(Asked::Ship(1, 1), Told::Moved, 4, 2),
+    Step(Asked::Read(b"m"), Told::Rows(&[(b"m", 0, b"")]), 5, 2),
+    Step(Asked::Ship(1, 3), Told::Moved, 6, 1),
+    Step(Asked::Read(b"m"), Told::Rows(&[(b"m", 0, b"")]), 7, 1),
+];
+
+// The last one.
+static LAST_PART: [Step; 2] = [
+    Step(Asked::Ship(1, 2), Told::Moved, 8, 0),
+    Step(Asked::Read(b"m"), Told::Rows(&[(b"m", 1, LONG)]), 9, 0),
+];
 
 #[test]
 fn a_value_shows_with_its_last_part(rt: HostRuntime) -> Result<(), Fail> {
-    let front = [
-        Step(Asked::Write(b"m", &LONG, &[]), Told::Wrote(1), 1, 4),
-        Step(Asked::Ship(1, 5), Told::NotNow, 1, 4),
-        Step(Asked::Ship(1, 4), Told::Moved, 2, 3),
-        Step(Asked::Read(b"m"), Told::Rows(&[(b"m", 0, b"")]), 3, 3),
-        Step(Asked::Ship(1, 1), Told::Moved, 4, 2),
-        Step(Asked::Read(b"m"), Told::Rows(&[(b"m", 0, b"")]), 5, 2),
-        Step(Asked::Ship(1, 3), Told::Moved, 6, 1),
-        Step(Asked::Read(b"m"), Told::Rows(&[(b"m", 0, b"")]), 7, 1),
-    ];
-    let rest = [
-        Step(Asked::Ship(1, 2), Told::Moved, 8, 0),
-        Step(Asked::Read(b"m"), Told::Rows(&[(b"m", 1, &LONG)]), 9, 0),
-    ];
+    let five = write(rt.alloc(), b"m", LONG, &[])?;
     let mut store = blob(rt.alloc())?;
-    let five = write(rt.alloc(), b"m", &LONG, &[])?;
     assert_eq!(rt; store.machine().need(&five), 5);
-    assert_eq!(rt; steps_made(rt.alloc(), &mut store, &front)?, front.len());
-    assert_eq!(rt; store.machine().upto(0), 0);
-    assert!(rt; store.machine().next_ship(0) == Some((1, 2)));
-    assert_eq!(rt; steps_made(rt.alloc(), &mut store, &rest)?, rest.len());
-    assert_eq!(rt; store.machine().upto(0), 1);
-    assert!(rt; store.machine().next_ship(0) == None);
+    assert_eq!(rt; wrong_step(rt.alloc(), &mut store, &THREE_PARTS), None);
+    assert!(rt; is_whole_to(&store, 0, Some((1, 2))));
+    assert_eq!(rt; wrong_step(rt.alloc(), &mut store, &LAST_PART), None);
+    assert!(rt; is_whole_to(&store, 1, None));
     Ok(())
 }
 

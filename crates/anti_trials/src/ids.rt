@@ -118,23 +118,38 @@ fn full_lineages_stay_as_they_were(rt: HostRuntime) -> Result<(), Fail> {
     Ok(())
 }
 
-#[test]
-fn lists_have_the_room_that_they_reserve(rt: HostRuntime) -> Result<(), Fail> {
-    let alloc = rt.alloc();
-    let value = Value::new(alloc, b"v").ok().ok_or("a value")?;
-    assert!(rt; value.copy(alloc).is_ok());
+// Whether a value has a copy.
+fn is_copied(alloc: Global) -> Option<bool> {
+    let value = Value::new(alloc, b"v").ok()?;
+    let copied = value.copy(alloc).ok()?;
+    Some(copied.bytes() == value.bytes())
+}
+
+// Whether bytes have the room that they reserve, and more comes behind it; and whether they have a copy.
+fn are_bytes_kept(alloc: Global) -> Option<bool> {
     let mut bytes = Bytes::new(alloc);
-    assert!(rt; bytes.reserve(4).is_ok());
+    bytes.reserve(4).ok()?;
     for byte in *b"abcd" {
-        assert!(rt; bytes.push(byte).is_ok());
+        bytes.push(byte).ok()?;
     }
-    assert!(rt; bytes.append(b"ef").is_ok());
-    let copied = bytes.copy(alloc).ok().ok_or("a copy")?;
-    assert!(rt; copied.bytes() == b"abcdef".as_slice());
+    bytes.append(b"ef").ok()?;
+    let copied = bytes.copy(alloc).ok()?;
+    Some(copied.bytes() == b"abcdef".as_slice())
+}
+
+// How many lineages there are where room for four is reserved, and four are added.
+fn lineages_kept(alloc: Global) -> Option<usize> {
     let mut lineages: List<Lineage> = List::new(alloc);
-    assert!(rt; lineages.reserve(4).is_ok());
+    lineages.reserve(4).ok()?;
     for _ in 0..4 {
-        assert!(rt; lineages.push(Lineage::root(alloc)).is_ok());
+        lineages.push(Lineage::root(alloc)).ok()?;
     }
-    Ok(())
+    Some(lineages.len())
+}
+
+#[test]
+fn lists_have_the_room_that_they_reserve(rt: HostRuntime) {
+    assert_eq!(rt; is_copied(rt.alloc()), Some(true));
+    assert_eq!(rt; are_bytes_kept(rt.alloc()), Some(true));
+    assert_eq!(rt; lineages_kept(rt.alloc()), Some(4));
 }

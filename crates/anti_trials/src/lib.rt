@@ -1,5 +1,5 @@
-//! The tests of all crates, a file for each crate or matter that they are about. The crates themselves have none, so that each is
-//! proved once.
+//! The tests of the libraries below the top call, a file for each crate or matter that they are about. The crates themselves have none,
+//! so that each is proved once.
 #![tactic(auto)]
 
 #[cfg(test)]
@@ -8,10 +8,6 @@ mod app;
 mod baggage;
 #[cfg(test)]
 mod blob;
-#[cfg(test)]
-mod calling;
-#[cfg(test)]
-mod command;
 #[cfg(test)]
 mod edge;
 #[cfg(test)]
@@ -25,29 +21,15 @@ mod lang;
 #[cfg(test)]
 mod made;
 #[cfg(test)]
-mod pulls;
-#[cfg(test)]
 mod queue;
 #[cfg(test)]
-mod refusals;
-#[cfg(test)]
-mod rules;
-#[cfg(test)]
-mod runs;
-#[cfg(test)]
 mod sending;
-#[cfg(test)]
-mod services;
 #[cfg(test)]
 mod shim;
 #[cfg(test)]
 mod steps;
 #[cfg(test)]
-mod stores;
-#[cfg(test)]
 mod table;
-#[cfg(test)]
-mod text;
 #[cfg(test)]
 mod topic;
 #[cfg(test)]

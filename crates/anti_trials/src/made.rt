@@ -5,22 +5,19 @@ ghost use Rattle.anti_ids.specs.Names.{is_plain};
 use anti_ids::{Bytes, Lineage, Name, Value, WriteId};
 use anti_kind::{Message, MessageKind, Sub};
 use std::alloc::Global;
-use std::test::Fail;
 
 /// The name that a text is.
-pub fn name(text: &[u8]) -> Result<Name, Fail> {
-    let name = Name::new(text).ok().ok_or("no name")?;
-    Ok(name)
+pub fn name(text: &[u8]) -> Result<Name, &'static str> {
+    Name::new(text).ok().ok_or("no name")
 }
 
 /// The value that a text is.
-pub fn value(alloc: Global, text: &[u8]) -> Result<Value, Fail> {
-    let value = Value::new(alloc, text).ok().ok_or("no value")?;
-    Ok(value)
+pub fn value(alloc: Global, text: &[u8]) -> Result<Value, &'static str> {
+    Value::new(alloc, text).ok().ok_or("no value")
 }
 
 /// The id of a version of a key of a store.
-pub fn id(store: u32, key: &[u8], version: u64) -> Result<WriteId, Fail>
+pub fn id(store: u32, key: &[u8], version: u64) -> Result<WriteId, &'static str>
     ensures { IfOk result (λ id. id.version ≡ version) }
 {
     let key = name(key)?;
@@ -32,7 +29,12 @@ pub fn id(store: u32, key: &[u8], version: u64) -> Result<WriteId, Fail>
 }
 
 /// The first versions of a key of a store.
-pub fn versions(alloc: Global, store: u32, key: &[u8], count: u64) -> Result<Lineage, Fail> {
+pub fn versions(
+    alloc: Global,
+    store: u32,
+    key: &[u8],
+    count: u64,
+) -> Result<Lineage, &'static str> {
     let mut lineage = Lineage::root(alloc);
     for version in 1..=count {
         let id = id(store, key, version)?;
@@ -42,11 +44,11 @@ pub fn versions(alloc: Global, store: u32, key: &[u8], count: u64) -> Result<Lin
 }
 
 /// These keys with their versions, each from 1 on, of the store 0.
-pub fn lineage(alloc: Global, ids: &[(&[u8], u64)]) -> Result<Lineage, Fail> {
+pub fn lineage(alloc: Global, ids: &[(&[u8], u64)]) -> Result<Lineage, &'static str> {
     let mut lineage = Lineage::root(alloc);
     for (key, version) in ids {
         if *version == 0 {
-            return Err("no version".into());
+            return Err("no version");
         }
         let id = id(0, key, *version)?;
         lineage.append(id).ok().ok_or("no lineage")?;
@@ -55,7 +57,12 @@ pub fn lineage(alloc: Global, ids: &[(&[u8], u64)]) -> Result<Lineage, Fail> {
 }
 
 /// A message to the handler `work`, whose value is a letter.
-pub fn message(alloc: Global, kind: MessageKind, to: u32, letter: u8) -> Result<Message, Fail>
+pub fn message(
+    alloc: Global,
+    kind: MessageKind,
+    to: u32,
+    letter: u8,
+) -> Result<Message, &'static str>
     ensures { IfOk result (λ m. m.kind ≡ kind) }
 {
     let handler = name(b"work")?;
@@ -71,13 +78,13 @@ pub fn message(alloc: Global, kind: MessageKind, to: u32, letter: u8) -> Result<
 }
 
 /// A subscription to a plain channel, in region 0.
-pub fn sub(channel: &[u8]) -> Result<Sub, Fail>
+pub fn sub(channel: &[u8]) -> Result<Sub, &'static str>
     ensures region { IfOk result (λ sub. sub.region ≡ 0) }
     ensures plain { IfOk result (λ sub. is_plain sub.channel ≡ true) }
 {
     let channel = name(channel)?;
     if !channel.plain() {
-        return Err("no plain name".into());
+        return Err("no plain name");
     }
     Ok(Sub { channel, region: 0 })
 }

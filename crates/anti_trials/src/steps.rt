@@ -4,7 +4,6 @@ use crate::made::{lineage, message, name, value};
 use anti_ids::{Lineage, NoMemory};
 use anti_kind::{Actor, Asking, Call, Machine, MessageKind, Recorded, Reply, Row};
 use std::alloc::Global;
-use std::test::Fail;
 
 /// A key and its version.
 pub type Version<'a> = (&'a [u8], u64);
@@ -74,7 +73,12 @@ pub enum Told<'a> {
 pub struct Step<'a>(pub Asked<'a>, pub Told<'a>, pub u32, pub u32);
 
 /// A write.
-pub fn write(alloc: Global, key: &[u8], text: &[u8], ids: &[Version]) -> Result<Call, Fail> {
+pub fn write(
+    alloc: Global,
+    key: &[u8],
+    text: &[u8],
+    ids: &[Version],
+) -> Result<Call, &'static str> {
     let key = name(key)?;
     let value = value(alloc, text)?;
     let lineage = lineage(alloc, ids)?;
@@ -109,7 +113,7 @@ fn look(ids: Lineage) -> Call {
     }
 }
 
-fn call_of(alloc: Global, asked: Asked) -> Result<Call, Fail> {
+fn call_of(alloc: Global, asked: Asked) -> Result<Call, &'static str> {
     match asked {
         Asked::Write(key, text, ids) => write(alloc, key, text, ids),
         Asked::Read(key) => {
@@ -199,19 +203,38 @@ fn make<M: Machine>(object: &mut Recorded<M>, call: Call) -> Result<Option<Reply
     Ok(Some(told))
 }
 
-/// How many of these steps, from the first on, go as they say.
-pub fn steps_made<M: Machine>(
+// Whether a step goes as it says.
+fn goes<M: Machine>(alloc: Global, object: &mut Recorded<M>, step: &Step) -> bool {
+    let Ok(call) = call_of(alloc, step.0) else {
+        return false;
+    };
+    let Ok(reply) = make(object, call) else {
+        return false;
+    };
+    let machine = object.machine();
+    is_told(&reply, step.1) && machine.held() == step.2 && machine.owed() == step.3
+}
+
+/// The first of these steps that does not go as it says, or for which memory runs out. `None` where each does.
+pub fn wrong_step<M: Machine>(
     alloc: Global,
     object: &mut Recorded<M>,
     steps: &[Step],
-) -> Result<usize, Fail> {
+) -> Option<usize> {
     for (place, step) in steps.iter().enumerate() {
-        let call = call_of(alloc, step.0)?;
-        let reply = make(object, call)?;
-        let machine = object.machine();
-        if !is_told(&reply, step.1) || machine.held() != step.2 || machine.owed() != step.3 {
-            return Ok(place);
+        if !goes(alloc, object, step) {
+            return Some(place);
         }
     }
-    Ok(steps.len())
+    None
+}
+
+/// Whether the versions up to this one are whole in region 0, and this is to be shipped there next.
+pub fn is_whole_to<M: Machine>(
+    object: &Recorded<M>,
+    version: u64,
+    next: Option<(u64, u32)>,
+) -> bool {
+    let machine = object.machine();
+    machine.upto(0) == version && machine.next_ship(0) == next
 }

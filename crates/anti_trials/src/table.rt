@@ -1,4 +1,4 @@
-use crate::steps::{Asked, Step, Told, steps_made};
+use crate::steps::{Asked, Step, Told, is_whole_to, wrong_step};
 use anti_ids::NoMemory;
 use anti_kind::{Machine, Recorded};
 use anti_table::Table;
@@ -14,43 +14,49 @@ fn table(alloc: Global) -> Result<Recorded<Table>, NoMemory> {
     }
 }
 
+// Two rows with one key and a third that names both, and a shipment that comes too early.
+static NAMED: [Step; 6] = [
+    Step(Asked::Write(b"row-b", b"1", &[]), Told::Wrote(1), 1, 1),
+    Step(
+        Asked::Write(b"row-b", b"2", &[(b"row-b", 1)]),
+        Told::Wrote(2),
+        2,
+        2,
+    ),
+    Step(
+        Asked::Write(b"row-a", b"x", &[(b"row-b", 1), (b"row-b", 2)]),
+        Told::Wrote(3),
+        3,
+        3,
+    ),
+    Step(Asked::Ship(3, 1), Told::NotNow, 3, 3),
+    Step(Asked::Ship(1, 1), Told::Moved, 4, 2),
+    Step(
+        Asked::Scan(b"row"),
+        Told::Rows(&[(b"row-b", 1, b"1")]),
+        5,
+        2,
+    ),
+];
+
+// The shipments behind it.
+static SHIPPED: [Step; 3] = [
+    Step(Asked::Ship(2, 1), Told::Moved, 6, 1),
+    Step(Asked::Ship(3, 1), Told::Moved, 7, 0),
+    Step(
+        Asked::Scan(b"row"),
+        Told::Rows(&[(b"row-a", 3, b"x"), (b"row-b", 2, b"2")]),
+        9,
+        0,
+    ),
+];
+
 #[test]
 fn a_row_waits_for_those_that_it_names(rt: HostRuntime) -> Result<(), Fail> {
-    let one = (b"row-b".as_slice(), 1);
-    let two = (b"row-b".as_slice(), 2);
-    let front = [
-        Step(Asked::Write(b"row-b", b"1", &[]), Told::Wrote(1), 1, 1),
-        Step(Asked::Write(b"row-b", b"2", &[one]), Told::Wrote(2), 2, 2),
-        Step(
-            Asked::Write(b"row-a", b"x", &[one, two]),
-            Told::Wrote(3),
-            3,
-            3,
-        ),
-        Step(Asked::Ship(3, 1), Told::NotNow, 3, 3),
-        Step(Asked::Ship(1, 1), Told::Moved, 4, 2),
-        Step(
-            Asked::Scan(b"row"),
-            Told::Rows(&[(b"row-b", 1, b"1")]),
-            5,
-            2,
-        ),
-    ];
-    let rest = [
-        Step(Asked::Ship(2, 1), Told::Moved, 6, 1),
-        Step(Asked::Ship(3, 1), Told::Moved, 7, 0),
-        Step(
-            Asked::Scan(b"row"),
-            Told::Rows(&[(b"row-a", 3, b"x"), (b"row-b", 2, b"2")]),
-            9,
-            0,
-        ),
-    ];
     let mut store = table(rt.alloc())?;
-    assert_eq!(rt; steps_made(rt.alloc(), &mut store, &front)?, front.len());
-    assert_eq!(rt; store.machine().upto(0), 1);
-    assert!(rt; store.machine().next_ship(0) == Some((2, 1)));
-    assert_eq!(rt; steps_made(rt.alloc(), &mut store, &rest)?, rest.len());
-    assert_eq!(rt; store.machine().upto(0), 3);
+    assert_eq!(rt; wrong_step(rt.alloc(), &mut store, &NAMED), None);
+    assert!(rt; is_whole_to(&store, 1, Some((2, 1))));
+    assert_eq!(rt; wrong_step(rt.alloc(), &mut store, &SHIPPED), None);
+    assert!(rt; is_whole_to(&store, 3, None));
     Ok(())
 }

@@ -2,7 +2,7 @@ ghost use Rattle.std.specs.Prelude.{◌≡◌, ◌<◌, All, IfOk, length};
 ghost use Rattle.anti_trace.specs.Histories.{IsHistory};
 
 use crate::made::{message, name};
-use anti_ids::{Copies, Lineage, List, NoMemory, Value};
+use anti_ids::{Copies, Lineage, List, Name, NoMemory, Value};
 use anti_kind::{Actor, Call, Entry, History, MessageKind, Reply, Row};
 use anti_trace::{Histories, merge};
 use std::alloc::Global;
@@ -63,10 +63,8 @@ fn three_histories_are_merged(rt: HostRuntime) -> Result<(), Fail> {
     Ok(())
 }
 
-#[test]
-fn entries_are_copied(rt: HostRuntime) -> Result<(), Fail> {
-    let alloc = rt.alloc();
-    let key = name(b"k")?;
+// A copy of a reply that shows a row.
+fn shown(alloc: Global, key: Name) -> Result<Reply, NoMemory> {
     let mut rows = List::new(alloc);
     rows.reserve(1)?;
     rows.put(Row {
@@ -75,26 +73,36 @@ fn entries_are_copied(rt: HostRuntime) -> Result<(), Fail> {
         value: Value::empty(alloc),
         lineage: Lineage::root(alloc),
     });
-    let shown = Reply::Shown(rows).copy(alloc)?;
+    Reply::Shown(rows).copy(alloc)
+}
+
+// The stamp of the copy of an entry with this stamp and this reply. `None` where memory runs out.
+fn copied(alloc: Global, key: Name, stamp: u64, reply: Reply) -> Option<u64> {
+    let entry = Entry {
+        stamp,
+        object: 0,
+        place: 1,
+        seat: 0,
+        actor: Actor::Newborn,
+        span: 1,
+        call: Call::Write {
+            key,
+            value: Value::empty(alloc),
+            lineage: Lineage::root(alloc),
+        },
+        reply,
+    };
+    let again = entry.copy(alloc).ok()?;
+    Some(again.stamp)
+}
+
+#[test]
+fn entries_are_copied(rt: HostRuntime) -> Result<(), Fail> {
+    let alloc = rt.alloc();
+    let key = name(b"k")?;
     let message = message(alloc, MessageKind::Request, 0, b'q')?;
     let got = Reply::Got { number: 1, message }.copy(alloc)?;
-    for reply in [shown, got] {
-        let entry = Entry {
-            stamp: 7,
-            object: 0,
-            place: 1,
-            seat: 0,
-            actor: Actor::Newborn,
-            span: 1,
-            call: Call::Write {
-                key,
-                value: Value::empty(alloc),
-                lineage: Lineage::root(alloc),
-            },
-            reply,
-        };
-        let again = entry.copy(alloc)?;
-        assert_eq!(rt; again.stamp, 7);
-    }
+    assert_eq!(rt; copied(alloc, key, 7, got), Some(7));
+    assert_eq!(rt; copied(alloc, key, 8, shown(alloc, key)?), Some(8));
     Ok(())
 }

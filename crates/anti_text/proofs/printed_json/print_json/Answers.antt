@@ -2,7 +2,7 @@ use Rattle.std.proofs.Common.{◌≡◌, [], ◌++◌, codes, length, decimal, r
 use Rattle.serde_json.specs.View.{items_of}
 use Rattle.serde_json.specs.Written.{items_text}
 use Rattle.anti_ids.specs.List.{plain}
-use Rattle.anti_text.specs.Json.{entry_data, process_data, wait_data}
+use Rattle.anti_text.specs.Json.{entry_data, process_data, span_data, wait_data}
 use Rattle.anti_text.proofs.Shapes.{record_added}
 use Rattle.anti_text.proofs.printed_json.print_json.Goals as goal
 
@@ -14,14 +14,14 @@ returns c =
     let entries : c.add_list.new.out ≡ c.add_number.new.out ++ codes ",\"entries\":[" ++ items_text false (items_of (map (entry_data app) t.entries)) = search rules in
     let processes : c.add_list-2.new.out ≡ c.add_list.new.out ++ codes ",\"processes\":[" ++ items_text false (items_of (map (process_data app) t.ends)) = search rules in
     let one : c.put.new.self ≡ c.add_list-2.new.out ++ codes ",\"record\":1" = c.in_ok-put.ensures in
-    let spans : c.put-2.new.self ≡ c.put.new.self ++ codes ",\"spans\":[]" = c.in_ok-put-2.ensures in
-    let waits : c.add_list-3.new.out ≡ c.put-2.new.self ++ codes ",\"waits\":[" ++ items_text false (items_of (map (wait_data app) t.waits)) = search rules in
-    let closed : c.put-3.new.self ≡ c.add_list-3.new.out ++ codes "}" = c.in_ok-put-3.ensures in
-    let ended : c.put-4.new.self ≡ c.put-3.new.self ++ codes "\n" = c.in_ok-put-4.ensures in
+    let spans : c.add_list-3.new.out ≡ c.put.new.self ++ codes ",\"spans\":[" ++ items_text false (items_of (map (span_data app) t.spans)) = search rules in
+    let waits : c.add_list-4.new.out ≡ c.add_list-3.new.out ++ codes ",\"waits\":[" ++ items_text false (items_of (map (wait_data app) t.waits)) = search rules in
+    let closed : c.put-2.new.self ≡ c.add_list-4.new.out ++ codes "}" = c.in_ok-put-2.ensures in
+    let ended : c.put-3.new.self ≡ c.put-2.new.self ++ codes "\n" = c.in_ok-put-3.ensures in
     let all =
     ended ∙ ap (λ x. x ++ codes "\n") (closed ∙ ap (λ x. x ++ codes "}")
     (waits ∙ ap (λ x. x ++ codes ",\"waits\":[" ++ items_text false (items_of (map (wait_data app) t.waits)))
-    (spans ∙ ap (λ x. x ++ codes ",\"spans\":[]") (one ∙ ap (λ x. x ++ codes ",\"record\":1")
+    (spans ∙ ap (λ x. x ++ codes ",\"spans\":[" ++ items_text false (items_of (map (span_data app) t.spans))) (one ∙ ap (λ x. x ++ codes ",\"record\":1")
     (processes ∙ ap (λ x. x ++ codes ",\"processes\":[" ++ items_text false (items_of (map (process_data app) t.ends)))
     (entries ∙ ap (λ x. x ++ codes ",\"entries\":[" ++ items_text false (items_of (map (entry_data app) t.entries))) number)))))) in
     c.into_bytes.ensures ∙ ap plain (all ∙ ap (λ x. x ++ codes "\n") (sym (record_added app t)))

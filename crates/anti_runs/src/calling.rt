@@ -2,7 +2,7 @@
 
 use anti_command::antipode_plain;
 use anti_edge::{MemorySink, MemorySource};
-use anti_ids::{Bytes, Value};
+use anti_ids::Value;
 use std::alloc::Global;
 
 /// A document with one store and nothing else.
@@ -41,19 +41,28 @@ pub struct Row<'a> {
     pub err: &'a [u8],
 }
 
-/// A call with the word `step`, of whose reads and writes none fails.
+/// A call with the word `step` on an empty document, of whose reads and writes none fails.
+pub const STEP: Row = Row {
+    word: b"step",
+    document: b"",
+    most: 10,
+    read_fails: 0,
+    write_fails: 0,
+    line_fails: 0,
+    status: 0,
+    out: b"",
+    more: false,
+    err: b"",
+};
+
+/// The same on a document, with what it has to come to.
 pub fn step<'a>(document: &'a [u8], status: u8, out: &'a [u8], err: &'a [u8]) -> Row<'a> {
     Row {
-        word: b"step",
         document,
-        most: 10,
-        read_fails: 0,
-        write_fails: 0,
-        line_fails: 0,
         status,
         out,
-        more: false,
         err,
+        ..STEP
     }
 }
 
@@ -82,33 +91,37 @@ pub fn ends_as(alloc: Global, row: &Row) -> Option<bool> {
     Some(outcome.status == row.status && written && err.bytes() == row.err)
 }
 
-/// Two requests, one to each handler.
-pub const TWO_REQUESTS: &[u8] =
-    b"{service = \"w\", handler = \"one\"}, {service = \"w\", handler = \"two\"}";
-
-/// A document with one store, these requests, and a service with the handlers `one` and `two`. `None` where memory runs out.
-pub fn served(
-    alloc: Global,
-    requests: &[u8],
-    choices: &[u8],
-    one: &[u8],
-    two: &[u8],
-) -> Option<Bytes> {
-    let pieces = [
-        b"choices = [".as_slice(),
-        choices,
-        b"]\nregions = [\"eu\"]\nstore = [{name = \"s\", kind = \"kv\", replicas = [\"eu\"]}]\nrequest = [",
-        requests,
-        b"]\n",
-        b"[[service]]\nname = \"w\"\nregion = \"eu\"\n[[service.handler]]\nname = \"one\"\nbody = [",
-        one,
-        b"]\n[[service.handler]]\nname = \"two\"\nbody = [",
-        two,
-        b"]\n",
-    ];
-    let mut document = Bytes::new(alloc);
-    for piece in pieces {
-        document.append(piece).ok()?;
-    }
-    Some(document)
+/// A document with one store, requests, and a service with the handlers `one` and `two`. Where no requests are given there are two, one to
+/// each handler.
+macro_rules! served {
+    ($choices:literal, $one:literal, $two:literal) => {
+        served!(
+            "{service = 'w', handler = 'one'}, {service = 'w', handler = 'two'}",
+            $choices,
+            $one,
+            $two
+        )
+    };
+    ($requests:literal, $choices:literal, $one:literal, $two:literal) => {
+        concat!(
+            "choices = [",
+            $choices,
+            "]
+regions = ['eu']
+store = [{name = 's', kind = 'kv', replicas = ['eu']}]
+request = [",
+            $requests,
+            "]
+[[service]]
+name = 'w'
+region = 'eu'
+handler = [{name = 'one', body = [",
+            $one,
+            "]}, {name = 'two', body = [",
+            $two,
+            "]}]"
+        )
+    };
 }
+
+pub(crate) use served;

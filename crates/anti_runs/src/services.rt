@@ -1,13 +1,12 @@
 // Services that call each other and send to each other, through the top call, and messages that start no process.
-ghost use Rattle.std.specs.Prelude.{IfSome, IsTrue};
+ghost use Rattle.std.specs.Prelude.{IsTrue};
 ghost use Rattle.anti_app.specs.Sound.{is_sound};
 
 use crate::calling::{ends_as, step, step_to};
-use crate::made::name;
-use anti_app::{App, read_app};
+use crate::playing::{Run, run_of};
+use anti_app::App;
 use anti_ids::{Bytes, Copies, Name};
 use anti_kind::{Entry, Message, Reply};
-use anti_play::{Played, play};
 use anti_proc::{ProcFault, Process};
 use std::alloc::Global;
 use std::test::Fail;
@@ -255,16 +254,6 @@ fn messages_are_not_too_deep_and_an_inbox_fills(rt: HostRuntime) {
     assert_eq!(rt; ends_as(rt.alloc(), &full), Some(true));
 }
 
-// The application that the bytes state. `None` where they state none or memory runs out.
-fn application(alloc: Global, document: &[u8]) -> Option<App>
-    ensures { IfSome result (λ app. IsTrue (is_sound app)) }
-{
-    match read_app(alloc, document) {
-        Ok(app) => Some(app),
-        Err(_) => None,
-    }
-}
-
 // An entry like this, whose message names this handler and has this depth and baggage. `None` where memory runs out.
 fn changed(
     alloc: Global,
@@ -301,7 +290,7 @@ fn changed(
 }
 
 // What comes of a process that is to be born by an entry whose message is changed. `None` where memory runs out.
-#[tactic(auto, using(crate::proofs::Sound::runs))]
+#[tactic(auto, using(anti_app::proofs::Runnable::can_run))]
 fn birth(
     alloc: Global,
     app: &App,
@@ -322,11 +311,10 @@ fn birth(
 #[test]
 fn a_foreign_message_starts_no_process(rt: HostRuntime) -> Result<(), Fail> {
     let alloc = rt.alloc();
-    let app = application(alloc, REPEATED.as_bytes()).ok_or("no application")?;
-    let Played { trace, .. } = play(alloc, &app)?;
+    let Run { app, trace } = run_of(alloc, REPEATED.as_bytes()).ok_or("no run")?;
     let entry = trace.as_slice().get(4).ok_or("an entry")?;
-    let tell = name(b"tell")?;
-    let none = name(b"none")?;
+    let tell = Name::new(b"tell").ok().ok_or("a name")?;
+    let none = Name::new(b"none").ok().ok_or("a name")?;
     let foreign = Some(Err(ProcFault::Foreign));
     assert_eq!(rt; birth(alloc, &app, entry, tell, 1, b"1;"), Some(Ok(())));
     assert_eq!(rt; birth(alloc, &app, entry, tell, 8, b"1;"), Some(Ok(())));

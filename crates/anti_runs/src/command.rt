@@ -1,7 +1,7 @@
 // The words of the top call, its faults, and each read and write that fails.
 
 use crate::calling::{
-    NOTHING_AS_JSON, NOTHING_HAPPENED, Row, STORE_ALONE, TWO_REQUESTS, ends_as, served, step,
+    NOTHING_AS_JSON, NOTHING_HAPPENED, Row, STEP, STORE_ALONE, ends_as, served, step,
 };
 use anti_command::antipode_plain;
 use anti_edge::{MemorySink, MemorySource};
@@ -9,10 +9,12 @@ use anti_ids::{Bytes, LONGEST_DOCUMENT, List, Value};
 use std::alloc::Global;
 use std::test::Fail;
 
-// The choices and the first body of a process that writes, and reads what it wrote once that is shipped; and the record.
-const CHOICES: &[u8] = b"\"take w 1\", \"go w.1\", \"ship s eu 1\", \"go w.1\", \"go w.1\"";
-
-const WRITE_AND_READ: &[u8] = b"\"write s k a\", \"read s k as x\"";
+// A process that writes, and reads what it wrote once that is shipped; and the record.
+const WRITE_AND_READ: &str = served!(
+    "'take w 1', 'go w.1', 'ship s eu 1', 'go w.1', 'go w.1'",
+    "'write s k a', 'read s k as x'",
+    ""
+);
 
 const WRITTEN_AND_READ: &[u8] = b"record 1
 1 w.1 w.1/1 take 1 = got 1 request one 0 \"\" 1;
@@ -21,6 +23,7 @@ const WRITTEN_AND_READ: &[u8] = b"record 1
 4 s.3 w.1/1 read eu k = k@1 \"a\" 1;
 wait 5 go w.1
 process w.1 w one fine
+span w.1/1 unguarded s.3
 end 4
 ";
 
@@ -56,79 +59,130 @@ fn lengthened(alloc: Global, document: &[u8], length: usize) -> Option<Bytes> {
     Some(longer)
 }
 
+// Calls of the top call, and what each comes to.
+static ROWS: [Row; 18] = [
+    Row {
+        document: STORE_ALONE,
+        out: NOTHING_HAPPENED,
+        ..STEP
+    },
+    Row {
+        word: b"",
+        document: STORE_ALONE,
+        status: 2,
+        err: b"usage\n",
+        ..STEP
+    },
+    Row {
+        word: b"steps",
+        document: STORE_ALONE,
+        status: 2,
+        err: b"usage\n",
+        ..STEP
+    },
+    Row {
+        word: b"--help",
+        document: STORE_ALONE,
+        status: 2,
+        err: b"usage\n",
+        ..STEP
+    },
+    Row {
+        document: STORE_ALONE,
+        read_fails: 2,
+        status: 3,
+        err: b"read fault\n",
+        ..STEP
+    },
+    Row {
+        document: STORE_ALONE,
+        write_fails: 2,
+        status: 4,
+        out: b"record 1\ne",
+        err: b"write fault\n",
+        ..STEP
+    },
+    Row {
+        document: STORE_ALONE,
+        write_fails: 2,
+        line_fails: 1,
+        status: 4,
+        out: b"record 1\ne",
+        ..STEP
+    },
+    Row {
+        word: b"json",
+        document: STORE_ALONE,
+        out: NOTHING_AS_JSON,
+        ..STEP
+    },
+    Row {
+        word: b"json",
+        document: STORE_ALONE,
+        write_fails: 2,
+        status: 4,
+        out: b"{\"end\":0,\"",
+        err: b"write fault\n",
+        ..STEP
+    },
+    Row {
+        word: b"json",
+        document: b"regions = [",
+        status: 5,
+        err: b"not toml\n",
+        ..STEP
+    },
+    Row {
+        document: b"regions = [",
+        line_fails: 1,
+        status: 5,
+        ..STEP
+    },
+    Row {
+        line_fails: 2,
+        status: 5,
+        err: b"app 2 top ",
+        ..STEP
+    },
+    Row {
+        document: b"regions = [",
+        status: 5,
+        err: b"not toml\n",
+        ..STEP
+    },
+    Row {
+        document: b"regions = [\"us\"] # \xff",
+        status: 5,
+        err: b"not toml\n",
+        ..STEP
+    },
+    Row {
+        document: b"regions = [\"us\"]\n",
+        out: NOTHING_HAPPENED,
+        ..STEP
+    },
+    Row {
+        document: b"regions = [\"us\"]\n[[store]]\nname = \"s\"\nkind = \"file\"\nreplicas = [\"us\"]\n",
+        status: 5,
+        err: b"app 11 store 1 0\n",
+        ..STEP
+    },
+    Row {
+        document: b"choices = [\"go s\"]\nregions = [\"us\"]\n[[store]]\nname = \"s\"\nkind = \"kv\"\nreplicas = [\"us\"]\n",
+        status: 5,
+        err: b"choice 1\n",
+        ..STEP
+    },
+    Row {
+        document: b"regions = [\"us\"]\nchoices = [\"finish\"]\n",
+        out: NOTHING_HAPPENED,
+        ..STEP
+    },
+];
+
 #[test]
 fn runs_are_written_and_refusals_are_told(rt: HostRuntime) {
-    let rows = [
-        step(STORE_ALONE, 0, NOTHING_HAPPENED, b""),
-        Row {
-            word: b"",
-            ..step(STORE_ALONE, 2, b"", b"usage\n")
-        },
-        Row {
-            word: b"steps",
-            ..step(STORE_ALONE, 2, b"", b"usage\n")
-        },
-        Row {
-            word: b"--help",
-            ..step(STORE_ALONE, 2, b"", b"usage\n")
-        },
-        Row {
-            read_fails: 2,
-            ..step(STORE_ALONE, 3, b"", b"read fault\n")
-        },
-        Row {
-            write_fails: 2,
-            ..step(STORE_ALONE, 4, b"record 1\ne", b"write fault\n")
-        },
-        Row {
-            write_fails: 2,
-            line_fails: 1,
-            ..step(STORE_ALONE, 4, b"record 1\ne", b"")
-        },
-        Row {
-            word: b"json",
-            ..step(STORE_ALONE, 0, NOTHING_AS_JSON, b"")
-        },
-        Row {
-            word: b"json",
-            write_fails: 2,
-            ..step(STORE_ALONE, 4, b"{\"end\":0,\"", b"write fault\n")
-        },
-        Row {
-            word: b"json",
-            ..step(b"regions = [", 5, b"", b"not toml\n")
-        },
-        Row {
-            line_fails: 1,
-            ..step(b"regions = [", 5, b"", b"")
-        },
-        Row {
-            line_fails: 2,
-            ..step(b"", 5, b"", b"app 2 top ")
-        },
-        step(b"regions = [", 5, b"", b"not toml\n"),
-        step(b"regions = [\"us\"] # \xff", 5, b"", b"not toml\n"),
-        step(b"regions = [\"us\"]\n", 0, NOTHING_HAPPENED, b""),
-        step(
-            b"regions = [\"us\"]\n[[store]]\nname = \"s\"\nkind = \"file\"\nreplicas = [\"us\"]\n",
-            5,
-            b"",
-            b"app 11 store 1 0\n",
-        ),
-        step(
-            b"choices = [\"go s\"]\nregions = [\"us\"]\n[[store]]\nname = \"s\"\nkind = \"kv\"\nreplicas = [\"us\"]\n",
-            5,
-            b"",
-            b"choice 1\n",
-        ),
-        step(
-            b"regions = [\"us\"]\nchoices = [\"finish\"]\n",
-            0,
-            NOTHING_HAPPENED,
-            b"",
-        ),
-    ];
-    for (i, row) in rows.iter().enumerate() {
+    for (i, row) in ROWS.iter().enumerate() {
         assert_eq!(rt; ends_as(rt.alloc(), row), Some(true), "row {i}");
     }
 }
@@ -153,12 +207,9 @@ fn a_longer_document_is_too_long(rt: HostRuntime) -> Result<(), Fail> {
 
 #[test]
 fn each_failing_read_and_write_is_told(rt: HostRuntime) -> Result<(), Fail> {
-    let document = served(rt.alloc(), TWO_REQUESTS, CHOICES, WRITE_AND_READ, b"").ok_or(
-        "no memory",
-    )?;
     let runs = [
         (STORE_ALONE, NOTHING_HAPPENED),
-        (document.bytes(), WRITTEN_AND_READ),
+        (WRITE_AND_READ.as_bytes(), WRITTEN_AND_READ),
     ];
     for (document, text) in runs {
         let reads = u32::try_from(document.len())?;

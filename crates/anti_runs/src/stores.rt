@@ -1,15 +1,16 @@
 // Stores of each kind that is built, through the top call.
 use crate::calling::{ends_as, step};
-use std::test::Fail;
 
-// A scan behind a barrier shows what was shipped.
-const SCANNED: &[u8] = b"regions = ['eu']
+// Documents with tables and blobs, and the record of each.
+static RECORDS: [(&str, &str); 3] = [
+    // a scan behind a barrier shows what was shipped
+    (
+        "regions = ['eu']
 choices = ['finish']
 store = [{name = 's', kind = 'table', replicas = ['eu']}]
 request = [{service = 'w', handler = 'one'}, {service = 'w', handler = 'two'}]
-service = [{name = 'w', region = 'eu', handler = [{name = 'one', body = ['write s k a', 'barrier', 'scan s k as x']}, {name = 'two', body = []}]}]";
-
-const SCAN_MADE: &[u8] = b"record 1
+service = [{name = 'w', region = 'eu', handler = [{name = 'one', body = ['write s k a', 'barrier', 'scan s k as x']}, {name = 'two', body = []}]}]",
+        "record 1
 1 w.1 w.1/1 take 1 = got 1 request one 0 \"\" 1;
 2 s.1 w.1/1 write k \"a\" 1; = k@1
 2 w.2 w.2/1 take 1 = got 2 request two 0 \"\" 1;
@@ -18,17 +19,18 @@ const SCAN_MADE: &[u8] = b"record 1
 5 s.4 w.1/1 scan eu k = k@1 \"a\" 1;
 process w.1 w one fine
 process w.2 w two fine
+span w.1/1 order s.1 s.4
 end 6
-";
-
-// A table takes no version before the one below it, and a scan shows its rows by their keys.
-const OUT_OF_ORDER: &[u8] = b"regions = ['eu']
+",
+    ),
+    // a table takes no version before the one below it, and a scan shows its rows by their keys
+    (
+        "regions = ['eu']
 choices = ['take w 1', 'go w.1', 'go w.1', 'ship s eu 2', 'ship s eu 1', 'ship s eu 2', 'go w.1', 'go w.1']
 store = [{name = 's', kind = 'table', replicas = ['eu']}]
 request = [{service = 'w', handler = 'one'}]
-service = [{name = 'w', region = 'eu', handler = [{name = 'one', body = ['write s kb 1', 'write s ka 2', 'scan s k as x', 'scan s q as y']}]}]";
-
-const ROWS_BY_KEY: &[u8] = b"record 1
+service = [{name = 'w', region = 'eu', handler = [{name = 'one', body = ['write s kb 1', 'write s ka 2', 'scan s k as x', 'scan s q as y']}]}]",
+        "record 1
 1 w.1 w.1/1 take 1 = got 1 request one 0 \"\" 1;
 2 s.1 w.1/1 write kb \"1\" 1; = kb@1
 3 s.2 w.1/1 write ka \"2\" 1;s/kb@1 = ka@2
@@ -38,17 +40,18 @@ const ROWS_BY_KEY: &[u8] = b"record 1
 7 s.6 w.1/1 scan eu q = none
 wait 4 ship s eu 2
 process w.1 w one fine
+span w.1/1 unguarded s.5
 end 7
-";
-
-// A value of 65 bytes has two parts, which come out of order, and is shown once both are there.
-const IN_PARTS: &[u8] = b"regions = ['eu']
+",
+    ),
+    // a value of 65 bytes has two parts, which come out of order, and is shown once both are there
+    (
+        "regions = ['eu']
 choices = ['take w 1', 'go w.1', 'ship s eu 1 2', 'go w.1', 'ship s eu 1 2', 'ship s eu 1 3', 'ship s eu 1', 'again s eu 1 2', 'go w.1']
 store = [{name = 's', kind = 'blob', replicas = ['eu']}]
 request = [{service = 'w', handler = 'one', value = '12345678901234567890123456789012345678901234567890123456789012345'}]
-service = [{name = 'w', region = 'eu', handler = [{name = 'one', body = ['write s k $in', 'read s k as x', 'read s k as y']}]}]";
-
-const PARTS_SHIPPED: &[u8] = b"record 1
+service = [{name = 'w', region = 'eu', handler = [{name = 'one', body = ['write s k $in', 'read s k as x', 'read s k as y']}]}]",
+        "record 1
 1 w.1 w.1/1 take 1 = got 1 request one 0 \"12345678901234567890123456789012345678901234567890123456789012345\" 1;
 2 s.1 w.1/1 write k \"12345678901234567890123456789012345678901234567890123456789012345\" 1; = k@1
 3 s.2 ~0 ship eu 1 2 = moved
@@ -59,19 +62,20 @@ const PARTS_SHIPPED: &[u8] = b"record 1
 wait 5 ship s eu 1 2
 wait 6 ship s eu 1 3
 process w.1 w one fine
+span w.1/1 unguarded s.3
 end 7
-";
+",
+    ),
+];
 
 #[test]
-fn tables_and_blobs_are_played(rt: HostRuntime) -> Result<(), Fail> {
-    let rows = [
-        (SCANNED, SCAN_MADE),
-        (OUT_OF_ORDER, ROWS_BY_KEY),
-        (IN_PARTS, PARTS_SHIPPED),
-    ];
-    for (document, record) in rows {
-        let row = step(document, 0, record, b"");
-        assert_eq!(rt; ends_as(rt.alloc(), &row), Some(true));
+fn tables_and_blobs_are_played(rt: HostRuntime) {
+    for (document, record) in &RECORDS {
+        let row = step(document.as_bytes(), 0, record.as_bytes(), b"");
+        assert_eq!(rt;
+            ends_as(rt.alloc(), &row),
+            Some(true),
+            "{record} of {document}"
+        );
     }
-    Ok(())
 }

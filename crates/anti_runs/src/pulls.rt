@@ -26,6 +26,12 @@ handler = [{name = 'note', body = [",
     };
 }
 
+/// A reader whose barrier waits for the post.
+pub const BARRIER_WAITS: &str = noting!(
+    "'go notes.3', 'ship posts eu 1', 'go notes.3', 'go notes.3', 'go notes.3', 'go notes.3'",
+    "'barrier', 'read posts $in as x'"
+);
+
 // One message, which is given back as often as it is pulled.
 macro_rules! given_back {
     ($tries:literal) => {
@@ -88,15 +94,13 @@ static RECORDS: [(&str, &str); 8] = [
 7 notes.4 notes.3/1 ack 1 = done
 process notes.3 reader note fine
 process poster.1 poster post fine
+span notes.3/1 unguarded posts.2
 end 7
 ",
     ),
     // a barrier waits for it
     (
-        noting!(
-            "'go notes.3', 'ship posts eu 1', 'go notes.3', 'go notes.3', 'go notes.3', 'go notes.3'",
-            "'barrier', 'read posts $in as x'"
-        ),
+        BARRIER_WAITS,
         "record 1
 1 poster.1 poster.1/1 take 1 = got 1 request post 0 \"hello\" 1;
 2 posts.1 poster.1/1 write p1 \"hello\" 1; = p1@1
@@ -111,6 +115,7 @@ end 7
 wait 6 go notes.3
 process notes.3 reader note fine
 process poster.1 poster post fine
+span notes.3/1 order posts.1 notes.1 posts.4
 end 10
 ",
     ),
@@ -223,6 +228,7 @@ process t.8 v show open
 process t.9 v show fine
 process t.10 v show open
 process w.1 w put fine
+span t.9/1 order t.1 t.2 t.12 t.13
 end 14
 ",
     ),

@@ -39,11 +39,7 @@ fn both(alloc: Global, app: &App) -> Result<(Bytes, Bytes), NoMemory>
 {
     let Played { trace, waits, ends } = play(alloc, app)?;
     let walked = text(alloc, app, &trace, &waits)?;
-    let report = Report {
-        trace: &trace,
-        waits: &waits,
-        ends,
-    };
+    let report = Report::with_ends(alloc, app, &trace, &waits, ends)?;
     let printed = print(alloc, app, &report)?;
     Ok((walked, printed))
 }
