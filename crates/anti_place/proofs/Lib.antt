@@ -1,0 +1,7 @@
+pub mod Earlier
+pub mod Flows
+pub mod Joining
+pub mod Doubting
+mod Stepping
+mod Shortness
+mod Worked

@@ -1,0 +1,16 @@
+use Rattle.anti_app.proofs.Runnable.{can_run}
+use Rattle.anti_place.proofs.Shortness.{few_handlers, short_handlers}
+use Rattle.anti_place.proofs.placement.placed.Goals as goal
+
+pub placed_in-requires-clause-runs : goal.placed_in-requires-clause-runs
+placed_in-requires-clause-runs c = can_run c.args.app.now c.requires
+
+pub placed_in-requires-clause-few : goal.placed_in-requires-clause-few
+placed_in-requires-clause-few c =
+    few_handlers c.args.app.now c.requires c.as_slice-it-items.result.now c.as_slice-it-items.ensures c.loop-service.service c.it-item.result c.loop-service-test.true
+    c.it-item.is c.as_slice.result.now c.as_slice.ensures
+
+pub placed_in-requires-clause-short : goal.placed_in-requires-clause-short
+placed_in-requires-clause-short c =
+    short_handlers c.args.app.now c.requires c.as_slice-it-items.result.now c.as_slice-it-items.ensures c.loop-service.service c.it-item.result c.loop-service-test.true
+    c.it-item.is c.as_slice.result.now c.as_slice.ensures
