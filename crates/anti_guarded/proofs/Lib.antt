@@ -1,0 +1,13 @@
+mod Clearing
+mod Histories
+mod Staying
+mod Asking
+mod Standing
+mod Bodies
+mod Placing
+mod Starting
+mod Posting
+mod Waiting
+mod Sending
+mod Arriving
+mod Keeping
