@@ -21,6 +21,8 @@ mod lang;
 #[cfg(test)]
 mod made;
 #[cfg(test)]
+mod place;
+#[cfg(test)]
 mod queue;
 #[cfg(test)]
 mod sending;
