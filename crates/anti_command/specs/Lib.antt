@@ -2,5 +2,7 @@ pub mod Words
 pub mod Lines
 pub mod Faults
 pub mod Runs
+pub mod Placed
 pub mod Commands
 pub mod Causes
+pub mod inner

@@ -1,25 +1,25 @@
--- What bytes state, a run of it, what this is worth, and its printed forms.
+-- What bytes state, a run of an application, what this is worth, and its printed forms.
 use Rattle.std.specs.Prelude.{ℕ, ◌≡◌, ◌≤◌, List, length, Option, IfSome, Result, Ok, IsTrue}
 use Rattle.anti_ids.specs.List.{plain}
 use Rattle.anti_app.specs.declared.app.App.{App}
 use Rattle.anti_app.specs.declared.app.AppFault.{AppFault}
 use Rattle.anti_app.specs.Sound.{is_sound}
 use Rattle.anti_app.specs.Stated.{app_of}
-use Rattle.anti_text.specs.Json.{json_of}
-use Rattle.anti_text.specs.Record.{text_of}
 use Rattle.anti_text.specs.Report.{IsPrinted, Told}
 use Rattle.anti_trace.specs.Legal.{IsLegalTrace}
 use Rattle.anti_causal.specs.Settled.{BarriersFindAll, DryRunsName}
 use Rattle.anti_order.specs.Answers.{SpansAreExplained}
 use Rattle.anti_play.specs.Schedule.{trace_of, waits_of}
-use Rattle.anti_command.specs.declared.command.Command.{Command}
-use Rattle.anti_command.specs.declared.command.Command.TheVariants.{Step, Json}
 use Rattle.anti_command.specs.declared.outcome.RunKept.{RunKept}
 use Rattle.anti_ids.specs.declared.limits.TheConstants.{LONGEST_DOCUMENT}
 
 -- the application that bytes state, or why they state none
 unfoldable pub application_of : List ℕ → Result App AppFault
 application_of bytes = app_of bytes
+
+-- the application is that which the bytes state, where the source tells them
+abbrev pub IsStated : Option (List ℕ) → App → Type 0
+IsStated left app = IfSome left (λ bytes. (length bytes ≤ LONGEST_DOCUMENT) × (application_of bytes ≡ Ok app))
 
 -- an application that can be played
 unfoldable pub IsPlayable : App → Type 0
@@ -42,18 +42,13 @@ FindsAll kept = BarriersFindAll kept.app kept.trace × DryRunsName kept.app kept
 unfoldable pub ExplainsSpans : RunKept → Type 0
 ExplainsSpans kept = SpansAreExplained kept.app kept.trace
 
--- the form in which a command writes a record
-abbrev pub form_of : Command → App → Told → List ℕ
-form_of Step app told = text_of app told
-form_of Json app told = json_of app told
+-- the bytes print the run, in this form
+unfoldable pub IsPrintOf : (App → Told → List ℕ) → RunKept → List ℕ → Type 0
+IsPrintOf form kept bytes = IsPrinted (form kept.app) kept.app kept.trace kept.waits.items bytes
 
--- the bytes are the record of the run, as a command writes it
-unfoldable pub IsRecordOf : Command → RunKept → List ℕ → Type 0
-IsRecordOf command kept bytes = IsPrinted (form_of command kept.app) kept.app kept.trace kept.waits.items bytes
-
--- the run is that of the application which the bytes state, where the source tells them
-pub record IsRunOf (left : Option (List ℕ)) (kept : RunKept) : Type 0 where
-  pub given : IfSome left (λ bytes. (length bytes ≤ LONGEST_DOCUMENT) × (application_of bytes ≡ Ok kept.app))
+-- the run is one of the application that is given
+pub record IsRunOf (IsGiven : App → Type 0) (kept : RunKept) : Type 0 where
+  pub given : IsGiven kept.app
   pub played : IsPlayed kept
   pub legal : IsLegalRun kept
   pub barriers : FindsAll kept

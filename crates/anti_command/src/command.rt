@@ -1,7 +1,8 @@
-ghost use Rattle.std.specs.Prelude.{◌≡◌};
-ghost use Rattle.anti_command.specs.Words.{command_of};
+ghost use Rattle.std.specs.Prelude.{◌≡◌, ◌≤◌, ℕ, Some};
+ghost use Rattle.anti_command.specs.Words.{command_of, load_of, word_of};
+ghost use Rattle.anti_command.specs.declared.command.Command.TheVariants.{Load};
 
-use anti_ids::Value;
+use anti_ids::{MOST_REQUESTS, Value, read_decimal};
 
 /// What the program is asked to do.
 #[derive(Clone, Copy, Debug, PartialEq, Eq)]
@@ -10,15 +11,46 @@ pub enum Command {
     Step,
     /// The same, and write the record as JSON.
     Json,
+    /// Tell whether barriers, transfers and roots stand where they must in the document that is read.
+    Place,
+    /// Play the load of so many requests, 1 to `MOST_REQUESTS`, and write the summary of the run. Nothing is read.
+    Load { requests: u32 },
 }
 
-/// The command that the words ask for: `step` or `json`, alone. It is `None` where they ask for none.
+// The command that one word asks for.
+fn word_of(word: &[u8]) -> Option<Command>
+    ensures { result ≡ word_of word.now }
+{
+    match word {
+        b"step" => Some(Command::Step),
+        b"json" => Some(Command::Json),
+        b"place" => Some(Command::Place),
+        _ => None,
+    }
+}
+
+// The load that two words ask for.
+fn load_of(word: &[u8], number: &[u8]) -> Option<Command>
+    ensures command { result ≡ load_of word.now number.now }
+    ensures few { (n : ℕ) → result ≡ Some (Load n) → n ≤ MOST_REQUESTS }
+{
+    if word != b"load".as_slice() {
+        return None;
+    }
+    let requests = read_decimal(number, 1, MOST_REQUESTS as u64)?;
+    Some(Command::Load {
+        requests: requests as u32,
+    })
+}
+
+/// The command that the words ask for: `step`, `json` or `place`, alone, or `load` and a number. It is `None` where they ask for none.
 pub fn asked_for(words: &[Value]) -> Option<Command>
-    ensures { result ≡ command_of words.now }
+    ensures command { result ≡ command_of words.now }
+    ensures few { (n : ℕ) → result ≡ Some (Load n) → n ≤ MOST_REQUESTS }
 {
     match words {
-        [word] if word.bytes() == b"step".as_slice() => Some(Command::Step),
-        [word] if word.bytes() == b"json".as_slice() => Some(Command::Json),
+        [word] => word_of(word.bytes()),
+        [word, number] => load_of(word.bytes(), number.bytes()),
         _ => None,
     }
 }

@@ -3,7 +3,7 @@ ghost use Rattle.anti_command.specs.Faults.{fault_of, status_of};
 ghost use Rattle.anti_command.specs.Lines.{line_of, part_word};
 
 use anti_app::{AppFault, Part, Place};
-use anti_ids::LONGEST_LINE;
+use anti_ids::{LONGEST_LINE, NoMemory};
 use arrayvec::ArrayString;
 use itoa::Buffer;
 
@@ -28,15 +28,28 @@ pub enum TopFault {
     NoMemory,
 }
 
-/// The fault of the call for the fault of its bytes.
-pub fn fault_of(fault: AppFault) -> TopFault
-    ensures { result ≡ fault_of fault }
-{
-    match fault {
-        AppFault::NotToml => TopFault::NotToml,
-        AppFault::Bad { rule, place } => TopFault::BadApp { rule, place },
-        AppFault::BadChoice { number } => TopFault::BadChoice { number },
-        AppFault::NoMemory => TopFault::NoMemory,
+impl From<AppFault> for TopFault {
+    ghost use Rattle.anti_command.specs.Faults.{fault_of};
+
+    ghost from_gives = { λ cause fault. fault ≡ fault_of cause };
+
+    fn from(fault: AppFault) -> TopFault {
+        match fault {
+            AppFault::NotToml => TopFault::NotToml,
+            AppFault::Bad { rule, place } => TopFault::BadApp { rule, place },
+            AppFault::BadChoice { number } => TopFault::BadChoice { number },
+            AppFault::NoMemory => TopFault::NoMemory,
+        }
+    }
+}
+
+impl From<NoMemory> for TopFault {
+    ghost use Rattle.anti_command.specs.declared.fault.TopFault.TheVariants as faults;
+
+    ghost from_gives = { λ _ fault. fault ≡ faults.NoMemory };
+
+    fn from(_: NoMemory) -> TopFault {
+        TopFault::NoMemory
     }
 }
 

@@ -2,9 +2,14 @@
 #![tactic(auto)]
 
 mod command;
+mod doing;
 mod fault;
 mod outcome;
+mod prepared;
 mod preparing;
+mod printing;
+mod reading;
+mod running;
 mod telling;
 mod top;
 

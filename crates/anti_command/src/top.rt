@@ -15,7 +15,8 @@ use anti_edge::{Failed, Sink, Source, write_all};
 use anti_ids::Value;
 use std::alloc::Global;
 
-/// Does what the words ask for with the document that the source has. The text goes to `out`, the line of a fault to `err`.
+/// Does what the words ask for with the document that the source has; a load reads nothing. The text goes to `out`, the line of a fault to
+/// `err`.
 pub fn antipode_plain<S: Source, K: Sink, E: Sink>(
     alloc: Global,
     words: &[Value],

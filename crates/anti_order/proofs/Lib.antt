@@ -1,4 +1,5 @@
 mod AnswersMore
+mod Counted
 mod Explaining
 mod InPast
 mod Listed

@@ -44,8 +44,8 @@ fn is_settled(pasts: &[Option<Past>], read: u32) -> bool
     }
 }
 
-// The first of some reads that is not settled.
-fn first_unsettled(pasts: &[Option<Past>], reads: &[u32]) -> Option<u32>
+/// The first of some reads that is not settled.
+pub fn first_unsettled(pasts: &[Option<Past>], reads: &[u32]) -> Option<u32>
     requires { All (λ r. r < length pasts.now) reads.now }
     ensures { result ≡ find (λ r. not (is_settled_at pasts.now r)) reads.now }
 {

@@ -4,6 +4,7 @@
 mod answer;
 mod answering;
 mod arranging;
+mod counting;
 mod fresh;
 mod laws;
 mod marking;
@@ -11,5 +12,6 @@ mod orders;
 mod writes;
 
 pub use answer::{Marks, OrderAnswer, SpanAnswer, SpanAnswers};
+pub use counting::{AnswerCounts, count_answers};
 pub use laws::answered_orders_explain;
 pub use orders::{answers, order, order_of};

@@ -43,8 +43,16 @@ fn is_usage(alloc: Global, words: &[&str]) -> Option<bool> {
 #[test]
 fn words_that_are_no_command_are_told(rt: HostRuntime) {
     assert_eq!(rt; is_usage(rt.alloc(), &[]), Some(true));
-    assert_eq!(rt; is_usage(rt.alloc(), &["load", "0"]), Some(true));
-    assert_eq!(rt; is_usage(rt.alloc(), &["load", "401"]), Some(true));
+    assert_eq!(rt; is_usage(rt.alloc(), &["load"]), Some(true));
+    for number in ["", "0", "401", "07", "+7", "7 ", "4294967297", "all"] {
+        assert_eq!(rt;
+            is_usage(rt.alloc(), &["load", number]),
+            Some(true),
+            "load {number}"
+        );
+    }
+    assert_eq!(rt; is_usage(rt.alloc(), &["load", "7", "7"]), Some(true));
+    assert_eq!(rt; is_usage(rt.alloc(), &["place", "7"]), Some(true));
     assert_eq!(rt; is_usage(rt.alloc(), &["step", "x"]), Some(true));
     assert_eq!(rt; is_usage(rt.alloc(), &["step", "json"]), Some(true));
 }

@@ -7,9 +7,13 @@ mod calling;
 #[cfg(test)]
 mod command;
 #[cfg(test)]
+mod loads;
+#[cfg(test)]
 mod orders;
 #[cfg(test)]
 mod past;
+#[cfg(test)]
+mod placing;
 #[cfg(test)]
 mod playing;
 #[cfg(test)]

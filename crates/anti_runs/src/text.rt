@@ -33,8 +33,8 @@ name = 'w'
 region = 'us'
 handler = [{name = 'fill', body = ['repeat 16', 'repeat 16', 'write s k v as w untracked', 'end', 'end']}, {name = 'look', body = ['read s $in as x']}]";
 
-// The record that is made of the trace of a run, and the one that is printed of the run itself.
-fn both(alloc: Global, app: &App) -> Result<(Bytes, Bytes), NoMemory>
+/// The record that is made of the trace of a run, and the one that is printed of the run itself.
+pub fn both(alloc: Global, app: &App) -> Result<(Bytes, Bytes), NoMemory>
     requires { IsTrue (is_sound app.now) }
 {
     let Played { trace, waits, ends } = play(alloc, app)?;

@@ -1,5 +1,5 @@
 -- The lines of a small run, worked out: a process writes and reads one key, and its last choice is a wait.
-use Rattle.std.proofs.Common.{◌≡◌, ℕ, List, [], ◌∷◌, refl, Option, Some, None}
+use Rattle.std.proofs.Common.{◌≡◌, ℕ, List, [], ◌∷◌, false, refl, Option, Some, None}
 use Rattle.std.specs.Prelude.{codes}
 use Rattle.std.specs.Fmt.{digits}
 use Rattle.anti_ids.specs.List.{plain}
@@ -21,6 +21,7 @@ use Rattle.anti_app.specs.declared.app.StoreDef.{StoreDef}
 use Rattle.anti_app.specs.declared.app.SubDef.{SubDef}
 use Rattle.anti_text.specs.Calls.{call_text, reply_text}
 use Rattle.anti_text.specs.Entries.{entry_line, wait_line}
+use Rattle.anti_text.specs.Placements.{placement_line}
 use Rattle.anti_text.specs.Processes.{process_line}
 use Rattle.percent_encoding.specs.Percent.{percent_encode_byte}
 use Rattle.anti_proc.specs.Births.{birth_at}
@@ -32,6 +33,8 @@ use Rattle.anti_trace.specs.Ends.{ends_of}
 use Rattle.anti_order.specs.declared.answer.OrderAnswer.{OrderAnswer}
 use Rattle.anti_order.specs.declared.answer.OrderAnswer.TheVariants.{Lossy, Unguarded, Order}
 use Rattle.anti_order.specs.declared.answer.SpanAnswer.{SpanAnswer}
+use Rattle.anti_place.specs.declared.placement.Placement.TheVariants.{Yes, No}
+use Rattle.anti_place.specs.declared.reason.Reason.TheVariants.{Unsettled, Untransferred}
 use Rattle.std.specs.List.{flat_map}
 use Rattle.anti_text.specs.Words.{lineage_text}
 use Rattle.serde_json.proofs.OnLiterals.{serde_json_on_literals}
@@ -41,6 +44,7 @@ use Rattle.anti_text.specs.Json.{text, entry_data, wait_data, process_data, span
 use Rattle.anti_text.specs.Record.{text_of}
 use Rattle.anti_text.specs.Report.{Told}
 use Rattle.anti_text.specs.Spans.{span_line}
+use Rattle.anti_text.specs.Summary.{summary_of}
 
 abbrev store_s : StoreDef
 store_s = record { name = codes "s"; kind = Kv; replicas = plain (0 ∷ []); tries = 3 }
@@ -156,6 +160,39 @@ pub told-json : json_of app (told_with (taken ∷ []) (4 ∷ []) (ordered ∷ []
     ≡ codes "{\"end\":1,\"entries\":[{\"actor\":\"w.1\",\"call\":\"take 1\",\"object\":\"w\",\"place\":1,\"reply\":\"got 1 request one 0 \\\"\\\" 1;\",\"span\":1,\"stamp\":1}],\"processes\":[{\"end\":\"fine\",\"handler\":\"one\",\"name\":\"w.1\",\"service\":\"w\"}],\"record\":1,\"spans\":[{\"answer\":\"order s.1 s.14\",\"name\":\"w.1/1\"}],\"waits\":[{\"choice\":\"go w.1\",\"number\":4}]}\n"
 unfolding record_data entry_data process_data span_data wait_data text chars is_utf8 utf8_valid_len utf8_lossy digits serde_json_on_literals
 told-json = refl
+
+-- the summary of the first of them, and of a run whose entries are of more kinds, one of whose two processes did not end
+pub summed-nothing : summary_of (told_with [] [] [])
+    ≡ codes "summary 1\nentries 0\nwrites 0\nreads 0\nlooks 0\nships 0\nprocesses 0\nfine 0\nordered 0\nunguarded 0\nlossy 0\n"
+unfolding digits
+summed-nothing = refl
+
+abbrev looked : Entry
+looked = record shown { stamp = 5; place = 4; call = calls.Look 0 [] false; reply = replies.Missing [] [] }
+
+abbrev summed : Told
+summed = record {
+  entries = taken ∷ written ∷ moved ∷ shown ∷ shown ∷ looked ∷ [];
+  waits = 4 ∷ [];
+  ends = ended (Some Fine) ∷ ended None ∷ [];
+  spans = ordered ∷ answered (Lossy (mark 0 4)) ∷ ordered ∷ ordered ∷ answered (Unguarded (mark 0 2)) ∷ answered (Lossy (mark 0 4)) ∷ [];
+}
+
+pub summed-up : summary_of summed
+    ≡ codes "summary 1\nentries 6\nwrites 1\nreads 2\nlooks 1\nships 1\nprocesses 2\nfine 1\nordered 3\nunguarded 1\nlossy 2\n"
+unfolding digits
+summed-up = refl
+
+pub placed : placement_line app Yes ≡ codes "placed\n"
+placed = refl
+
+pub unplaced : placement_line app (No 0 0 6 Unsettled) ≡ codes "unplaced w one 6 unsettled\n"
+unfolding digits
+unplaced = refl
+
+pub unplaced-call : placement_line app (No 0 0 12 Untransferred) ≡ codes "unplaced w one 12 untransferred\n"
+unfolding digits
+unplaced-call = refl
 
 pub waits : wait_line app 3 ≡ codes "wait 3 ship s eu 1\n"
 unfolding digits

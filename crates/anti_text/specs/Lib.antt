@@ -1,8 +1,10 @@
 pub mod Calls
 pub mod Entries
 pub mod Json
+pub mod Placements
 pub mod Processes
 pub mod Record
 pub mod Report
 pub mod Spans
+pub mod Summary
 pub mod Words

@@ -1,5 +1,6 @@
 //! `antipode step` plays the choices of the document on standard input, and writes the record of the run to standard output; `antipode
-//! json` writes it as JSON.
+//! json` writes it as JSON. `antipode place` tells whether barriers, transfers and roots stand where they must in the document. `antipode
+//! load 400` plays the load of 400 requests, and writes the summary of the run; it reads nothing.
 #![tactic(auto)]
 
 ghost use Rattle.std.specs.Prelude.{◌≡◌, IfOk};

@@ -1,5 +1,6 @@
 -- What all answers of reads of a trace rest on.
-use Rattle.std.specs.Prelude.{ℕ, ◌≡◌, Bool, false, List, Option, slice_get, map, All}
+use Rattle.std.specs.Prelude.{ℕ, ◌≡◌, Bool, false, not, List, Option, is_some, slice_get, map, All}
+use Rattle.std.specs.List.{find}
 use Rattle.std.specs.Option.{option_map_or}
 use Rattle.anti_kind.specs.declared.entry.Entry.{Entry}
 use Rattle.anti_app.specs.declared.app.App.{App}
@@ -18,6 +19,10 @@ use Rattle.anti_order.specs.inner.Writes.{AreWritesOf}
 -- whether the past at a place is that of a settled read
 abbrev pub is_settled_at : List (Option Past) → ℕ → Bool
 is_settled_at pasts r = option_map_or (λ past. option_map_or (λ p. p.settled) past false) (slice_get pasts r) false
+
+-- whether some of these reads is not settled
+abbrev pub has_unsettled : List (Option Past) → List ℕ → Bool
+has_unsettled pasts reads = is_some (find (λ r. not (is_settled_at pasts r)) reads)
 
 -- the first loss, or that there is none, and what is known of the reads and of the writes
 abbrev pub AreGroundsOf : App → List Entry → Grounds → Type 0

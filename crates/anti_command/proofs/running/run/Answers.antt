@@ -1,5 +1,5 @@
 use Rattle.anti_command.specs.Runs.{ExplainsSpans, FindsAll, IsPlayable}
-use Rattle.anti_command.proofs.preparing.run.Goals as goal
+use Rattle.anti_command.proofs.running.run.Goals as goal
 
 pub returns-clause-barriers : goal.returns-clause-barriers
 unfolding FindsAll IsPlayable

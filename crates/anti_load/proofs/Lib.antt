@@ -1,0 +1,4 @@
+mod Keys
+mod Drawn
+mod Bodies
+mod Soundness

@@ -1,0 +1,11 @@
+//! The application of a load: so many requests, whose values a generator draws from their number.
+#![tactic(auto)]
+
+mod application;
+mod drawing;
+mod lists;
+mod names;
+mod services;
+mod stores;
+
+pub use application::load_app;

@@ -1,0 +1,47 @@
+ghost use Rattle.std.specs.Prelude.{◌≡◌, IfOk};
+ghost use Rattle.anti_load.specs.Load.{posts, notes, fans};
+
+use crate::lists::{one, two};
+use crate::names::name_of;
+use anti_app::{StoreDef, StoreKind, SubDef};
+use anti_ids::NoMemory;
+use std::alloc::Global;
+
+/// The posts, in both regions.
+pub fn posts(alloc: Global) -> Result<StoreDef, NoMemory>
+    ensures { IfOk result (λ store. store ≡ posts) }
+{
+    let replicas = two(alloc, 0, 1)?;
+    Ok(StoreDef {
+        name: name_of("posts"),
+        kind: StoreKind::Kv,
+        replicas,
+        tries: 3,
+    })
+}
+
+/// The notes of posts, in the second region.
+pub fn notes(alloc: Global) -> Result<StoreDef, NoMemory>
+    ensures { IfOk result (λ store. store ≡ notes) }
+{
+    let replicas = one(alloc, 1)?;
+    Ok(StoreDef {
+        name: name_of("notes"),
+        kind: StoreKind::Queue,
+        replicas,
+        tries: 3,
+    })
+}
+
+/// The notes start the reader.
+pub fn fans() -> SubDef
+    ensures { result ≡ fans }
+{
+    SubDef {
+        name: name_of("fans"),
+        store: 1,
+        channel: name_of("n"),
+        service: 1,
+        handler: 0,
+    }
+}

@@ -1,0 +1,56 @@
+ghost use Rattle.std.specs.Prelude.{◌≡◌, ◌++◌, IfOk, OnOk};
+ghost use Rattle.anti_ids.specs.List.{plain};
+ghost use Rattle.anti_text.specs.Placements.{placement_line, reason_word};
+
+use crate::output::Output;
+use crate::words::{handler_name, service_name};
+use anti_app::App;
+use anti_ids::{Bytes, NoMemory};
+use anti_place::{Placement, Reason};
+use std::alloc::Global;
+
+// The word of a reason.
+fn reason_word(reason: Reason) -> &'static [u8]
+    ensures { result.now ≡ reason_word reason }
+{
+    match reason {
+        Reason::Removed => b"removed",
+        Reason::Untracked => b"untracked",
+        Reason::Untransferred => b"untransferred",
+        Reason::Unsettled => b"unsettled",
+    }
+}
+
+// Writes the line that tells a placement.
+fn put_line(out: &mut Output, app: &App, placement: Placement) -> Result<(), NoMemory>
+    ensures { OnOk result (out.new ≡ out.old ++ placement_line app.now placement) }
+{
+    match placement {
+        Placement::Yes => out.put(b"placed\n"),
+        Placement::No {
+            service,
+            handler,
+            line,
+            reason,
+        } => {
+            out.put(b"unplaced ")?;
+            service_name(out, app, service as usize)?;
+            out.put(b" ")?;
+            handler_name(out, app, service as usize, handler as usize)?;
+            out.put(b" ")?;
+            out.number(u64::from(line))?;
+            out.put(b" ")?;
+            out.put(reason_word(reason))?;
+            out.put(b"\n")
+        }
+    }
+}
+
+/// The line that tells a placement. The only error is want of memory.
+pub fn placement_line(alloc: Global, app: &App, placement: Placement) -> Result<Bytes, NoMemory>
+    ensures { IfOk result (λ line. line ≡ plain (placement_line app.now placement)) }
+{
+    let mut out = Output::new(alloc);
+    put_line(&mut out, app, placement)?;
+    Ok(out.into_bytes())
+}
