@@ -4,3 +4,4 @@ pub mod Over
 pub mod Reading
 pub mod Steps
 pub mod Laws
+pub mod inner

@@ -1,13 +1,17 @@
 //! Baggage: the one text of a lineage, as it goes with a message from one program to another.
 #![tactic(auto)]
 
+mod baggage;
 mod decoding;
 mod encoding;
 mod escaping;
 mod fault;
 mod laws;
 mod naming;
+mod over;
+mod same;
 
+pub use baggage::Baggage;
 pub use decoding::decode;
 pub use encoding::{add_lineage, encode};
 pub use escaping::escape;

@@ -6,7 +6,7 @@ ghost use Rattle.anti_kind.specs.Objects.{Follows, MayMake};
 
 use crate::inbox::Inbox;
 use anti_ids::{Copies, NoMemory};
-use anti_kind::{Call, Machine, Message, MessageKind, Reply};
+use anti_kind::{Awaited, Call, Machine, Message, MessageKind, Reply};
 
 impl Inbox {
     ghost use Rattle.anti_inbox.specs.inner.Inboxes.{start_of, requests_of, At, InboxStands, Keeps, Knows};
@@ -134,6 +134,24 @@ impl Machine for Inbox {
 
     fn next_ship(&self, _region: u32) -> Option<(u64, u32)> {
         None
+    }
+
+    fn awaits(&self, c: &Call) -> Option<Awaited> {
+        match c {
+            Call::Take { .. } => {
+                if self.ready(c) {
+                    return None;
+                }
+                Some(Awaited::Delivery)
+            }
+            Call::TakeReply { number } => {
+                if self.has_reply(*number) {
+                    return None;
+                }
+                Some(Awaited::Reply(*number))
+            }
+            _ => None,
+        }
     }
 
     fn due(&self, c: &Call) -> Result<Reply, NoMemory> {

@@ -54,7 +54,7 @@ module _ (requests : List Message) (h : List Entry) (e : Entry) where
 
 -- Numbers in a list that grows.
 
-slice_get_left : {A : Type 0} (xs ys : List A) (i : ℕ) → i < length xs → slice_get (xs ++ ys) i ≡ slice_get xs i
+pub slice_get_left : {A : Type 0} (xs ys : List A) (i : ℕ) → i < length xs → slice_get (xs ++ ys) i ≡ slice_get xs i
 slice_get_left [] ys i short = absurd (omega arith)
 slice_get_left (x ∷ xs) ys zero short = refl
 slice_get_left (x ∷ xs) ys (suc i) short = slice_get_left xs ys i (omega arith)

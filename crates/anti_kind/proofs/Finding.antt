@@ -1,7 +1,8 @@
 -- What is found in a list, and what a filter keeps of it.
-use Rattle.std.proofs.Common.{◌≡◌, ℕ, zero, suc, ◌<◌, Bool, true, false, cond, List, [], ◌∷◌, ◌++◌, length, get_or, filter, Some, None, find, All, refl, sym, ap, subst, ◌∙◌, ⊎_elim, arith}
+use Rattle.std.proofs.Common.{◌≡◌, ℕ, zero, suc, ◌<◌, ◌≤◌, Bool, true, false, cond, List, [], ◌∷◌, ◌++◌, length, get_or, filter, Some, None, find, All, refl, sym, ap, subst, ◌∙◌, ⊎_elim, arith}
 use Rattle.std.specs.Prelude.{◌↔◌, Contains, flat_map}
 use Rattle.std.specs.List.{Any}
+use Rattle.std.proofs.lemmas.Bool.{both_ways}
 use Rattle.std.proofs.lemmas.List.Elements.{All-filter, All-contains, All-contains_itself, Contains-append_left, Contains-append_right, Contains-append_cases, filter_passes}
 
 -- Finding.
@@ -66,6 +67,17 @@ filter_contains p xs x = (
   ),
   λ both. filter_at p xs x both.0.0 both.0.1 both.0.2 both.1,
 )
+
+-- a filter whose test fewer pass keeps no more
+keeps_less : {X : Type 0} (x : X) (ps qs : List X) (b c : Bool) → (b ≡ true → c ≡ true) → length ps ≤ length qs → length (cond b (x ∷ ps) ps) ≤ length (cond c (x ∷ qs) qs)
+keeps_less x ps qs true true more less = omega arith
+keeps_less x ps qs true false more less = absurd (both_ways false refl (more refl))
+keeps_less x ps qs false true more less = omega arith
+keeps_less x ps qs false false more less = less
+
+pub filter_less : {X : Type 0} (p q : X → Bool) → ((x : X) → p x ≡ true → q x ≡ true) → (xs : List X) → length (filter p xs) ≤ length (filter q xs)
+filter_less p q more [] = omega arith
+filter_less p q more (x ∷ xs) = keeps_less x (filter p xs) (filter q xs) (p x) (q x) (more x) (filter_less p q more xs)
 
 -- Joining.
 

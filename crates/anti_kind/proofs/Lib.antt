@@ -23,6 +23,10 @@ pub mod Keeping
 -- cells of a channel, and who pulled them
 pub mod Cells
 pub mod Pulls
+-- what is whole, free and handed out next behind one entry more, and what therefore goes on to wait
+pub mod Whole
+pub mod Freed
+pub mod Waiting
 -- ports
 pub mod Making
 mod Worked

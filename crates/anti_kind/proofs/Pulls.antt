@@ -132,7 +132,7 @@ row_found channel None on = absurd (cc)
 row_found channel (Some r) on = (r, refl, on)
 
 module _ (s : Store) (h : List Entry) (l : IsLegal (store s) h) (channel : List ℕ) where
-  cells_grow : AllPairs (λ x y. x.version < y.version) (cells h channel)
+  pub cells_grow : AllPairs (λ x y. x.version < y.version) (cells h channel)
   cells_grow = AllPairs-filter (λ (x y : Row). x.version < y.version) (is_in channel) (rows h) (versions_grow s h l)
 
   -- among the first n cells

@@ -65,10 +65,13 @@ ships_none : (g v p : ℕ) (c : Call) → is_shipping c ≡ false → is_ship g 
 ships_none g v p (Ship region version part) off = absurd (cc)
 ships_none g v p _ off = refl
 
--- a call that is no shipment leaves what was shipped
+-- what a call does not ship is shipped as before
+pub shipped_kept : (h : List Entry) (e : Entry) (g v p : ℕ) → is_ship g v p e.call ≡ false → is_shipped (h ++ e ∷ []) g v p ≡ is_shipped h g v p
+shipped_kept h e g v p off = shipped_more h e g v p ∙ ap (λ (b : Bool). is_shipped h g v p || b) off ∙ or_false (is_shipped h g v p)
+
+-- so a call that is no shipment leaves what was shipped
 pub shipped_other : (h : List Entry) (e : Entry) (g v p : ℕ) → is_shipping e.call ≡ false → is_shipped (h ++ e ∷ []) g v p ≡ is_shipped h g v p
-shipped_other h e g v p off =
-    shipped_more h e g v p ∙ ap (λ (b : Bool). is_shipped h g v p || b) (ships_none g v p e.call off) ∙ or_false (is_shipped h g v p)
+shipped_other h e g v p off = shipped_kept h e g v p (ships_none g v p e.call off)
 
 pub shipped_ship : (h : List Entry) (e : Entry) (g v p region version part : ℕ) → e.call ≡ Ship region version part
     → is_shipped (h ++ e ∷ []) g v p ≡ (is_shipped h g v p || ((region == g) && ((version == v) && (part == p))))

@@ -60,7 +60,7 @@ some_part : (kind : StoreKind) (value : List ℕ) → 1 ≤ parts_of kind value
 some_part Blob value = omega arith
 some_part _ value = omega arith
 
-whole_came : (kind : StoreKind) (h : List Entry) (g : ℕ) (r : Row) → is_whole kind h g r ≡ true → is_shipped h g r.version 1 ≡ true
+pub whole_came : (kind : StoreKind) (h : List Entry) (g : ℕ) (r : Row) → is_whole kind h g r ≡ true → is_shipped h g r.version 1 ≡ true
 whole_came kind h g r whole =
     let n : ℕ = parts_of kind r.value in
     let some : 0 < n = omega (arith, some_part kind r.value) in

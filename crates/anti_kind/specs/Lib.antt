@@ -5,6 +5,7 @@ pub mod Inbox
 pub mod Objects
 pub mod Laws
 pub mod Fulls
+pub mod Waiting
 pub mod Ports
 pub mod Records
 pub mod Lones

@@ -5,6 +5,7 @@ ghost use Rattle.anti_kind.specs.Stored.{shows_of};
 ghost use Rattle.anti_kind.specs.Store.{Store};
 ghost use Rattle.anti_kind.specs.Objects.{store};
 ghost use Rattle.anti_kind.specs.Laws.{LooksRight, OwnAfter, OwnIdsWritten, RowsHaveSources, VersionsGrow, CallsNameOwn, NextIsReady, NoneIsReady, KeepsLaws};
+ghost use Rattle.anti_kind.specs.Waiting.{NoneLeftGoesOn, WaitingGoesOn, WaitingIsNotReady};
 ghost use Rattle.anti_kind.specs.Fulls.{ShowsStay, UnitsAddUp, UnitsSuffice, NeedNeverFalls, FullStaysFull, AskingStaysReady};
 
 /// Where the regions of a store show the greatest version that is whole there, what they show is what was written, and it never
@@ -78,4 +79,19 @@ pub fn next_is_ready()
 /// Where no shipment to a region is named as the next, none is ready.
 pub fn none_is_ready()
     ensures { (s : Store) → NoneIsReady s }
+{}
+
+/// A call that waits for something is not ready.
+pub fn waiting_is_not_ready()
+    ensures { WaitingIsNotReady }
+{}
+
+/// A call that waits for something waits for it behind each entry that does not bring it, where regions show what is whole there.
+pub fn waiting_goes_on()
+    ensures { WaitingGoesOn }
+{}
+
+/// Where nothing is left to be shipped to a region, nothing is behind each entry that is no write.
+pub fn none_left_goes_on()
+    ensures { NoneLeftGoesOn }
 {}

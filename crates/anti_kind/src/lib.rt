@@ -4,6 +4,7 @@
 
 mod actor;
 mod asking;
+mod awaited;
 mod call;
 mod entry;
 mod kind;
@@ -18,13 +19,15 @@ mod store_kind;
 
 pub use actor::{Actor, Birth};
 pub use asking::Asking;
+pub use awaited::{Awaited, Brought};
 pub use call::{Call, Reply};
 pub use entry::{Entry, History};
 pub use kind::Kind;
 pub use laws::{
     asking_stays_ready, calls_name_own, full_stays_full, looks_are_right, need_never_falls,
-    next_is_ready, none_is_ready, own_after, rows_have_sources, shows_stay, stores_keep_laws,
-    units_add_up, units_suffice, versions_grow,
+    next_is_ready, none_is_ready, none_left_goes_on, own_after, rows_have_sources, shows_stay,
+    stores_keep_laws, units_add_up, units_suffice, versions_grow, waiting_goes_on,
+    waiting_is_not_ready,
 };
 pub use lone::Lone;
 pub use machine::Machine;

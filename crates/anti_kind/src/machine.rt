@@ -1,11 +1,13 @@
+use crate::awaited::Awaited;
 use crate::call::{Call, Reply};
 use anti_ids::NoMemory;
 
 /// The state of an object. It stands for a start and for the history of the calls that were made: what it answers is what the
 /// object's table says after each history that it stands for. The calls but `due` and `apply` take no memory.
 pub trait Machine {
-    ghost use Rattle.std.specs.Prelude.{◌≡◌, List, [], ◌∷◌, ◌++◌, true, IfOk, OnOk, OnErr, IsOk};
+    ghost use Rattle.std.specs.Prelude.{◌≡◌, List, [], ◌∷◌, ◌++◌, true, IfOk, IfSome, OnOk, OnErr, IsOk};
     ghost use Rattle.anti_kind.specs.declared.entry.Entry.{Entry};
+    ghost use Rattle.anti_kind.specs.Waiting.{waits};
     ghost use Rattle.anti_kind.specs.Objects.{Start, ready, need, held, owed, upto, next_ship, due, Follows, StandsFor, MayMake, IsShip};
 
     ghost start: { Self → Start };
@@ -36,6 +38,12 @@ pub trait Machine {
     /// There is none where all is there, nor of an object that is no store.
     fn next_ship(&self, region: u32) -> Option<(u64, u32)>
         ensures { (h : List Entry) → StandsFor (start self.now) (Stands self.now) h → result ≡ next_ship (start self.now) h region };
+
+    /// What a call that is not ready waits for, where that is known: then it is not ready before something brings it. `None` says
+    /// nothing.
+    fn awaits(&self, c: &Call) -> Option<Awaited>
+        ensures { (h : List Entry) → StandsFor (start self.now) (Stands self.now) h
+            → IfSome result (λ awaited. waits (start self.now) h c.now awaited ≡ true) };
 
     /// The reply that a call is due, which is ready and fits. Nothing changes. Of a `Ship` it takes no memory.
     fn due(&self, c: &Call) -> Result<Reply, NoMemory>

@@ -1,4 +1,5 @@
-use anti_ids::{Bytes, Copies, List, Name, NoMemory, Value};
+use anti_baggage::Baggage;
+use anti_ids::{Copies, List, Name, NoMemory, Value};
 use std::alloc::Global;
 
 /// What a message is: a request of the application, a call that waits for a reply, a send that doesn't, or the reply to a call.
@@ -19,7 +20,7 @@ pub struct Message {
     pub depth: u32,
     pub handler: Name,
     pub value: Value,
-    pub baggage: Bytes,
+    pub baggage: Baggage,
 }
 
 /// A list of messages.

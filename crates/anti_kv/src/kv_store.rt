@@ -2,7 +2,7 @@ ghost use Rattle.std.specs.Prelude.{◌≡◌, [], IfOk};
 ghost use Rattle.anti_kind.specs.Objects.{IsStart};
 
 use anti_ids::NoMemory;
-use anti_kind::{Call, Kind, Machine, Reply, StoreKind};
+use anti_kind::{Awaited, Call, Kind, Machine, Reply, StoreKind};
 use anti_replicas::Replicas;
 use std::alloc::Global;
 
@@ -72,6 +72,13 @@ impl Machine for Kv {
 
     fn next_ship(&self, region: u32) -> Option<(u64, u32)> {
         self.base.next_ship(region)
+    }
+
+    fn awaits(&self, c: &Call) -> Option<Awaited> {
+        match c {
+            Call::Look { region, ids, dry } => self.base.look_awaits(*region, ids, *dry),
+            _ => None,
+        }
     }
 
     fn due(&self, c: &Call) -> Result<Reply, NoMemory> {

@@ -8,6 +8,7 @@ ghost use Rattle.anti_object.specs.Standing.{IsNew, IsNewStore, start_with};
 
 use crate::object::Object;
 use anti_app::{App, HandlerDef, ObjectAt, RequestDef, ServiceDef, StoreDef, object_at, subs_on};
+use anti_baggage::Baggage;
 use anti_blob::Blob;
 use anti_ids::{Bytes, Copies, List, NoMemory};
 use anti_inbox::Inbox;
@@ -125,7 +126,7 @@ fn message_to(
         depth: 0,
         handler: handler.name,
         value: request.value.copy(alloc)?,
-        baggage: empty_lineage(alloc)?,
+        baggage: Baggage::from_text(empty_lineage(alloc)?),
     })
 }
 

@@ -6,7 +6,7 @@ ghost use Rattle.anti_object.specs.Standing.{object_start, ObjectAt};
 use anti_blob::Blob;
 use anti_ids::{MOST_UNITS, NoMemory};
 use anti_inbox::Inbox;
-use anti_kind::{Call, Kind, Machine, Reply};
+use anti_kind::{Awaited, Call, Kind, Machine, Reply};
 use anti_kv::Kv;
 use anti_queue::Queue;
 use anti_table::Table;
@@ -72,6 +72,10 @@ impl Machine for Object {
 
     fn next_ship(&self, region: u32) -> Option<(u64, u32)> {
         each!(self, machine => machine.next_ship(region))
+    }
+
+    fn awaits(&self, c: &Call) -> Option<Awaited> {
+        each!(self, machine => machine.awaits(c))
     }
 
     fn due(&self, c: &Call) -> Result<Reply, NoMemory> {

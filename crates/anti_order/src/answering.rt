@@ -17,7 +17,7 @@ use crate::marking::{mark_at, marks_of};
 use crate::writes::Writes;
 use anti_app::App;
 use anti_ids::NoMemory;
-use anti_past::{Past, first_loss, pasts};
+use anti_past::{Course, Past};
 use anti_trace::{Mark, Trace};
 use std::alloc::Global;
 
@@ -86,10 +86,9 @@ impl Grounds {
         requires legal { IsLegalTrace app.now trace.now }
         ensures { IfOk result (AreGroundsOf app.now trace.now) }
     {
-        match first_loss(alloc, app, trace)? {
-            Some(mark) => Ok(Grounds::Loss(mark)),
-            None => {
-                let pasts = pasts(alloc, app, trace)?;
+        match Course::of(alloc, app, trace)? {
+            Course::Loss(mark) => Ok(Grounds::Loss(mark)),
+            Course::NoLoss(pasts) => {
                 let writes = Writes::of(alloc, trace)?;
                 Ok(Grounds::NoLoss { pasts, writes })
             }

@@ -8,7 +8,7 @@ ghost use Rattle.anti_order.specs.inner.Grounds.{has_unsettled};
 use crate::answering::first_unsettled;
 use anti_app::App;
 use anti_ids::NoMemory;
-use anti_past::{Past, ReadsOfSpan, first_loss, pasts, reads_by_span};
+use anti_past::{Course, Past, ReadsOfSpan, reads_by_span};
 use anti_trace::Trace;
 use std::alloc::Global;
 
@@ -64,14 +64,13 @@ fn counted(
             lossy: 0,
         });
     }
-    match first_loss(alloc, app, trace)? {
-        Some(_) => Ok(AnswerCounts {
+    match Course::of(alloc, app, trace)? {
+        Course::Loss(_) => Ok(AnswerCounts {
             ordered: 0,
             unguarded: 0,
             lossy: spans.len(),
         }),
-        None => {
-            let pasts = pasts(alloc, app, trace)?;
+        Course::NoLoss(pasts) => {
             let unguarded = count_unsettled(pasts.as_slice(), spans);
             Ok(AnswerCounts {
                 ordered: spans.len() - unguarded,

@@ -7,7 +7,7 @@ ghost use Rattle.anti_proc.specs.Meaning.{stated_in};
 ghost use Rattle.anti_past.specs.inner.Came.{brought_at, holds, ids_since};
 
 use anti_app::{App, store_names};
-use anti_baggage::{BaggageFault, decode};
+use anti_baggage::BaggageFault;
 use anti_ids::{Lineage, Name, NoMemory, WriteId};
 use anti_kind::{Call, Entry, Message, Reply, Row};
 use anti_trace::Trace;
@@ -61,7 +61,7 @@ fn stated(alloc: Global, app: &App, message: &Message) -> Result<Lineage, NoMemo
     ensures { IfOk result (λ ids. ids ≡ stated_in app.now message.now) }
 {
     let names = store_names(alloc, app)?;
-    match decode(alloc, names.as_slice(), message.baggage.bytes()) {
+    match message.baggage.lineage(alloc, names.as_slice()) {
         Ok(lineage) => Ok(lineage),
         Err(BaggageFault::NoMemory) => Err(NoMemory),
         Err(_) => Ok(Lineage::root(alloc)),

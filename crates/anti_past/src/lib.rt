@@ -16,11 +16,13 @@ mod passing;
 mod reading;
 mod settling;
 mod walk;
+mod walking;
 
-pub use before_reads::{Past, pasts};
+pub use before_reads::Past;
 pub use calls::reads;
 pub use carrying::carried;
 pub use losses::first_loss;
 pub use marks::PlaceByMark;
 pub use reading::{ReadsOfSpan, Span, Spans, reads_by_span, spans};
 pub use settling::settled;
+pub use walking::Course;

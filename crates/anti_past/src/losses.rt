@@ -15,8 +15,8 @@ use anti_ids::{Copies, NoMemory};
 use anti_trace::{Mark, Processes, Trace};
 use std::alloc::Global;
 
-// Whether an entry loses an id. Where it does not, what came to the spans is known behind it too.
-fn loses(
+/// Whether an entry loses an id. Where it does not, what came to the spans is known behind it too.
+pub fn loses(
     alloc: Global,
     app: &App,
     trace: &Trace,

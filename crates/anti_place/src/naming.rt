@@ -153,13 +153,12 @@ impl Target {
         is_posted(app, self, Posting::Calls)
     }
 
-    /// Whether a call, a send or a subscription names it.
-    pub fn is_named(self, app: &App) -> bool
-        requires { CanRun app.now }
+    /// Whether a call, a send or a subscription names it, where it is known whether it is called.
+    pub fn is_named(self, app: &App, called: bool) -> bool
+        requires runs { CanRun app.now }
+        requires called { called ≡ is_called app.now self.service self.handler }
         ensures { result ≡ is_named app.now self.service self.handler }
     {
-        is_posted(app, self, Posting::Calls)
-            || is_posted(app, self, Posting::Sends)
-            || is_started(app, self)
+        called || is_posted(app, self, Posting::Sends) || is_started(app, self)
     }
 }

@@ -40,7 +40,9 @@ fn fault_of_handler(app: &App, target: Target, body: &Body) -> Option<Fault>
     ensures { result ≡ first_fault (is_called app.now target.service target.handler)
         (is_named app.now target.service target.handler) (block_of body.now) }
 {
-    first_fault(target.is_called(app), target.is_named(app), body.as_slice())
+    let called = target.is_called(app);
+    let named = target.is_named(app, called);
+    first_fault(called, named, body.as_slice())
 }
 
 // Whether the handlers of a service are right, or the first that is not.

@@ -45,14 +45,14 @@ use Rattle.anti_play.proofs.MadeAt.{free_fits}
 
 -- ---- what stands in a list
 
-in_map : {X Y : Type 0} (f : X → Y) (xs : List X) (x : X) → Contains xs x → Contains (map f xs) (f x)
+pub in_map : {X Y : Type 0} (f : X → Y) (xs : List X) (x : X) → Contains xs x → Contains (map f xs) (f x)
 in_map f xs x at = (at.0, omega (arith, at.1, length-map xs f), get_or-map f xs at.0 x (f x) at.1 ∙ ap f at.2)
 
-in_range : (n k : ℕ) → k < n → Contains (range_with_len 0 n) k
+pub in_range : (n k : ℕ) → k < n → Contains (range_with_len 0 n) k
 in_range n k low = (k, omega (arith, length-range_with_len 0 n), get_or-range_with_len 0 n k k low ∙ omega arith)
 
 -- what an item gives is in the whole
-given_by : {X Y : Type 0} (f : X → List Y) (xs : List X) (x : X) (y : Y) → Contains xs x → Contains (f x) y → Contains (flat_map f xs) y
+pub given_by : {X Y : Type 0} (f : X → List Y) (xs : List X) (x : X) (y : Y) → Contains xs x → Contains (f x) y → Contains (flat_map f xs) y
 given_by f xs x y at there = in_flat_map f xs at.0 x y at.1 (subst (λ z. Contains (f z) y) (sym at.2) there)
 
 -- ---- what makes no entry

@@ -1,25 +1,20 @@
 -- The processes of an object, one after another in the order of their births.
-use Rattle.std.proofs.Common.{◌≡◌, ℕ, ◌<◌, ◌≤◌, List, length, get_or, refl, sym, ap, ◌∙◌, subst, inl, inr, arith}
-use Rattle.std.specs.Prelude.{None, Some, IsTrue, position, slice_get}
-use Rattle.std.proofs.lemmas.Option.{slice_get_cases, slice_get_within, get_or_from_slice_get}
+use Rattle.std.proofs.Common.{◌≡◌, ℕ, List, length, get_or, sym, ap, ◌∙◌, subst}
+use Rattle.std.specs.Prelude.{Some, position, slice_get}
+use Rattle.std.proofs.lemmas.Option.{slice_get_within, get_or_from_slice_get}
 use Rattle.anti_kind.specs.declared.actor.Actor.TheVariants.{Newborn}
-use Rattle.anti_kind.specs.declared.actor.Birth.{Birth}
 use Rattle.anti_kind.specs.declared.call.Call.TheVariants.{Take}
 use Rattle.anti_kind.specs.declared.call.Reply.TheVariants.{Done}
 use Rattle.anti_kind.specs.declared.entry.Entry.{Entry}
 use Rattle.anti_app.specs.declared.app.App.{App}
-use Rattle.anti_app.specs.Sound.{is_sound}
 use Rattle.anti_trace.specs.Traces.{entries_on}
 use Rattle.anti_proc.specs.declared.process.Process.{Process}
 use Rattle.anti_proc.specs.Births.{birth_at, births}
 use Rattle.anti_proc.specs.inner.Standing.{birth_of}
-use Rattle.anti_app.specs.declared.app.Choice.TheVariants.{Go}
-use Rattle.anti_play.specs.Schedule.{chosen, go_of}
 use Rattle.anti_play.specs.declared.world.World.{World}
-use Rattle.anti_trace.specs.inner.Living.{AreInOrder, born_at, ended_at, is_named, lists}
+use Rattle.anti_trace.specs.inner.Living.{AreInOrder, born_at, is_named, lists}
 use Rattle.anti_play.specs.inner.Standing.{WorldStands}
 use Rattle.anti_trace.proofs.InOrder.{as_many, birth_is as birth_of_at, found_itself, in_order}
-use Rattle.anti_play.proofs.GoOn.{IsFound, makes_none}
 
 -- an entry, to name what is past the end of a list
 abbrev pub no_entry : Entry
@@ -51,23 +46,3 @@ module _ (app : App) (w : World) (trace : List Entry) (o : ℕ) (s : WorldStands
   pub birth_found : (i : ℕ) (p : Process) → slice_get ps i ≡ Some p → position (is_named (birth_of p)) ps ≡ Some i
   birth_found i p at =
       subst (λ (x : Process). position (is_named (birth_of x)) ps ≡ Some i) (get_or_from_slice_get ps i p p at) (found_itself o ps order i p (slice_get_within ps i p at))
-
-  -- what it goes on with
-  pub going_is : (i : ℕ) (p : Process) (b : Birth) → slice_get ps i ≡ Some p → b ≡ birth_of p → chosen app trace (Go b.object b.place) ≡ chosen app trace (go_of (get_or bs i no_entry))
-  going_is i p b at is = ap (λ (x : Birth). chosen app trace (Go x.object x.place)) (is ∙ birth_is i p no_entry at)
-
-  -- those that have ended make no entry
-  pub ended_none : IsTrue (is_sound app) → (i : ℕ) → i < ended_at (lists w.processes) o → chosen app trace (go_of (get_or bs i no_entry)) ≡ None
-  ended_none sound i low =
-      let few = s.processes.ended.within o in
-      elim ((slice_get_cases ps i).1) [
-        | inl found ↦
-            let p : Process = found.0 in
-            let at : slice_get ps i ≡ Some p = found.2 in
-            let g : IsFound w (birth_of p) i p = record {
-              found = subst (λ (n : ℕ). position (is_named (birth_of p)) (born_at (lists w.processes) n) ≡ Some i) (sym (birth_here i p at)) (birth_found i p at);
-              is = subst (λ (n : ℕ). slice_get (born_at (lists w.processes) n) i ≡ Some p) (sym (birth_here i p at)) at;
-            } in
-            sym (going_is i p (birth_of p) at refl) ∙ makes_none app w trace (birth_of p) i p s g sound (s.processes.ended.ended o i p low at)
-        | inr past ↦ absurd (let le : length ps ≤ i = past.0 in omega arith)
-      ]

@@ -36,8 +36,7 @@ use Rattle.anti_play.proofs.FullStays.{full_makes_none}
 use Rattle.anti_play.proofs.Stepped.{Stepped, step}
 use Rattle.anti_trace.proofs.AllLive.{no_more, position_set, live_here, live_set, live_with}
 use Rattle.anti_trace.proofs.AreBorn.{births_set}
-use Rattle.anti_trace.proofs.Changed.{ended_set}
-use Rattle.anti_trace.proofs.Followed.{found_lives, roomy_are, still_asks, went_are}
+use Rattle.anti_trace.proofs.Followed.{found_lives, roomy_are, went_are}
 use Rattle.anti_play.proofs.Chose.{chose_made, chose_none, chose_lost, kept_stands}
 
 -- ---- a process
@@ -90,9 +89,6 @@ module _ (app : App) (w : World) (trace : List Entry) (b : Birth) (i : ℕ) (p :
     abbrev it : Asking
     it = asking_at trace object (Acting b) span call
 
-    not_ended : HasEnded app p → ⊥
-    not_ended ended = still_asks (process_of app p) object span call wants ended
-
     pub may_meet_full : MayMeetFull object p
     may_meet_full = record { first = going; asks = (app, asked_at object span call (process_of app p) wants) }
 
@@ -132,8 +128,7 @@ module _ (app : App) (w : World) (trace : List Entry) (b : Birth) (i : ℕ) (p :
               (subst (λ (x : Process). full_of x ≡ None) old going)
               (subst (λ (x : Process). advanced app x a ≡ branch (process_of app x) e.reply) old goes)
               (subst (λ (x : Process). IsAdvanceOf app x a) old spans)
-              (subst (λ (x : Process). full_by a ≡ full_of x) old full)
-              (subst (λ (x : Process). HasEnded app x → ⊥) old not_ended);
+              (subst (λ (x : Process). full_by a ≡ full_of x) old full);
           carrier = carrier ∙ s.carrier ∙ sym (ap (λ (x : List Entry). last_stamp x) (st.gets.others (Carrier 0) none));
         })
 
@@ -169,7 +164,6 @@ module _ (app : App) (w : World) (trace : List Entry) (b : Birth) (i : ℕ) (p :
           processes = record {
             count = becomes.changes.count ∙ s.processes.count;
             born = λ o. births_set (lists w.processes) (lists n.processes) b i then becomes.changes (λ d. by.birth ∙ ap (λ (x : Process). birth_of x) (sym (at_p d))) o ∙ s.processes.born o;
-            ended = ended_set app (lists w.processes) (lists n.processes) b.object s.processes.ended i p then g.is becomes.changes (λ ended. absurd (not_ended ended));
             live = live_with app trace trace (no_more trace) (lists w.processes) (lists n.processes) (slice_set ps i then) b s.processes.live becomes.changes (λ c off. refl)
                 (live_set app trace trace (no_more trace) ps b (live_here app (lists w.processes) trace s.processes.live b.object) (λ c off. refl) then i g.found
                 (λ d. by.birth ∙ ap (λ (x : Process). birth_of x) (sym (at_p d)))
@@ -218,7 +212,7 @@ module _ (app : App) (w : World) (trace : List Entry) (b : Birth) (i : ℕ) (p :
   none_left sound (Make object span call) at ended = full_makes_none app trace s.run sound (asking_at trace object (Acting b) span call) ended.1
   none_left sound (Over end) at ended = elim ended [ ]
 
-  next_none : HasEnded app p → full_of p ≡ None → next_call app trace b ≡ None
+  pub next_none : HasEnded app p → full_of p ≡ None → next_call app trace b ≡ None
   next_none ended going = ap (λ (x : Tree). asked_by trace b (want_of x)) (sym (on_p.tree going)) ∙ asks_none trace b (process_of app p) ended
 
   over_by : IsTrue (is_sound app) → HasEnded app p → (o : Option ℕ) → full_of p ≡ o → IfSome o (IsEnded app trace left) → chosen_next ≡ None

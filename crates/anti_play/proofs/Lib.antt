@@ -19,3 +19,15 @@ pub mod Tried
 pub mod GoFirst
 pub mod ShipNext
 pub mod Reached
+pub mod FirstAwake
+pub mod Offers
+pub mod Minding
+pub mod Turning
+pub mod Attempting
+pub mod Filling
+pub mod Passing
+pub mod Trying
+pub mod Adding
+pub mod Going
+pub mod Newborn
+pub mod Shipping

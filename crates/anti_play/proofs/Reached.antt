@@ -1,9 +1,8 @@
 -- How far a world has come that finishes.
-use Rattle.std.proofs.Common.{◌≡◌, ℕ, zero, suc, ◌+◌, ◌-◌, ◌<◌, ◌≤◌, Bool, true, false, List, [], ◌∷◌, length, get_or, refl, sym, ap, ◌∙◌, subst, arith, length-append, append-nil}
-use Rattle.std.specs.Prelude.{IsTrue, None, Result, Ok, IsErr}
+use Rattle.std.proofs.Common.{◌≡◌, ℕ, zero, suc, ◌+◌, ◌-◌, ◌<◌, ◌≤◌, true, false, List, [], ◌∷◌, length, get_or, refl, sym, ap, ◌∙◌, subst, arith, length-append, append-nil}
+use Rattle.std.specs.Prelude.{IsTrue, None, Ok}
 use Rattle.std.specs.List.{sum_by}
 use Rattle.std.proofs.lemmas.List.Sums.{sum_by-cons}
-use Rattle.anti_ids.specs.declared.memory.NoMemory.{NoMemory}
 use Rattle.anti_ids.specs.declared.limits.TheConstants.{MOST_UNITS}
 use Rattle.anti_kind.specs.declared.entry.Entry.{Entry}
 use Rattle.anti_kind.specs.Objects.{Start}
@@ -24,7 +23,7 @@ use Rattle.anti_play.specs.inner.Standing.{Chose, IsObject, WorldStands}
 use Rattle.anti_play.specs.inner.Finishing.{WentOn}
 use Rattle.anti_kind.proofs.Histories.{few_entries}
 use Rattle.anti_play.proofs.IntoTrace.{histories_are}
-use Rattle.anti_play.proofs.Tried.{MadeOne, chose_true, chose_false, chose_lost}
+use Rattle.anti_play.proofs.Tried.{MadeOne, chose_true, chose_false}
 use Rattle.anti_play.proofs.Finished.{Further, made_further, goes_further, finished_next, finished_none}
 
 -- ---- a world stands for one trace only
@@ -68,8 +67,8 @@ module _ (app : App) (sound : IsTrue (is_sound app)) (trace : List Entry) (w : W
       subst (WorldStands app n) (sym (finished_none app sound now none.0) ∙ reached.same) none.1
 
   -- one for which there was no memory
-  pub reached_lost : (n : World) (r : Result Bool NoMemory) → IsErr r → Chose app now (first_made app now) r n → WentOn app trace n
-  reached_lost n r err chose = record { after = now; stands = chose_lost app now (first_made app now) r n err chose; goes_on = reached.goes_on }
+  pub reached_lost : (n : World) → WentOn app now n → WentOn app trace n
+  reached_lost n went = record { after = went.after; stands = went.stands; goes_on = goes_further trace now went.after reached.goes_on went.goes_on }
 
 -- ---- places that are left
 

@@ -1,3 +1,4 @@
+pub mod Attending
 pub mod Standing
 pub mod Closing
 pub mod Finishing

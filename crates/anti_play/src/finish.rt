@@ -1,18 +1,22 @@
-ghost use Rattle.std.specs.Prelude.{◌<◌, map, vec_len, OnOk, OnErr, IsTrue};
-ghost use Rattle.anti_trace.specs.Traces.{entries_on};
-ghost use Rattle.anti_proc.specs.Births.{births};
-ghost use Rattle.anti_app.specs.Objects.{IsStore, object_count};
+ghost use Rattle.std.specs.Prelude.{◌≡◌, ℕ, ◌<◌, length, vec_len, true, false, Some, Ok, OnOk, OnErr, IfSome, IsTrue};
+ghost use Rattle.anti_trace.specs.Traces.{Entries};
+ghost use Rattle.anti_app.specs.Objects.{object_count};
 ghost use Rattle.anti_app.specs.declared.app.App.{App};
 ghost use Rattle.anti_app.specs.Sound.{is_sound};
-ghost use Rattle.anti_play.specs.Schedule.{IsComplete, chosen, finished, first_made, first_of, go_of, goes, pulls, ships, takes};
-ghost use Rattle.anti_trace.specs.Traces.{Entries};
-ghost use Rattle.anti_play.specs.inner.Standing.{Chose, IsSoundWorld, IsWorldOf, WorldStands};
-ghost use Rattle.anti_play.specs.inner.Finishing.{WentOn, next_shipped, ships_from};
+ghost use Rattle.std.specs.BTreeSet.{keys};
+ghost use Rattle.anti_kind.specs.declared.asking.Asking.{Asking};
+ghost use Rattle.anti_trace.specs.Legal.{bears};
+ghost use Rattle.anti_agenda.specs.Agendas.{IsAwake};
+ghost use Rattle.anti_play.specs.Schedule.{IsComplete, bearing, finished, first_made};
+ghost use Rattle.anti_play.specs.inner.Attending.{Attends, CallWaits, IsAttended, IsRoute, Turned, asked_by_offer, entry_by_offer, region_at, with_entry};
+ghost use Rattle.anti_play.specs.inner.Finishing.{WentOn};
+ghost use Rattle.anti_play.specs.inner.Standing.{IsSoundWorld, IsWorldOf, WorldStands};
 
 use crate::world::World;
-use anti_app::App;
+use anti_agenda::{Agenda, Offer};
+use anti_app::{App, inbox_number, position_on};
 use anti_ids::NoMemory;
-use anti_kind::{Call, Machine};
+use anti_kind::{Awaited, Call, Machine};
 
 impl World {
     /// Makes all that can still be made: the next call of each process, ascending by object and place of its birth, the first free
@@ -28,140 +32,158 @@ impl World {
         ensures kept { (trace : Entries) → WorldStands app.now self.old trace
             → OnErr result (WentOn app.now trace self.new) }
     {
-        while self.turn(app)? {}
+        let mut agenda = self.agenda(app)?;
+        while self.turn(app, &mut agenda)? {}
         Ok(())
     }
 
-    // Makes the first entry that can be made, and tells whether there was one.
-    fn turn(&mut self, app: &App) -> Result<bool, NoMemory>
+    // Makes the first entry that can be made, and tells whether there was one. Who is tried in vain is awake no more.
+    fn turn(&mut self, app: &App, agenda: &mut Agenda) -> Result<bool, NoMemory>
         requires sound { IsTrue (is_sound app.now) }
-        requires world { IsWorldOf app.now self.old }
-        ensures { (trace : Entries) → WorldStands app.now self.old trace
-            → Chose app.now trace (first_made app.now trace) result self.new }
+        requires attended { IsAttended app.now self.old agenda.old }
+        ensures chose { (trace : Entries) → WorldStands app.now self.old trace → Attends app.now trace agenda.old
+            → Turned app.now trace (first_made app.now trace) result self.new }
+        ensures attends { (trace : Entries) → WorldStands app.now self.old trace → Attends app.now trace agenda.old
+            → OnOk result (Attends app.now (with_entry (first_made app.now trace) trace) agenda.new) }
     {
-        if self.go_first(app)? {
-            return Ok(true);
-        }
-        if self.take_first(app)? {
-            return Ok(true);
-        }
-        if self.pull_first(app)? {
-            return Ok(true);
-        }
-        self.ship_first(app)
-    }
-
-    // Makes the next call of the first process for which it makes an entry.
-    fn go_first(&mut self, app: &App) -> Result<bool, NoMemory>
-        requires sound { IsTrue (is_sound app.now) }
-        requires world { IsWorldOf app.now self.old }
-        ensures { (trace : Entries) → WorldStands app.now self.old trace
-            → Chose app.now trace (first_of (chosen app.now trace) (goes app.now trace))
-            result self.new }
-    {
-        for object in 0..self.processes.object_count() as u32 {
-            if self.go_first_at(app, object)? {
+        while let Some(offer) = agenda.first() {
+            if self.attempt(app, agenda, offer)? {
                 return Ok(true);
             }
         }
         Ok(false)
     }
 
-    // The same among the processes that were born at an object. Those in front that have ended are passed over.
-    fn go_first_at(&mut self, app: &App, object: u32) -> Result<bool, NoMemory>
+    // Makes the entry of an offer that is awake, and tells whether there was one. If not, it is awake no more.
+    fn attempt(&mut self, app: &App, agenda: &mut Agenda, offer: Offer) -> Result<bool, NoMemory>
         requires sound { IsTrue (is_sound app.now) }
-        requires world { IsWorldOf app.now self.old }
+        requires attended { IsAttended app.now self.old agenda.old }
+        requires awake { IsAwake agenda.old offer }
+        ensures chose { (trace : Entries) → WorldStands app.now self.old trace → Attends app.now trace agenda.old
+            → Turned app.now trace (entry_by_offer app.now trace offer) result self.new }
+        ensures attends { (trace : Entries) → WorldStands app.now self.old trace → Attends app.now trace agenda.old
+            → OnOk result (Attends app.now (with_entry (entry_by_offer app.now trace offer) trace) agenda.new) }
+        ensures fewer { result ≡ Ok false → length (keys agenda.new.awake) < length (keys agenda.old.awake) }
+    {
+        match offer {
+            Offer::Go { object, at } => self.attempt_go(app, agenda, offer, object, at),
+            Offer::Take { service } => self.attempt_birth(
+                app,
+                agenda,
+                offer,
+                inbox_number(app, service),
+                Call::Take { nth: 1 },
+            ),
+            Offer::Pull { sub } => {
+                let store = app.subs.at(sub as usize).store;
+                let sub = position_on(app, store, sub);
+                self.attempt_birth(app, agenda, offer, store, Call::Pull { sub })
+            }
+            Offer::Ship { store, replica } => {
+                let region = *app.stores.at(store as usize).replicas.at(replica);
+                self.attempt_ship(agenda, offer, store, region)
+            }
+        }
+    }
+
+    // The next call of a process.
+    fn attempt_go(
+        &mut self,
+        app: &App,
+        agenda: &mut Agenda,
+        offer: Offer,
+        object: u32,
+        at: usize,
+    ) -> Result<bool, NoMemory>
+        requires sound { IsTrue (is_sound app.now) }
+        requires attended { IsAttended app.now self.old agenda.old }
+        requires awake { IsAwake agenda.old offer }
+        requires is { offer ≡ Offer.Go object at }
+        ensures chose { (trace : Entries) → WorldStands app.now self.old trace → Attends app.now trace agenda.old
+            → Turned app.now trace (entry_by_offer app.now trace offer) result self.new }
+        ensures attends { (trace : Entries) → WorldStands app.now self.old trace → Attends app.now trace agenda.old
+            → OnOk result (Attends app.now (with_entry (entry_by_offer app.now trace offer) trace) agenda.new) }
+        ensures fewer { result ≡ Ok false → length (keys agenda.new.awake) < length (keys agenda.old.awake) }
+    {
+        let process = self.processes.get(object, at);
+        let birth = process.birth();
+        let Some(asked) = process.next() else {
+            agenda.rest(offer);
+            return Ok(false);
+        };
+        let asked_at = asked.object;
+        if let Some(awaited) = self.awaits(asked_at, asked.call) {
+            agenda.sleep(offer, asked_at, awaited)?;
+            return Ok(false);
+        }
+        let brought = asked.call.brought();
+        if !self.go_on(app, birth, at)? {
+            agenda.idle(offer)?;
+            return Ok(false);
+        }
+        agenda.stir(asked_at, brought)?;
+        Ok(true)
+    }
+
+    // A call by which a process is born. The newborn is awake behind it.
+    fn attempt_birth(
+        &mut self,
+        app: &App,
+        agenda: &mut Agenda,
+        offer: Offer,
+        object: u32,
+        call: Call,
+    ) -> Result<bool, NoMemory>
+        requires sound { IsTrue (is_sound app.now) }
+        requires attended { IsAttended app.now self.old agenda.old }
+        requires awake { IsAwake agenda.old offer }
+        requires born { bears call ≡ true }
         requires object { object < object_count app.now }
-        ensures { (trace : Entries) → WorldStands app.now self.old trace
-            → Chose app.now trace
-            (first_of (chosen app.now trace) (map go_of (births (entries_on object trace))))
-            result self.new }
+        requires asks { (trace : Entries) → asked_by_offer app.now trace offer ≡ Some (bearing trace object call) }
+        requires route { IsRoute offer → ⊥ }
+        ensures chose { (trace : Entries) → WorldStands app.now self.old trace → Attends app.now trace agenda.old
+            → Turned app.now trace (entry_by_offer app.now trace offer) result self.new }
+        ensures attends { (trace : Entries) → WorldStands app.now self.old trace → Attends app.now trace agenda.old
+            → OnOk result (Attends app.now (with_entry (entry_by_offer app.now trace offer) trace) agenda.new) }
+        ensures fewer { result ≡ Ok false → length (keys agenda.new.awake) < length (keys agenda.old.awake) }
     {
-        self.processes.pass_ended(object);
-        for at in self.processes.ended_count(object)..self.processes.born_count(object) {
-            let birth = self.processes.get(object, at).birth();
-            if self.go_on(app, birth, at)? {
-                return Ok(true);
-            }
+        if let Some(awaited) = self.awaits(object, &call) {
+            agenda.sleep(offer, object, awaited)?;
+            return Ok(false);
         }
-        Ok(false)
+        let at = self.processes.born_count(object);
+        let brought = call.brought();
+        if !self.bear(app, object, call)? {
+            agenda.idle(offer)?;
+            return Ok(false);
+        }
+        agenda.stir(object, brought)?;
+        agenda.wake(Offer::Go { object, at })?;
+        Ok(true)
     }
 
-    // Takes the first free delivery of the first service that has one.
-    fn take_first(&mut self, app: &App) -> Result<bool, NoMemory>
-        requires sound { IsTrue (is_sound app.now) }
-        requires world { IsWorldOf app.now self.old }
-        ensures { (trace : Entries) → WorldStands app.now self.old trace
-            → Chose app.now trace (first_of (chosen app.now trace) (takes app.now))
-            result self.new }
-    {
-        for service in 0..app.services.len() {
-            if self.take(app, service as u32, 1)? {
-                return Ok(true);
-            }
-        }
-        Ok(false)
-    }
-
-    // Makes the next pull of the first subscription that can pull.
-    fn pull_first(&mut self, app: &App) -> Result<bool, NoMemory>
-        requires sound { IsTrue (is_sound app.now) }
-        requires world { IsWorldOf app.now self.old }
-        ensures { (trace : Entries) → WorldStands app.now self.old trace
-            → Chose app.now trace (first_of (chosen app.now trace) (pulls app.now))
-            result self.new }
-    {
-        for number in 0..app.subs.len() {
-            if self.pull(app, number as u32)? {
-                return Ok(true);
-            }
-        }
-        Ok(false)
-    }
-
-    // Makes the next shipment of the first store that has one.
-    fn ship_first(&mut self, app: &App) -> Result<bool, NoMemory>
-        requires sound { IsTrue (is_sound app.now) }
-        requires world { IsWorldOf app.now self.old }
-        ensures { (trace : Entries) → WorldStands app.now self.old trace
-            → Chose app.now trace (first_of (chosen app.now trace) (ships app.now trace))
-            result self.new }
-    {
-        for store in 0..app.stores.len() {
-            if self.ship_first_of(app, store as u32)? {
-                return Ok(true);
-            }
-        }
-        Ok(false)
-    }
-
-    // The same of one store: the next shipment to the first of its replicas that lacks one.
-    fn ship_first_of(&mut self, app: &App, store: u32) -> Result<bool, NoMemory>
-        requires sound { IsTrue (is_sound app.now) }
-        requires world { IsWorldOf app.now self.old }
-        requires store { IsStore app.now store }
-        ensures { (trace : Entries) → WorldStands app.now self.old trace
-            → Chose app.now trace
-            (first_of (chosen app.now trace) (ships_from app.now trace store)) result self.new }
-    {
-        for region in app.stores.at(store as usize).replicas.as_slice() {
-            if self.ship_next(store, *region)? {
-                return Ok(true);
-            }
-        }
-        Ok(false)
-    }
-
-    // Makes the next shipment from a store to a region, where there is one.
-    fn ship_next(&mut self, store: u32, region: u32) -> Result<bool, NoMemory>
+    // The next shipment of a store to a region.
+    fn attempt_ship(
+        &mut self,
+        agenda: &mut Agenda,
+        offer: Offer,
+        store: u32,
+        region: u32,
+    ) -> Result<bool, NoMemory>
         requires world { IsSoundWorld self.old }
         requires store { store < vec_len self.old.objects }
-        ensures { (app : App) (trace : Entries) → IsTrue (is_sound app)
-            → WorldStands app self.old trace
-            → Chose app trace (next_shipped app trace store region) result self.new }
+        requires awake { IsAwake agenda.old offer }
+        ensures chose { (app : App) (trace : Entries) (replica : ℕ) → IsTrue (is_sound app) → WorldStands app self.old trace
+            → Attends app trace agenda.old → offer ≡ Offer.Ship store replica → region_at app store replica ≡ Some region
+            → Turned app trace (entry_by_offer app trace offer) result self.new }
+        ensures attends { (app : App) (trace : Entries) (replica : ℕ) → IsTrue (is_sound app) → WorldStands app self.old trace
+            → Attends app trace agenda.old → offer ≡ Offer.Ship store replica → region_at app store replica ≡ Some region
+            → OnOk result (Attends app (with_entry (entry_by_offer app trace offer) trace) agenda.new) }
+        ensures fewer { result ≡ Ok false → length (keys agenda.new.awake) < length (keys agenda.old.awake) }
     {
         let recorded = &self.objects[store as usize];
         let Some((version, part)) = recorded.machine().next_ship(region) else {
+            agenda.sleep(offer, store, Awaited::Writing)?;
             return Ok(false);
         };
         let ship = Call::Ship {
@@ -169,6 +191,21 @@ impl World {
             version,
             part,
         };
-        self.carry(store, ship)
+        let brought = ship.brought();
+        if !self.carry(store, ship)? {
+            agenda.idle(offer)?;
+            return Ok(false);
+        }
+        agenda.stir(store, brought)?;
+        Ok(true)
+    }
+
+    // What a call waits for at its object, where that is known.
+    fn awaits(&self, object: u32, call: &Call) -> Option<Awaited>
+        ensures { (app : App) (trace : Entries) (asking : Asking) → WorldStands app self.now trace
+            → asking.object ≡ object → asking.call ≡ call.now
+            → IfSome result (λ awaited. CallWaits app trace object awaited asking) }
+    {
+        self.objects.get(object as usize)?.machine().awaits(call)
     }
 }

@@ -6,6 +6,7 @@ mod finish;
 mod laws;
 mod player;
 mod tracing;
+mod waking;
 mod world;
 
 pub use laws::{finish_completes, pulls_start_handlers};

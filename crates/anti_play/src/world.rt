@@ -58,7 +58,7 @@ impl World {
     }
 
     // Makes a call by which a process is born at an object.
-    fn bear(&mut self, app: &App, object: u32, call: Call) -> Result<bool, NoMemory>
+    pub(crate) fn bear(&mut self, app: &App, object: u32, call: Call) -> Result<bool, NoMemory>
         requires sound { IsTrue (is_sound app.now) }
         requires born { bears call ≡ true }
         requires world { IsWorldOf app.now self.old }
@@ -85,7 +85,7 @@ impl World {
     }
 
     // Takes a delivery of a service's inbox.
-    pub(crate) fn take(&mut self, app: &App, service: u32, nth: u32) -> Result<bool, NoMemory>
+    fn take(&mut self, app: &App, service: u32, nth: u32) -> Result<bool, NoMemory>
         requires sound { IsTrue (is_sound app.now) }
         requires named { service < length app.now.services.items }
         requires world { IsWorldOf app.now self.old }
@@ -96,7 +96,7 @@ impl World {
     }
 
     // Makes the next pull of a subscription, at its store.
-    pub(crate) fn pull(&mut self, app: &App, number: u32) -> Result<bool, NoMemory>
+    fn pull(&mut self, app: &App, number: u32) -> Result<bool, NoMemory>
         requires sound { IsTrue (is_sound app.now) }
         requires named { number < length app.now.subs.items }
         requires world { IsWorldOf app.now self.old }
@@ -158,8 +158,8 @@ impl World {
         }
     }
 
-    // Makes the next call of a process, which stands at a place among those that were born at its object. Most of those that are asked
-    // have ended or wait. So that is tested first, in functions that have no large values of their own.
+    // Makes the next call of a process, which stands at a place among those that were born at its object. Whether it has ended or waits is
+    // tested first, in functions that have no large values of their own.
     pub(crate) fn go_on(&mut self, app: &App, birth: Birth, at: usize) -> Result<bool, NoMemory>
         requires sound { IsTrue (is_sound app.now) }
         requires world { IsWorldOf app.now self.old }

@@ -6,7 +6,7 @@ ghost use Rattle.anti_proc.specs.inner.Statements.{came_by};
 
 use crate::end::ProcFault;
 use anti_app::{App, is_store, store_names};
-use anti_baggage::{BaggageFault, decode};
+use anti_baggage::BaggageFault;
 use anti_ids::Lineage;
 use anti_kind::{Message, Reply, Row};
 use std::alloc::Global;
@@ -50,7 +50,7 @@ pub fn stated(alloc: Global, app: &App, message: &Message) -> Result<Lineage, Pr
     ensures foreign { result ≡ Err ProcFault.Foreign → stated_lineage app.now message.now ≡ None }
 {
     let names = store_names(alloc, app)?;
-    match decode(alloc, names.as_slice(), message.baggage.bytes()) {
+    match message.baggage.lineage(alloc, names.as_slice()) {
         Ok(lineage) => Ok(lineage),
         Err(BaggageFault::NoMemory) => Err(ProcFault::NoMemory),
         Err(_) => Err(ProcFault::Foreign),

@@ -14,17 +14,21 @@ use crate::next::{After, Next, Stage};
 use crate::state::Draft;
 use crate::task::Duty;
 use anti_app::{App, store_names};
-use anti_baggage::encode;
-use anti_ids::{Bytes, Copies, Lineage, Name, NoMemory, Value};
+use anti_baggage::Baggage;
+use anti_ids::{Copies, Name, NoMemory, Value};
 use anti_kind::{Call, Message, MessageKind, Reply};
 use std::alloc::Global;
 
-// The text of what a process carries.
-fn baggage(alloc: Global, app: &App, carried: &Lineage) -> Result<Bytes, NoMemory>
-    ensures { IfOk result (λ text. text ≡ plain (lineage_text (store_names app.now) carried.now)) }
+// The text of what a process carries. Its last baggage serves again where it is that text.
+fn baggage(alloc: Global, app: &App, draft: &Draft) -> Result<Baggage, NoMemory>
+    ensures { IfOk result (λ text. text ≡ plain (lineage_text (store_names app.now) draft.now.changes.carried)) }
 {
     let names = store_names(alloc, app)?;
-    encode(alloc, names.as_slice(), carried)
+    let carried = &draft.changes.carried;
+    match draft.posted {
+        Some(posted) => posted.again(alloc, names.as_slice(), carried),
+        None => Baggage::of(alloc, names.as_slice(), carried),
+    }
 }
 
 // The kind of a message whose reply sets a variable, or which has no reply.
@@ -50,7 +54,7 @@ pub fn message(
     ensures { IfOk result (λ m. m ≡ message (kind_of variable.now) (setting app.now given.now)
         (local_in draft.now) handler value) }
 {
-    let baggage = baggage(given.alloc, app, &draft.changes.carried)?;
+    let baggage = baggage(given.alloc, app, draft)?;
     Ok(Message {
         kind: kind_of(variable),
         to: 0,
@@ -73,7 +77,7 @@ fn answer(
         ≡ answer (setting app.now given.now) (local_in draft.now) number handler) }
 {
     let value = draft.changes.reply.copy(given.alloc)?;
-    let baggage = baggage(given.alloc, app, &draft.changes.carried)?;
+    let baggage = baggage(given.alloc, app, draft)?;
     Ok(Message {
         kind: MessageKind::Reply,
         to: number,

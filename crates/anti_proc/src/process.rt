@@ -14,7 +14,8 @@ use crate::foreign::brought;
 use crate::run::{Advance, Life, begun};
 use crate::task::{Role, Task};
 use anti_app::App;
-use anti_ids::{Lineage, NoMemory};
+use anti_baggage::Baggage;
+use anti_ids::{Copies, Lineage, NoMemory};
 use anti_kind::{Birth, Call, Entry, Reply};
 use std::alloc::Global;
 
@@ -38,6 +39,14 @@ pub struct Process {
     life: Life,
 }
 
+// The baggage of the message with which an entry starts a process; `None` where it has none.
+fn came_with(alloc: Global, entry: &Entry) -> Result<Option<Baggage>, NoMemory> {
+    match &entry.reply {
+        Reply::Got { message, .. } => Ok(Some(message.baggage.copy(alloc)?)),
+        _ => Ok(None),
+    }
+}
+
 impl Process {
     /// The process that an entry of the application starts. `Foreign` comes exactly where it starts nothing: it takes no message and no
     /// row, the service has not the handler that the message names, the message is too deep, its baggage states no lineage over the
@@ -55,7 +64,7 @@ impl Process {
     {
         let task = Task::of(alloc, app, entry)?;
         let role = task.role;
-        let life = begun(alloc, app, task)?;
+        let life = begun(alloc, app, task, came_with(alloc, entry)?)?;
         Ok(Process {
             alloc,
             birth: Birth {

@@ -19,9 +19,11 @@ use crate::statements::{Does, run};
 use crate::task::Task;
 use crate::variables::{Held, Variable};
 use anti_app::{App, body_of};
+use anti_baggage::Baggage;
 use anti_ids::{Copies, Lineage, Name, NoMemory, WriteId};
-use anti_kind::Reply;
+use anti_kind::{Call, Reply};
 use std::alloc::Global;
+use std::mem;
 
 /// A handler between two of its calls: how far it is in its body, what it knows, and its next call.
 #[derive(Drop)]
@@ -31,6 +33,8 @@ pub struct Run {
     pub cursor: Cursor,
     pub state: State,
     pub next: Next,
+    // The baggage that it posted or came with, before its next call. It may serve again, and means nothing else.
+    pub posted: Option<Baggage>,
 }
 
 /// A process that goes on, or has ended, and then holds nothing more.
@@ -96,8 +100,13 @@ impl<'g, 'o> Way<'g, 'o> {
     }
 }
 
-// What a process is that begins a task.
-pub fn begun(alloc: Global, app: &App, task: Task) -> Result<Life, NoMemory>
+// What a process is that begins a task, with the baggage with which it came.
+pub fn begun(
+    alloc: Global,
+    app: &App,
+    task: Task,
+    posted: Option<Baggage>,
+) -> Result<Life, NoMemory>
     requires { CanRun app.now }
     ensures tree { IfOk result (λ life. life_tree app.now life ≡ task_tree app.now task) }
     ensures spans { IfOk result (λ life. LifeHasSpans app.now life) }
@@ -116,7 +125,7 @@ pub fn begun(alloc: Global, app: &App, task: Task) -> Result<Life, NoMemory>
     let mut way = Way {
         given: &given,
         cursor: Cursor::start(alloc),
-        draft: state.draft(alloc, Since::Same)?,
+        draft: state.draft(alloc, Since::Same, posted.as_ref())?,
     };
     let stage = way.settle(app)?;
     let (cursor, changes) = (way.cursor, way.draft.changes);
@@ -130,12 +139,41 @@ pub fn begun(alloc: Global, app: &App, task: Task) -> Result<Life, NoMemory>
                 cursor,
                 state,
                 next,
+                posted,
             }))
         }
     }
 }
 
+// Keeps the baggage of a call that posts it.
+fn keep(posted: &mut Option<Baggage>, call: Call) {
+    if let Call::Post { message } = call {
+        *posted = Some(message.baggage);
+    }
+}
+
 impl Run {
+    // The baggage that it posts next, or else posted last or came with.
+    fn last_baggage(&self) -> Option<&Baggage> {
+        match &self.next.call {
+            Call::Post { message } => Some(&message.baggage),
+            _ => self.posted.as_ref(),
+        }
+    }
+
+    // The changes with which it sets out to its next call.
+    fn draft(&self, since: Since) -> Result<Draft<'_>, NoMemory>
+        ensures local { IfOk result (λ d. local_in d
+            ≡ record (local_of self.now.state) {
+              variables = variables_in since
+                  self.now.state.variables.items;
+            }) }
+        ensures before { IfOk result (λ d. d.before.now ≡ self.now.state.variables.items) }
+    {
+        self.state
+            .draft(self.given.alloc, since, self.last_baggage())
+    }
+
     // What becomes of the process by some changes and the call or the end that is given, or, where none is, by what its body does then.
     fn go_on(&self, app: &App, draft: Draft, stage: Option<Stage>) -> Result<Advance, NoMemory>
         requires app { CanRun app.now }
@@ -186,7 +224,7 @@ impl Run {
         ensures spans { IfOk result (λ a. AdvanceHasSpans app.now (Life.Runs self.now) a) }
     {
         let since = set_or(variable, Held::Wrote(*id));
-        let mut draft = self.state.draft(self.given.alloc, since)?;
+        let mut draft = self.draft(since)?;
         let stage = if untracked {
             None
         } else {
@@ -232,18 +270,17 @@ impl Run {
             (going app.now self.now.given self.now.cursor) reply.now) }
         ensures spans { IfOk result (λ a. AdvanceHasSpans app.now (Life.Runs self.now) a) }
     {
-        let alloc = self.given.alloc;
         let since = match reply {
             Reply::Shown(rows) => Since::Set(Variable {
                 name: variable,
                 held: Held::Saw {
                     store: self.next.object,
-                    rows: rows.copy(alloc)?,
+                    rows: rows.copy(self.given.alloc)?,
                 },
             }),
             _ => Since::Same,
         };
-        let draft = self.state.draft(alloc, since)?;
+        let draft = self.draft(since)?;
         self.go_on(app, draft, None)
     }
 
@@ -263,16 +300,15 @@ impl Run {
             (going app.now self.now.given self.now.cursor) reply.now) }
         ensures spans { IfOk result (λ a. AdvanceHasSpans app.now (Life.Runs self.now) a) }
     {
-        let alloc = self.given.alloc;
         let Reply::Got { message, .. } = reply else {
             return self.passed(app, None);
         };
-        let value = message.value.copy(alloc)?;
+        let value = message.value.copy(self.given.alloc)?;
         let since = Since::Set(Variable {
             name: variable,
             held: Held::Heard(value),
         });
-        let mut draft = self.state.draft(alloc, since)?;
+        let mut draft = self.draft(since)?;
         let stage = draft.carry(brought)?;
         self.go_on(app, draft, stage)
     }
@@ -286,7 +322,7 @@ impl Run {
             (going app.now self.now.given self.now.cursor)) }
         ensures spans { IfOk result (λ a. AdvanceHasSpans app.now (Life.Runs self.now) a) }
     {
-        let draft = self.state.draft(self.given.alloc, Since::Same)?;
+        let draft = self.draft(Since::Same)?;
         self.go_on(app, draft, stage)
     }
 
@@ -331,6 +367,7 @@ impl Run {
         } = going;
         self.cursor = cursor;
         self.state.take(self.given.alloc, changes);
-        self.next = next;
+        let Next { call, .. } = mem::replace(&mut self.next, next);
+        keep(&mut self.posted, call);
     }
 }

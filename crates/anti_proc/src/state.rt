@@ -7,6 +7,7 @@ ghost use Rattle.anti_proc.specs.inner.Standing.{local_by, local_in, local_of, s
 use crate::adding::{add, all_absent, carry};
 use crate::next::Stage;
 use crate::variables::{Held, Variable, Variables, held_in, set};
+use anti_baggage::Baggage;
 use anti_ids::{Copies, Lineage, List, Name, NoMemory, Value, WriteId};
 use std::alloc::Global;
 
@@ -50,6 +51,8 @@ pub struct Draft<'a> {
     pub changes: Changes,
     /// The variables that it had.
     pub before: &'a [Variable],
+    /// The baggage that it posted last or came with, which may serve again.
+    pub posted: Option<&'a Baggage>,
 }
 
 impl State {
@@ -77,7 +80,12 @@ impl State {
     }
 
     /// The changes with which a process sets out to its next call.
-    pub fn draft(&self, alloc: Global, since: Since) -> Result<Draft<'_>, NoMemory>
+    pub fn draft<'a>(
+        &'a self,
+        alloc: Global,
+        since: Since,
+        posted: Option<&'a Baggage>,
+    ) -> Result<Draft<'a>, NoMemory>
         ensures local { IfOk result (λ d. local_in d
             ≡ record (local_of self.now) {
               variables = variables_in since
@@ -96,6 +104,7 @@ impl State {
                 since,
             },
             before: self.variables.as_slice(),
+            posted,
         })
     }
 

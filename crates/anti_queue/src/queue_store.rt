@@ -5,7 +5,7 @@ ghost use Rattle.anti_queue.specs.QueueStarts.{queue_start};
 use crate::messages::Messages;
 use crate::subscribers::Subscribers;
 use anti_ids::NoMemory;
-use anti_kind::{Call, Kind, Machine, Reply, StoreKind, Sub};
+use anti_kind::{Awaited, Call, Kind, Machine, Reply, StoreKind, Sub};
 use anti_replicas::{Channels, Replicas};
 use std::alloc::Global;
 
@@ -97,6 +97,19 @@ impl Machine for Queue {
 
     fn next_ship(&self, region: u32) -> Option<(u64, u32)> {
         self.base.next_ship(region)
+    }
+
+    fn awaits(&self, c: &Call) -> Option<Awaited> {
+        match c {
+            Call::Look { region, ids, dry } => self.base.look_awaits(*region, ids, *dry),
+            Call::Pull { sub } => {
+                if self.base.is_version(self.next_version(*sub)) {
+                    return None;
+                }
+                Some(Awaited::Handout(*sub))
+            }
+            _ => None,
+        }
     }
 
     fn due(&self, c: &Call) -> Result<Reply, NoMemory> {

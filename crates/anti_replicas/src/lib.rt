@@ -13,6 +13,7 @@ mod replicas;
 mod scans;
 mod shipments;
 mod units;
+mod waits;
 mod writes;
 
 pub use cells::cell_key;

@@ -36,7 +36,7 @@ impl Replicas {
     ghost use Rattle.anti_replicas.specs.Stores.{At, showing_whole, number_of};
 
     // Whether the region shows the id's version of its key, or a later one.
-    fn is_visible(&self, region: u32, id: &WriteId) -> bool
+    pub(crate) fn is_visible(&self, region: u32, id: &WriteId) -> bool
         ensures { (s : Store) (h : List Entry) → At self.now s h
             → result ≡ is_visible (showing_whole s) h region id.now }
     {
@@ -56,7 +56,7 @@ impl Replicas {
     }
 
     // Whether the id is that of a write of this store.
-    fn is_written(&self, id: &WriteId) -> bool
+    pub(crate) fn is_written(&self, id: &WriteId) -> bool
         ensures { (s : Store) (h : List Entry) → At self.now s h → result ≡ is_written h id.now }
     {
         match self.kept_at(id.version) {

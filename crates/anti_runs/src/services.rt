@@ -5,6 +5,7 @@ ghost use Rattle.anti_app.specs.Sound.{is_sound};
 use crate::calling::{ends_as, step, step_to};
 use crate::playing::{Run, run_of};
 use anti_app::App;
+use anti_baggage::Baggage;
 use anti_ids::{Bytes, Copies, Name};
 use anti_kind::{Entry, Message, Reply};
 use anti_proc::{ProcFault, Process};
@@ -283,7 +284,7 @@ fn changed(
                 depth,
                 handler,
                 value: message.value.copy(alloc).ok()?,
-                baggage: text,
+                baggage: Baggage::from_text(text),
             },
         },
     })

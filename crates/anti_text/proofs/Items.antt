@@ -5,7 +5,7 @@ use Rattle.std.specs.List.{flat_map}
 use Rattle.serde_json.specs.Data.{Data}
 use Rattle.serde_json.specs.View.{items_of}
 use Rattle.serde_json.specs.Written.{compact_text, items_text}
-use Rattle.anti_text.proofs.Pieces.{added_is}
+use Rattle.anti_text.proofs.Added.{added_is}
 
 -- those behind the first
 later_are : {T : Type 0} (says : T → Data) (items : List T)

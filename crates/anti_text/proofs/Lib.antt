@@ -1,6 +1,9 @@
+pub mod Added
+pub mod Commas
+pub mod Cuts
 pub mod Items
 pub mod Looks
-pub mod Pieces
+pub mod Runs
 pub mod Shapes
 pub mod Summaries
 pub mod Worked

@@ -15,7 +15,7 @@ use Rattle.anti_text.specs.Processes.{end_text}
 use Rattle.anti_text.specs.Report.{Told}
 use Rattle.anti_text.specs.Spans.{answer_text, span_name}
 use Rattle.anti_text.specs.Json.{text, entry_data, wait_data, process_data, span_data, record_data}
-use Rattle.anti_text.proofs.Pieces.{added, joined, added_is}
+use Rattle.anti_text.proofs.Added.{added, joined, added_is}
 
 abbrev entry_rest : App → Entry → List (List ℕ)
 entry_rest app e =

@@ -8,3 +8,4 @@ pub mod Report
 pub mod Spans
 pub mod Summary
 pub mod Words
+pub mod inner

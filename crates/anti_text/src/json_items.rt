@@ -109,12 +109,11 @@ impl Item for SpanAnswer {
 
     #[tactic(auto, using(crate::proofs::Shapes::span_added))]
     fn print(&self, out: &mut Output, printer: &Printer) -> Result<(), NoMemory> {
-        let app = printer.app;
         let mut answer = Output::new(printer.alloc);
-        answer_text(&mut answer, app, &self.answer)?;
+        answer_text(&mut answer, printer, &self.answer)?;
         add_string(out, printer, b"{\"answer\":", &answer)?;
         let mut name = Output::new(printer.alloc);
-        span_name(&mut name, app, self.span)?;
+        span_name(&mut name, printer.app, self.span)?;
         add_string(out, printer, b",\"name\":", &name)?;
         out.put(b"}")
     }

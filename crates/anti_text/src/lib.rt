@@ -3,8 +3,13 @@
 
 mod call_words;
 mod entry_lines;
+mod id_texts;
+mod ids;
 mod json_items;
+mod lists;
+mod mark_texts;
 mod output;
+mod pieces;
 mod placement;
 mod printed;
 mod printed_json;

@@ -1,10 +1,10 @@
-ghost use Rattle.std.specs.Prelude.{◌≡◌, [], ◌++◌, decimal, OnOk};
+ghost use Rattle.std.specs.Prelude.{◌≡◌, ℕ, [], ◌∷◌, ◌++◌, decimal, OnOk};
+ghost use Rattle.std.specs.Prelude.{List as Items};
 ghost use Rattle.anti_ids.specs.List.{plain};
 ghost use Rattle.anti_baggage.specs.Escapes.{escaped};
-ghost use Rattle.anti_baggage.specs.Texts.{lineage_text};
 
-use anti_baggage::{add_lineage, escape};
-use anti_ids::{Bytes, Lineage, List, Name, NoMemory};
+use anti_baggage::escape;
+use anti_ids::{Bytes, List, NoMemory};
 use itoa::Buffer;
 use std::alloc::Global;
 use std::marker::Model;
@@ -57,11 +57,11 @@ impl Output {
         self.put(digits.format(number).as_bytes())
     }
 
-    /// Adds the text of a lineage at the end, over the names of the stores by their numbers.
-    pub fn lineage(&mut self, stores: &[Name], lineage: &Lineage) -> Result<(), NoMemory>
-        ensures { OnOk result (self.new ≡ self.old ++ lineage_text stores.now lineage.now) }
+    /// Takes the last byte away.
+    pub fn take_last(&mut self)
+        ensures { (front : Items ℕ) (last : ℕ) → self.old ≡ front ++ last ∷ [] → self.new ≡ front }
     {
-        add_lineage(&mut self.bytes, stores, lineage)
+        let _last = self.bytes.pop();
     }
 
     /// The text.

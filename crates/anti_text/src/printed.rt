@@ -55,11 +55,12 @@ fn process_lines(out: &mut Output, app: &App, ends: &[ProcessEnd]) -> Result<(),
 }
 
 // Writes the lines of the spans.
-fn span_lines(out: &mut Output, app: &App, spans: &[SpanAnswer]) -> Result<(), NoMemory>
-    ensures { OnOk result (out.new ≡ out.old ++ flat_map (span_line app.now) spans.now) }
+fn span_lines(out: &mut Output, printer: &Printer, spans: &[SpanAnswer]) -> Result<(), NoMemory>
+    ensures { OnOk result
+        (out.new ≡ out.old ++ flat_map (span_line printer.now.app.now) spans.now) }
 {
     for answered in spans {
-        span_line(out, app, answered)?;
+        span_line(out, printer, answered)?;
     }
     Ok(())
 }
@@ -69,14 +70,14 @@ fn span_lines(out: &mut Output, app: &App, spans: &[SpanAnswer]) -> Result<(), N
 pub fn print(alloc: Global, app: &App, report: &Report) -> Result<Bytes, NoMemory>
     ensures { IfOk result (λ t. t ≡ plain (text_of app.now report.now)) }
 {
-    let printer = Printer::new(alloc, app)?;
+    let printer = Printer::new(alloc, app, report)?;
     let mut out = Output::new(alloc);
     let entries = report.trace.as_slice();
     out.put(b"record 1\n")?;
     entry_lines(&mut out, &printer, entries)?;
     wait_lines(&mut out, app, report.waits.as_slice())?;
     process_lines(&mut out, app, report.ends.as_slice())?;
-    span_lines(&mut out, app, report.spans.as_slice())?;
+    span_lines(&mut out, &printer, report.spans.as_slice())?;
     out.put(b"end ")?;
     out.number(entries.len() as u64)?;
     out.put(b"\n")?;

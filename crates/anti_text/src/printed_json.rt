@@ -53,7 +53,7 @@ fn add_list<T: Item>(
 pub fn print_json(alloc: Global, app: &App, report: &Report) -> Result<Bytes, NoMemory>
     ensures { IfOk result (λ t. t ≡ plain (json_of app.now report.now)) }
 {
-    let printer = Printer::new(alloc, app)?;
+    let printer = Printer::new(alloc, app, report)?;
     let mut out = Output::new(alloc);
     let entries = report.trace.as_slice();
     add_number(&mut out, b"{\"end\":", entries.len() as u64)?;

@@ -1,36 +1,67 @@
 ghost use Rattle.std.specs.Prelude.{◌≡◌, ◌++◌, IfOk, OnOk};
+ghost use Rattle.std.specs.List.{flat_map};
 ghost use Rattle.anti_app.specs.Objects.{store_names};
+ghost use Rattle.anti_text.specs.Spans.{spaced_mark};
 ghost use Rattle.anti_text.specs.Words.{lineage_text};
 
+use crate::id_texts::IdTexts;
+use crate::mark_texts::MarkTexts;
 use crate::output::Output;
+use crate::report::Report;
 use anti_app::{App, store_names};
-use anti_ids::{Lineage, Name, NoMemory};
+use anti_ids::{Lineage, NoMemory};
+use anti_kind::Entry;
+use anti_trace::Mark;
 use std::alloc::Global;
 
-/// What the lines of a record are printed of: an application, the names of whose stores are read
-/// once.
+/// What the lines of a record are printed of: an application, and the texts that come again and again, each made once.
 #[derive(Drop)]
 pub struct Printer<'a> {
     pub alloc: Global,
     /// The application.
     pub app: &'a App,
-    stores: Vec<Name>,
-    ghost named: { stores.items ≡ store_names app.now },
+    ids: IdTexts,
+    marks: MarkTexts<'a>,
+    ghost named: { ids.stores.items ≡ store_names app.now },
+    ghost marked: { marks.app.now ≡ app.now },
+}
+
+// The entries whose marks are kept: none, where no span has an answer.
+fn marked<'r>(report: &'r Report) -> &'r [Entry] {
+    if report.spans.is_empty() {
+        return &[];
+    }
+    report.trace.as_slice()
 }
 
 impl<'a> Printer<'a> {
-    /// What prints a record of an application.
-    pub fn new(alloc: Global, app: &'a App) -> Result<Printer<'a>, NoMemory>
+    /// What prints the record of a report of an application.
+    pub fn new(alloc: Global, app: &'a App, report: &Report) -> Result<Printer<'a>, NoMemory>
         ensures { IfOk result (λ printer. printer.app.now ≡ app.now) }
     {
         let stores = store_names(alloc, app)?;
-        Ok(Printer { alloc, app, stores })
+        let ids = IdTexts::of(alloc, stores, report.trace.as_slice())?;
+        let marks = MarkTexts::of(alloc, app, marked(report))?;
+        Ok(Printer {
+            alloc,
+            app,
+            ids,
+            marks,
+        })
     }
 
     /// Writes a lineage.
     pub fn lineage(&self, out: &mut Output, lineage: &Lineage) -> Result<(), NoMemory>
         ensures { OnOk result (out.new ≡ out.old ++ lineage_text self.now.app.now lineage.now) }
     {
-        out.lineage(self.stores.as_slice(), lineage)
+        self.ids.lineage(out, lineage)
+    }
+
+    /// Writes marks, each behind a space.
+    pub fn marks(&self, out: &mut Output, marks: &[Mark]) -> Result<(), NoMemory>
+        ensures { OnOk result
+            (out.new ≡ out.old ++ flat_map (spaced_mark self.now.app.now) marks.now) }
+    {
+        self.marks.marks(out, marks)
     }
 }

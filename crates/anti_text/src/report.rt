@@ -35,7 +35,7 @@ impl<'t, 'w> Model for Report<'t, 'w> {
 
 impl<'t, 'w> Report<'t, 'w> {
     /// The report of a run of an application, of whose processes these are the ends. What is answered of the spans is found by one walk along
-    /// the trace for the losses, and one for the pasts of the reads.
+    /// the trace.
     pub fn with_ends(
         alloc: Global,
         app: &App,

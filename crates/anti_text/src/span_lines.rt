@@ -1,49 +1,34 @@
 ghost use Rattle.std.specs.Prelude.{◌≡◌, ◌++◌, OnOk};
-ghost use Rattle.std.specs.List.{flat_map};
-ghost use Rattle.anti_text.specs.Spans.{answer_text, spaced_mark, span_line, span_name};
+ghost use Rattle.anti_text.specs.Spans.{answer_text, span_line, span_name};
 
 use crate::output::Output;
-use crate::words::mark_text;
+use crate::printer::Printer;
+use crate::words::{mark_text, spaced_mark};
 use anti_app::App;
 use anti_ids::NoMemory;
 use anti_order::{OrderAnswer, SpanAnswer};
 use anti_past::Span;
-use anti_trace::Mark;
-
-// Writes a mark behind a space.
-fn spaced_mark(out: &mut Output, app: &App, mark: Mark) -> Result<(), NoMemory>
-    ensures { OnOk result (out.new ≡ out.old ++ spaced_mark app.now mark) }
-{
-    out.put(b" ")?;
-    mark_text(out, app, mark.object, mark.place)
-}
-
-// Writes marks, each behind a space.
-fn spaced_marks(out: &mut Output, app: &App, marks: &[Mark]) -> Result<(), NoMemory>
-    ensures { OnOk result (out.new ≡ out.old ++ flat_map (spaced_mark app.now) marks.now) }
-{
-    for mark in marks {
-        spaced_mark(out, app, *mark)?;
-    }
-    Ok(())
-}
 
 /// Writes what is answered of the reads of a span.
-pub fn answer_text(out: &mut Output, app: &App, answer: &OrderAnswer) -> Result<(), NoMemory>
-    ensures { OnOk result (out.new ≡ out.old ++ answer_text app.now answer.now) }
+pub fn answer_text(
+    out: &mut Output,
+    printer: &Printer,
+    answer: &OrderAnswer,
+) -> Result<(), NoMemory>
+    ensures { OnOk result (out.new ≡ out.old ++ answer_text printer.now.app.now answer.now) }
 {
     match answer {
         OrderAnswer::Lossy(mark) => {
             out.put(b"lossy")?;
-            spaced_mark(out, app, *mark)
+            spaced_mark(out, printer.app, *mark)
         }
         OrderAnswer::Unguarded(mark) => {
             out.put(b"unguarded")?;
-            spaced_mark(out, app, *mark)
+            spaced_mark(out, printer.app, *mark)
         }
         OrderAnswer::Order(marks) => {
             out.put(b"order")?;
-            spaced_marks(out, app, marks.as_slice())
+            printer.marks(out, marks.as_slice())
         }
     }
 }
@@ -58,12 +43,12 @@ pub fn span_name(out: &mut Output, app: &App, span: Span) -> Result<(), NoMemory
 }
 
 /// Writes the line of a span.
-pub fn span_line(out: &mut Output, app: &App, answered: &SpanAnswer) -> Result<(), NoMemory>
-    ensures { OnOk result (out.new ≡ out.old ++ span_line app.now answered.now) }
+pub fn span_line(out: &mut Output, printer: &Printer, answered: &SpanAnswer) -> Result<(), NoMemory>
+    ensures { OnOk result (out.new ≡ out.old ++ span_line printer.now.app.now answered.now) }
 {
     out.put(b"span ")?;
-    span_name(out, app, answered.span)?;
+    span_name(out, printer.app, answered.span)?;
     out.put(b" ")?;
-    answer_text(out, app, &answered.answer)?;
+    answer_text(out, printer, &answered.answer)?;
     out.put(b"\n")
 }

@@ -1,9 +1,11 @@
 ghost use Rattle.std.specs.Prelude.{◌≡◌, ◌++◌, OnOk};
+ghost use Rattle.anti_text.specs.Spans.{spaced_mark};
 ghost use Rattle.anti_text.specs.Words.{store_name, service_name, name_among, handler_name, sub_name, sub_name_on, region_name, object_name, mark_text, quoted};
 
 use crate::output::Output;
 use anti_app::{App, HandlerDef, ObjectAt, number_on, object_at};
 use anti_ids::NoMemory;
+use anti_trace::Mark;
 
 /// Writes the name of a store, by its number.
 pub fn store_name(out: &mut Output, app: &App, store: usize) -> Result<(), NoMemory>
@@ -99,6 +101,14 @@ pub fn mark_text(out: &mut Output, app: &App, object: u32, place: u32) -> Result
     object_name(out, app, object)?;
     out.put(b".")?;
     out.number(u64::from(place))
+}
+
+/// Writes a mark behind a space.
+pub fn spaced_mark(out: &mut Output, app: &App, mark: Mark) -> Result<(), NoMemory>
+    ensures { OnOk result (out.new ≡ out.old ++ spaced_mark app.now mark) }
+{
+    out.put(b" ")?;
+    mark_text(out, app, mark.object, mark.place)
 }
 
 /// Writes a value in quotation marks.

@@ -3,7 +3,7 @@ ghost use Rattle.anti_kind.specs.Objects.{IsStart};
 
 use crate::cursor::{Cursor, new_cursors};
 use anti_ids::NoMemory;
-use anti_kind::{Call, Kind, Machine, Reply, StoreKind, Sub};
+use anti_kind::{Awaited, Call, Kind, Machine, Reply, StoreKind, Sub};
 use anti_replicas::{Channels, Replicas};
 use std::alloc::Global;
 
@@ -97,6 +97,19 @@ impl Machine for Topic {
 
     fn next_ship(&self, region: u32) -> Option<(u64, u32)> {
         self.base.next_ship(region)
+    }
+
+    fn awaits(&self, c: &Call) -> Option<Awaited> {
+        match c {
+            Call::Look { region, ids, dry } => self.base.look_awaits(*region, ids, *dry),
+            Call::Pull { sub } => {
+                if self.base.is_version(self.next_version(*sub)) {
+                    return None;
+                }
+                Some(Awaited::Handout(*sub))
+            }
+            _ => None,
+        }
     }
 
     fn due(&self, c: &Call) -> Result<Reply, NoMemory> {

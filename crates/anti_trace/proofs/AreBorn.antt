@@ -16,7 +16,7 @@ use Rattle.anti_proc.specs.declared.process.Process.{Process}
 use Rattle.anti_proc.specs.Births.{birth_at, births, is_birth, is_started_by}
 use Rattle.anti_proc.specs.inner.Standing.{birth_of}
 use Rattle.anti_trace.specs.declared.processes.AtObject.{AtObject}
-use Rattle.anti_trace.specs.inner.Living.{born_at, AreBorn, Changes, SameBorn, Grows}
+use Rattle.anti_trace.specs.inner.Living.{born_at, AreBorn, Changes, Grows}
 use Rattle.anti_trace.proofs.Living.{decide}
 
 -- ---- which entries are births
@@ -50,14 +50,13 @@ births_more h e b is = filter-append is_birth h (e ∷ []) ∙ ap (λ (x : Bool)
 
 -- ---- the processes of all objects
 
-pub same_changed : (ps ns : List AtObject) (o : ℕ) → Changes ps ns o (born_at ps o) → SameBorn ps ns
-same_changed ps ns o changes = record {
-  count = changes.count;
-  same = λ k. elim (decide o k) as (λ _. born_at ns k ≡ born_at ps k) [
-    | inl is ↦ subst (λ (n : ℕ). born_at ns n ≡ born_at ps n) is changes.here_are
-    | inr other ↦ changes.others k other
-  ];
-}
+-- those of one object have changed to themselves: so they are the same
+pub same_changed : (ps ns : List AtObject) (o : ℕ) → Changes ps ns o (born_at ps o) → (k : ℕ) → born_at ns k ≡ born_at ps k
+same_changed ps ns o changes k =
+    elim (decide o k) as (λ _. born_at ns k ≡ born_at ps k) [
+      | inl is ↦ subst (λ (n : ℕ). born_at ns n ≡ born_at ps n) is changes.here_are
+      | inr other ↦ changes.others k other
+    ]
 
 -- ---- as the trace grows
 

@@ -1,15 +1,13 @@
 -- The processes of all objects, where those of one have changed.
-use Rattle.std.proofs.Common.{◌≡◌, ℕ, zero, suc, ◌<◌, ◌≤◌, List, [], ◌∷◌, ◌++◌, length, get_or, refl, sym, ap, ◌∙◌, subst, arith, inl, inr, length-append}
+use Rattle.std.proofs.Common.{◌≡◌, ℕ, zero, suc, ◌<◌, List, [], ◌∷◌, length, get_or, refl, sym, ap, ◌∙◌, subst, arith, inl, inr}
 use Rattle.std.specs.Prelude.{Some, slice_get, slice_set}
 use Rattle.std.proofs.lemmas.Bool.{cases_lt}
-use Rattle.std.proofs.lemmas.List.{length-set, get_or-set_same, get_or-set_other, get_or_append_left}
-use Rattle.std.proofs.lemmas.Option.{slice_get_past, slice_get_within, slice_get-get_or, get_or_from_slice_get}
-use Rattle.anti_app.specs.declared.app.App.{App}
+use Rattle.std.proofs.lemmas.List.{length-set, get_or-set_same, get_or-set_other}
+use Rattle.std.proofs.lemmas.Option.{slice_get_past, slice_get_within, slice_get-get_or}
 use Rattle.anti_proc.specs.declared.process.Process.{Process}
 use Rattle.anti_proc.specs.declared.run.Advance.{Advance}
 use Rattle.anti_trace.specs.declared.processes.AtObject.{AtObject}
-use Rattle.anti_trace.specs.inner.Living.{AreEnded, Becomes, Changes, HasEnded, HaveEnded, MakesRoom, TakesOver, born_at, born_in, ended_at, ended_in}
-use Rattle.anti_trace.proofs.Living.{decide}
+use Rattle.anti_trace.specs.inner.Living.{Becomes, Changes, MakesRoom, TakesOver, born_at, born_in}
 
 -- ---- one item of a list
 
@@ -45,9 +43,6 @@ at_object all o here is within = slice_get-get_or all o here within ∙ ap Some 
 pub born_here : (all : List AtObject) (o : ℕ) (here : AtObject) → here ≡ get_or all o here → o < length all → born_at all o ≡ here.born.items
 born_here all o here is within = ap born_in (at_object all o here is within)
 
-pub ended_here : (all : List AtObject) (o : ℕ) (here : AtObject) → here ≡ get_or all o here → o < length all → ended_at all o ≡ here.ended
-ended_here all o here is within = ap ended_in (at_object all o here is within)
-
 -- those that were looked up at an object
 pub born_found : (all given : List AtObject) (o : ℕ) (here : AtObject) → given ≡ all → here ≡ get_or given o here → o < length given → born_at all o ≡ here.born.items
 born_found all given o here same is within = ap (λ (xs : List AtObject). born_at xs o) (sym same) ∙ born_here given o here is within
@@ -63,27 +58,22 @@ process_here all o here is within i p at low =
     ∙ slice_get-get_or here.born.items i p (low_here all o here is within i low) ∙ ap Some (sym at)
 
 module _ (all : List AtObject) (o : ℕ) (here new : AtObject) (is : here ≡ get_or all o here) (within : o < length all) where
-  pub changes_set : new.ended ≡ here.ended → Changes all (slice_set all o new) o new.born.items
-  changes_set same = record {
+  pub changes_set : Changes all (slice_set all o new) o new.born.items
+  changes_set = record {
     count = length-set all o new;
     here_are = ap born_in (set_here all o new within);
     others = λ k other. ap born_in (set_other all o new k other);
-    ended = λ k. elim (decide o k) as (λ _. ended_at (slice_set all o new) k ≡ ended_at all k) [
-      | inl at ↦ subst (λ (n : ℕ). ended_at (slice_set all o new) n ≡ ended_at all n) at
-          (ap ended_in (set_here all o new within) ∙ same ∙ sym (ended_here all o here is within))
-      | inr other ↦ ap ended_in (set_other all o new k other)
-    ];
   }
 
   -- one process of it
   module _ (By : Process → Process → Type 0) (i : ℕ) (old then : Process) (at : old ≡ get_or here.born.items i old) (low : i < length here.born.items) where
-    pub becomes_set : new.ended ≡ here.ended → new.born.items ≡ slice_set here.born.items i then → By old then → Becomes By all (slice_set all o new) o i
-    becomes_set same items by = record {
+    pub becomes_set : new.born.items ≡ slice_set here.born.items i then → By old then → Becomes By all (slice_set all o new) o i
+    becomes_set items by = record {
       old = old;
       new = then;
       was = ap (λ (ps : List Process). slice_get ps i) (born_here all o here is within) ∙ slice_get-get_or here.born.items i old low ∙ ap Some (sym at);
       changes = subst (λ (ps : List Process). Changes all (slice_set all o new) o ps)
-          (items ∙ ap (λ (ps : List Process). slice_set ps i then) (sym (born_here all o here is within))) (changes_set same);
+          (items ∙ ap (λ (ps : List Process). slice_set ps i then) (sym (born_here all o here is within))) changes_set;
       by = by;
     }
 
@@ -94,7 +84,6 @@ changes_then ps ms ns o here one two = record {
   count = two.count ∙ one.count;
   here_are = two.here_are;
   others = λ k other. two.others k other ∙ one.others k other;
-  ended = λ k. two.ended k ∙ one.ended k;
 }
 
 -- room was made, and then it took over what a reply made of it
@@ -112,7 +101,6 @@ room_then ps ms ns o i stamp a one two =
         count = two.changes.count ∙ one.changes.count;
         here_are = two.changes.here_are ∙ ap (λ (xs : List Process). slice_set xs i two.new) one.changes.here_are ∙ set_again (born_at ps o) i one.new two.new;
         others = λ k other. two.changes.others k other ∙ one.changes.others k other;
-        ended = λ k. two.changes.ended k ∙ one.changes.ended k;
       };
       by = taken two.old same two.by;
     }
@@ -128,76 +116,3 @@ room_then ps ms ns o i stamp a one two =
           role = by.role ∙ one.by.role;
           full = λ full. by.full (full ∙ sym one.by.full) ∙ one.by.full;
         }
-
--- ---- those that have ended
-
-module _ (app : App) (ps ns : List AtObject) (o : ℕ) (ended : AreEnded app ps) where
-  ended_by : ((k : ℕ) → ended_at ns k ≡ ended_at ps k) → ((k : ℕ) → length (born_at ps k) ≤ length (born_at ns k))
-      → ((k : ℕ) → HaveEnded app (born_at ns k) (ended_at ps k)) → AreEnded app ns
-  ended_by marks longer have = record {
-    within = λ k. (let mark = marks k in let more = longer k in let few = ended.within k in omega arith);
-    ended = λ k. subst (λ (n : ℕ). HaveEnded app (born_at ns k) n) (sym (marks k)) (have k);
-  }
-
-  -- a process more behind them
-  pub ended_pushed : (p : Process) → Changes ps ns o (born_at ps o ++ p ∷ []) → AreEnded app ns
-  ended_pushed p changes =
-      ended_by changes.ended
-      (λ k. elim (decide o k) as (λ _. length (born_at ps k) ≤ length (born_at ns k)) [
-        | inl at ↦ subst (λ (n : ℕ). length (born_at ps n) ≤ length (born_at ns n)) at
-            (let count : length (born_at ns o) ≡ length (born_at ps o ++ p ∷ []) = ap length changes.here_are in omega (arith, length-append (born_at ps o) (p ∷ [])))
-        | inr other ↦ (let count : length (born_at ns k) ≡ length (born_at ps k) = ap length (changes.others k other) in omega arith)
-      ])
-      (λ k. elim (decide o k) as (λ _. HaveEnded app (born_at ns k) (ended_at ps k)) [
-        | inl at ↦ subst (λ (n : ℕ). HaveEnded app (born_at ns n) (ended_at ps n)) at
-            (subst (λ (xs : List Process). HaveEnded app xs (ended_at ps o)) (sym changes.here_are) here)
-        | inr other ↦ subst (λ (xs : List Process). HaveEnded app xs (ended_at ps k)) (sym (changes.others k other)) (ended.ended k)
-      ])
-    where
-      here : HaveEnded app (born_at ps o ++ p ∷ []) (ended_at ps o)
-      here i q low is =
-          let few = ended.within o in
-          let inside : i < length (born_at ps o) = omega arith in
-          let same : get_or (born_at ps o) i q ≡ q = sym (get_or_append_left (born_at ps o) (p ∷ []) q i inside) ∙ get_or_from_slice_get (born_at ps o ++ p ∷ []) i q q is in
-          ended.ended o i q low (slice_get-get_or (born_at ps o) i q inside ∙ ap Some same)
-
-  -- a process in place of another
-  pub ended_set : (i : ℕ) (old new : Process) → slice_get (born_at ps o) i ≡ Some old → Changes ps ns o (slice_set (born_at ps o) i new)
-      → (HasEnded app old → HasEnded app new) → AreEnded app ns
-  ended_set i old new was changes stays =
-      ended_by changes.ended
-      (λ k. elim (decide o k) as (λ _. length (born_at ps k) ≤ length (born_at ns k)) [
-        | inl at ↦ subst (λ (n : ℕ). length (born_at ps n) ≤ length (born_at ns n)) at
-            (let count : length (born_at ns o) ≡ length (slice_set (born_at ps o) i new) = ap length changes.here_are in
-            let same : length (slice_set (born_at ps o) i new) ≡ length (born_at ps o) = length-set (born_at ps o) i new in omega arith)
-        | inr other ↦ (let count : length (born_at ns k) ≡ length (born_at ps k) = ap length (changes.others k other) in omega arith)
-      ])
-      (λ k. elim (decide o k) as (λ _. HaveEnded app (born_at ns k) (ended_at ps k)) [
-        | inl at ↦ subst (λ (n : ℕ). HaveEnded app (born_at ns n) (ended_at ps n)) at
-            (subst (λ (xs : List Process). HaveEnded app xs (ended_at ps o)) (sym changes.here_are) here)
-        | inr other ↦ subst (λ (xs : List Process). HaveEnded app xs (ended_at ps k)) (sym (changes.others k other)) (ended.ended k)
-      ])
-    where
-      here : HaveEnded app (slice_set (born_at ps o) i new) (ended_at ps o)
-      here k q low is =
-          elim (decide i k) as (λ _. HasEnded app q) [
-            | inl at ↦
-                let there : slice_get (slice_set (born_at ps o) i new) i ≡ Some q = subst (λ (n : ℕ). slice_get (slice_set (born_at ps o) i new) n ≡ Some q) (sym at) is in
-                let inside : i < length (born_at ps o) = slice_get_within (born_at ps o) i old was in
-                let same : new ≡ q = (let both : Some new ≡ Some q = sym (set_here (born_at ps o) i new inside) ∙ there in cc) in
-                subst (HasEnded app) same (stays (ended.ended o i old (omega arith) was))
-            | inr other ↦ ended.ended o k q low (sym (set_other (born_at ps o) i new k other) ∙ is)
-          ]
-
--- with the same marks
-pub ended_kept : (app : App) (ps ns : List AtObject) (o : ℕ) → Changes ps ns o (born_at ps o) → AreEnded app ps → AreEnded app ns
-ended_kept app ps ns o changes ended = record {
-  within = λ k. subst (λ (n : ℕ). n ≤ length (born_at ns k)) (sym (changes.ended k)) (subst (λ (xs : List Process). ended_at ps k ≤ length xs) (sym (same k)) (ended.within k));
-  ended = λ k. subst (λ (n : ℕ). HaveEnded app (born_at ns k) n) (sym (changes.ended k)) (subst (λ (xs : List Process). HaveEnded app xs (ended_at ps k)) (sym (same k)) (ended.ended k));
-}
-  where
-    same : (k : ℕ) → born_at ns k ≡ born_at ps k
-    same k = elim (decide o k) as (λ _. born_at ns k ≡ born_at ps k) [
-      | inl at ↦ subst (λ (n : ℕ). born_at ns n ≡ born_at ps n) at changes.here_are
-      | inr other ↦ changes.others k other
-    ]

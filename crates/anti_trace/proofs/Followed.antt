@@ -23,17 +23,17 @@ use Rattle.anti_proc.specs.Births.{birth_at}
 use Rattle.anti_proc.specs.Known.{IsEntryOf, IsReplyAt}
 use Rattle.anti_proc.specs.Meaning.{process_after, tree_of}
 use Rattle.anti_proc.specs.Tasks.{task_of}
-use Rattle.anti_proc.specs.Trees.{Tree, Want, Make, Over, Asks, Ends, ask_of, branch, want_of}
+use Rattle.anti_proc.specs.Trees.{Want, Make, Over, branch, want_of}
 use Rattle.anti_proc.specs.inner.Running.{IsAdvanceOf, IsRunOf}
 use Rattle.anti_proc.specs.inner.Standing as standing
 use Rattle.anti_proc.specs.inner.Standing.{birth_of, full_by, full_of, process_of}
 use Rattle.anti_trace.specs.Traces.{GoesOn, entries_by, entries_on, is_by}
 use Rattle.anti_trace.specs.Legal.{IsLegalTrace, IsLife, IsOfActor, bears}
 use Rattle.anti_trace.specs.declared.processes.AtObject.{AtObject}
-use Rattle.anti_trace.specs.inner.Living.{AreEnded, AreProcessesOf, Becomes, Changes, Gets, HasEnded, IsEnded, IsNewOf, IsNextBy, Lives, LivesOn, MakesRoom, SameBorn, TakesOver, WasFull, born_at, born_in, is_named}
+use Rattle.anti_trace.specs.inner.Living.{AreProcessesOf, Becomes, Changes, Gets, IsEnded, IsNewOf, IsNextBy, Lives, LivesOn, MakesRoom, TakesOver, WasFull, born_at, born_in, is_named}
 use Rattle.anti_trace.proofs.AllLive.{live_born, live_here, live_kept, live_set, live_went, live_with, no_more}
 use Rattle.anti_trace.proofs.AreBorn.{born_kept, born_more, births_set, is_birth_itself, no_birth, same_changed}
-use Rattle.anti_trace.proofs.Changed.{ended_kept, ended_pushed, ended_set, room_then}
+use Rattle.anti_trace.proofs.Changed.{room_then}
 use Rattle.anti_trace.proofs.FullStays.{never_fits}
 use Rattle.anti_trace.proofs.GonePast.{entries_on_next, entries_on_past}
 use Rattle.anti_trace.proofs.Living.{decide}
@@ -70,18 +70,15 @@ module _ (app : App) (before : List Entry) (e : Entry) (later : List Entry) (leg
 
 -- ---- the processes, where the trace stays
 
--- the same ones, with room for more or with other marks
-pub kept_are : (app : App) (ps ns : List AtObject) (trace : List Entry) → AreProcessesOf app ps trace → SameBorn ps ns → AreEnded app ns → AreProcessesOf app ns trace
-kept_are app ps ns trace are same ended = record {
-  count = same.count ∙ are.count;
-  born = λ o. ap (λ (xs : List Process). map birth_of xs) (same.same o) ∙ are.born o;
-  ended = ended;
-  live = λ b. subst (λ (xs : List Process). Lives app trace xs (position (is_named b) xs) (entries_by (Acting b) trace)) (sym (same.same b.object)) (are.live b);
-}
-
 -- room was made at an object
 pub reserved_are : (app : App) (ps ns : List AtObject) (trace : List Entry) (o : ℕ) → AreProcessesOf app ps trace → Changes ps ns o (born_at ps o) → AreProcessesOf app ns trace
-reserved_are app ps ns trace o are changes = kept_are app ps ns trace are (same_changed ps ns o changes) (ended_kept app ps ns o changes are.ended)
+reserved_are app ps ns trace o are changes =
+    let same : (k : ℕ) → born_at ns k ≡ born_at ps k = same_changed ps ns o changes in
+    record {
+      count = changes.count ∙ are.count;
+      born = λ k. ap (λ (xs : List Process). map birth_of xs) (same k) ∙ are.born k;
+      live = λ b. subst (λ (xs : List Process). Lives app trace xs (position (is_named b) xs) (entries_by (Acting b) trace)) (sym (same b.object)) (are.live b);
+    }
 
 -- one that was found
 module _ (app : App) (ps : List AtObject) (trace : List Entry) (are : AreProcessesOf app ps trace) (b : Birth) (i : ℕ)
@@ -103,7 +100,6 @@ module _ (app : App) (ps : List AtObject) (trace : List Entry) (are : AreProcess
       record {
         count = becomes.changes.count ∙ are.count;
         born = λ o. births_set ps ns b i then becomes.changes named o ∙ are.born o;
-        ended = ended_set app ps ns b.object are.ended i becomes.old then becomes.was becomes.changes (λ over. ap ask_of (becomes.by.tree app) ∙ over);
         live = live_with app trace trace (no_more trace) ps ns (slice_set here i then) b are.live becomes.changes (λ c off. refl)
             (live_set app trace trace (no_more trace) here b (live_here app ps trace are.live b.object) (λ c off. refl) then i found named
             (record {
@@ -126,7 +122,6 @@ module _ (app : App) (ps : List AtObject) (trace after : List Entry) (are : AreP
   carried_are none = record {
     count = are.count;
     born = born_kept app ps trace after e are.born gets.grows ps (no_birth e (none (birth_at e))) (λ o. refl);
-    ended = are.ended;
     live = live_kept app ps trace after are.live e (goes_on app trace after e gets) gets.own gets.others none;
   }
 
@@ -136,18 +131,17 @@ module _ (app : App) (ps : List AtObject) (trace after : List Entry) (are : AreP
   born_are ns p at unborn new changes = record {
     count = changes.count ∙ are.count;
     born = born_more app ps trace after e are.born gets.grows ns p (is_birth_itself e at) new.birth changes;
-    ended = ended_pushed app ps ns e.object are.ended p changes;
     live = live_born app ps trace after are.live e (goes_on app trace after e gets) gets.own gets.others (birth_at e) at p new.birth unborn
         new.tree new.clock new.full new.run new.role ns changes;
   }
 
-  -- the reply to a process, which asks for the call
+  -- the reply to a process
   module _ (b : Birth) (at : e.actor ≡ Acting b) (i : ℕ) (found : position (is_named b) (born_at ps b.object) ≡ Some i)
       (other : b ≡ birth_at e → ⊥) (last : All (λ d. d.stamp < e.stamp) (entries_by (Acting b) trace)) where
     pub went_are : (ns : List AtObject) (a : Advance) (becomes : Becomes (TakesOver e.stamp a) ps ns b.object i) → full_of becomes.old ≡ None
         → standing.advanced app becomes.old a ≡ branch (process_of app becomes.old) e.reply → IsAdvanceOf app becomes.old a → full_by a ≡ full_of becomes.old
-        → (HasEnded app becomes.old → ⊥) → AreProcessesOf app ns after
-    went_are ns a becomes going goes spans full asks =
+        → AreProcessesOf app ns after
+    went_are ns a becomes going goes spans full =
         let here : List Process = born_at ps b.object in
         let then : Process = becomes.new in
         let by : TakesOver e.stamp a becomes.old then = becomes.by in
@@ -158,7 +152,6 @@ module _ (app : App) (ps : List AtObject) (trace after : List Entry) (are : AreP
           born = born_kept app ps trace after e are.born gets.grows ns
               (no_birth e (λ is. other (let both : Acting b ≡ Acting (birth_at e) = sym at ∙ is in cc)))
               (births_set ps ns b i then becomes.changes named);
-          ended = ended_set app ps ns b.object are.ended i becomes.old then becomes.was becomes.changes (λ over. absurd (asks over));
           live = live_went app ps trace after are.live e (goes_on app trace after e gets) gets.own gets.others b at then i found named
               (λ d. by.tree app ∙ goes ∙ ap (λ (x : Process). branch (process_of app x) e.reply) (sym (at_old d))) by.clock (by.full full ∙ going)
               (λ d. ap (λ (x : Process). full_of x) (at_old d) ∙ going) last (by.run app spans)
@@ -166,11 +159,6 @@ module _ (app : App) (ps : List AtObject) (trace after : List Entry) (are : AreP
         }
 
 -- ---- what a legal trace says of its next entry
-
--- one that asks for a call has not ended
-pub still_asks : (tree : Tree) (object span : ℕ) (call : Call) → want_of tree ≡ Make object span call → ask_of tree ≡ None → ⊥
-still_asks (Asks ask go) object span call is none = absurd (cc)
-still_asks (Ends end) object span call is none = absurd (cc)
 
 module _ (app : App) (sound : IsTrue (is_sound app)) (before : List Entry) (e : Entry) (later : List Entry) (legal : IsLegalTrace app (before ++ e ∷ later)) where
   abbrev whole : List Entry
@@ -235,9 +223,6 @@ module _ (app : App) (sound : IsTrue (is_sound app)) (before : List Entry) (e : 
 
       pub next_going : full_of p ≡ None
       next_going = not_full (want_of (process_after app (entries_by (Acting b) before))) (full_of p) left_wants on.full
-
-      pub next_asks : HasEnded app p → ⊥
-      next_asks over = still_asks (process_of app p) e.object e.span e.call (ap want_of (on.tree next_going) ∙ left_wants) over
 
       -- and this is not its birth
       pub next_other : b ≡ birth_at e → ⊥
@@ -312,7 +297,6 @@ module _ (app : App) (sound : IsTrue (is_sound app)) (ps : List AtObject) (e : E
           (subst (λ (x : Process). standing.advanced app x a ≡ branch (process_of app x) e.reply) old (goes going))
           (subst (λ (x : Process). IsAdvanceOf app x a) old spans)
           (subst (λ (x : Process). full_by a ≡ full_of x) old full)
-          (subst (λ (x : Process). HasEnded app x → ⊥) old (next_asks app sound before e later legal b at p on))
 
   -- for whatever stands before it
   module _ (n : IsNextBy app ps e b) where

@@ -1,7 +1,6 @@
-ghost use Rattle.std.specs.Prelude.{ℕ, ◌≡◌, ◌<◌, ◌≤◌, ◌++◌, length, position, slice_get, [], ◌∷◌, Some, IfOk, OnOk};
-ghost use Rattle.anti_app.specs.declared.app.App.{App};
+ghost use Rattle.std.specs.Prelude.{ℕ, ◌≡◌, ◌<◌, ◌++◌, length, position, slice_get, [], ◌∷◌, Some, IfOk, OnOk};
 ghost use Rattle.anti_proc.specs.inner.Standing.{HasRoom};
-ghost use Rattle.anti_trace.specs.inner.Living.{AreEnded, AreInOrder, AreOfSome, Becomes, Changes, HasSpare, HaveEnded, IsAt, IsCountBefore, MakesRoom, MayMeetFull, MetFull, NoneBorn, SameBorn, TakesOver, born_at, ended_at, is_named, lists};
+ghost use Rattle.anti_trace.specs.inner.Living.{AreInOrder, AreOfSome, Becomes, Changes, HasSpare, IsAt, IsCountBefore, MakesRoom, MayMeetFull, MetFull, NoneBorn, TakesOver, born_at, is_named, lists};
 
 use anti_ids::NoMemory;
 use anti_kind::Birth;
@@ -12,8 +11,6 @@ use std::alloc::Global;
 #[derive(Drop)]
 pub struct AtObject {
     pub(crate) born: Vec<Process>,
-    // How many of the first of them are known to have ended: these are not asked again.
-    pub(crate) ended: usize,
 }
 
 /// The processes of a trace: for each object those that were born at it. Who goes along a trace has them go past each entry, and sees
@@ -26,27 +23,11 @@ pub struct Processes {
 impl AtObject {
     // No process.
     fn new(alloc: Global) -> AtObject
-        ensures born { result.born.items ≡ [] }
-        ensures ended { result.ended ≡ 0 }
+        ensures { result.born.items ≡ [] }
     {
         AtObject {
             born: Vec::new(alloc),
-            ended: 0,
         }
-    }
-
-    // How many of the first have ended, by those that are known to have and all that follow them up to one that has not.
-    fn count_ended(&self) -> usize
-        ensures within { result ≤ length self.now.born.items }
-        ensures ended { (app : App) → HaveEnded app self.now.born.items self.now.ended
-            → HaveEnded app self.now.born.items result }
-    {
-        for at in self.ended..self.born.len() {
-            if self.born[at].next().is_some() {
-                return at;
-            }
-        }
-        self.born.len()
     }
 }
 
@@ -99,27 +80,12 @@ impl Processes {
         Ok(Processes { at })
     }
 
-    /// For how many objects there are lists. It takes no memory.
-    pub fn object_count(&self) -> usize
-        ensures { result ≡ length (lists self.now) }
-    {
-        self.at.len()
-    }
-
     /// How many processes were born at an object. It takes no memory.
     pub fn born_count(&self, object: u32) -> usize
         requires { object < length (lists self.now) }
         ensures { result ≡ length (born_at (lists self.now) object) }
     {
         self.at[object as usize].born.len()
-    }
-
-    /// How many of the first of them are known to have ended. It takes no memory.
-    pub fn ended_count(&self, object: u32) -> usize
-        requires { object < length (lists self.now) }
-        ensures { result ≡ ended_at (lists self.now) object }
-    {
-        self.at[object as usize].ended
     }
 
     /// The process at a place among those that were born at an object. It takes no memory.
@@ -143,17 +109,6 @@ impl Processes {
         } else {
             None
         }
-    }
-
-    /// Passes over the processes of an object that have ended, so that they are not asked again. It takes no memory.
-    pub fn pass_ended(&mut self, object: u32)
-        requires { object < length (lists self.old) }
-        ensures same { SameBorn (lists self.old) (lists self.new) }
-        ensures ended { (app : App) → AreEnded app (lists self.old) → AreEnded app (lists self.new) }
-    {
-        let at = object as usize;
-        let ended = self.at[at].count_ended();
-        self.at[at].ended = ended;
     }
 
     /// Makes room for one process more at an object.

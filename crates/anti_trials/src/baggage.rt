@@ -1,6 +1,6 @@
 use crate::made::versions;
-use anti_baggage::{BaggageFault, decode, encode, escape, texts_state_lineages};
-use anti_ids::{Bytes, List, Name};
+use anti_baggage::{Baggage, BaggageFault, decode, encode, escape, texts_state_lineages};
+use anti_ids::{Bytes, Copies, List, Name};
 use std::alloc::Global;
 use std::test::Fail;
 
@@ -88,6 +88,49 @@ fn the_faults_have_an_order(rt: HostRuntime) -> Result<(), Fail> {
             "at {behind:?}"
         );
     }
+    Ok(())
+}
+
+// The baggage of the first versions of a key of the first store, and of copies of it: whether each has the text of the lineage, and states
+// it; and whether over the names of the stores turned about it states the same versions of the second store.
+fn is_kept(alloc: Global, count: u64) -> Result<bool, Fail> {
+    let stores = stores().ok_or("no names")?;
+    let turned = [stores[1], stores[0]];
+    let lineage = versions(alloc, 0, b"a", count)?;
+    let text = encode(alloc, &stores, &lineage)?;
+    let baggage = Baggage::of(alloc, &stores, &lineage)?.copy(alloc)?;
+    let again = baggage.again(alloc, &stores, &lineage)?;
+    let read = again.lineage(alloc, &stores)?;
+    let other = again.lineage(alloc, &turned)?;
+    Ok(
+        baggage.bytes() == text.bytes()
+            && again.bytes() == text.bytes()
+            && encode(alloc, &stores, &read)?.bytes() == text.bytes()
+            && encode(alloc, &turned, &other)?.bytes() == text.bytes()
+            && matches!(other.last(), Some(id) if id.store == 1),
+    )
+}
+
+#[test]
+fn a_text_serves_again(rt: HostRuntime) -> Result<(), Fail> {
+    assert_eq!(rt; is_kept(rt.alloc(), 7)?, true);
+    assert_eq!(rt; is_kept(rt.alloc(), 8)?, true);
+    assert_eq!(rt; is_kept(rt.alloc(), 256)?, true);
+    Ok(())
+}
+
+// Whether the baggage of some versions makes that of others.
+fn makes_another(alloc: Global) -> Result<bool, Fail> {
+    let stores = stores().ok_or("no names")?;
+    let baggage = Baggage::of(alloc, &stores, &versions(alloc, 0, b"a", 9)?)?;
+    let others = versions(alloc, 1, b"a", 9)?;
+    let made = baggage.again(alloc, &stores, &others)?;
+    Ok(made.bytes() == encode(alloc, &stores, &others)?.bytes())
+}
+
+#[test]
+fn another_lineage_has_another_text(rt: HostRuntime) -> Result<(), Fail> {
+    assert_eq!(rt; makes_another(rt.alloc())?, true);
     Ok(())
 }
 

@@ -2,6 +2,7 @@
 ghost use Rattle.std.specs.Prelude.{◌≡◌, true, IfOk};
 ghost use Rattle.anti_ids.specs.Names.{is_plain};
 
+use anti_baggage::Baggage;
 use anti_ids::{Bytes, Lineage, Name, Value, WriteId};
 use anti_kind::{Message, MessageKind, Sub};
 use std::alloc::Global;
@@ -73,7 +74,7 @@ pub fn message(
         depth: 0,
         handler,
         value,
-        baggage: Bytes::new(alloc),
+        baggage: Baggage::from_text(Bytes::new(alloc)),
     })
 }
 

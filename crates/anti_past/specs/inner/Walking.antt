@@ -7,9 +7,12 @@ use Rattle.anti_proc.specs.Trees.{Ask}
 use Rattle.anti_trace.specs.Legal.{IsLegalTrace}
 use Rattle.anti_trace.specs.declared.processes.AtObject.{AtObject}
 use Rattle.anti_trace.specs.inner.Living.{AreProcessesOf}
-use Rattle.anti_causal.specs.Carried.{ask_at}
-use Rattle.anti_past.specs.Pasts.{IsPastOf}
+use Rattle.anti_causal.specs.Carried.{IsLossless, ask_at}
+use Rattle.anti_past.specs.Losses.{LosesFirst}
+use Rattle.anti_past.specs.Pasts.{ArePastsOf, IsPastOf}
 use Rattle.anti_past.specs.declared.before_reads.Past.{Past}
+use Rattle.anti_past.specs.declared.walking.Course.{Course}
+use Rattle.anti_past.specs.declared.walking.Course.TheVariants.{Loss, NoLoss}
 
 -- The entry at place j of a legal trace is what its process asks for, and the processes stand for what comes before it.
 pub record IsAskedNext (app : App) (trace : List Entry) (j : ℕ) (processes : List AtObject) (e : Entry) : Type 0 where
@@ -24,3 +27,8 @@ pub record IsAskedNext (app : App) (trace : List Entry) (j : ℕ) (processes : L
 pub record ArePastsBefore (app : App) (trace : List Entry) (k : ℕ) (pasts : List (Option Past)) : Type 0 where
   pub count : length pasts ≡ k
   pub each : (j : ℕ) (e : Entry) (past : Option Past) → slice_get trace j ≡ Some e → slice_get pasts j ≡ Some past → IsPastOf app trace j e past
+
+-- the first entry that loses an id, or that there is none and the pasts of the reads
+abbrev pub IsCourseOf : App → List Entry → Course → Type 0
+IsCourseOf app trace (Loss mark) = LosesFirst app trace mark
+IsCourseOf app trace (NoLoss pasts) = IsLossless app trace × ArePastsOf app trace pasts.items

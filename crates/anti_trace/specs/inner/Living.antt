@@ -72,14 +72,6 @@ born_in (Some here) = here.born.items
 abbrev pub born_at : List AtObject → ℕ → List Process
 born_at all o = born_in (slice_get all o)
 
--- how many of the first of them are known to have ended
-abbrev pub ended_in : Option AtObject → ℕ
-ended_in None = 0
-ended_in (Some here) = here.ended
-
-abbrev pub ended_at : List AtObject → ℕ → ℕ
-ended_at all o = ended_in (slice_get all o)
-
 abbrev pub AllLive : App → List AtObject → List Entry → Type 0
 AllLive app all trace =
     (b : Birth)
@@ -92,15 +84,6 @@ AreBorn all trace = (o : ℕ) → map standing.birth_of (born_at all o) ≡ map 
 -- the process makes no further call
 abbrev pub HasEnded : App → Process → Type 0
 HasEnded app p = ask_of (standing.process_of app p) ≡ None
-
--- so many of the first processes have ended
-abbrev pub HaveEnded : App → List Process → ℕ → Type 0
-HaveEnded app ps n = (i : ℕ) (p : Process) → i < n → slice_get ps i ≡ Some p → HasEnded app p
-
--- at each object those have ended that are counted so
-pub record AreEnded (app : App) (all : List AtObject) : Type 0 where
-  pub within : (o : ℕ) → ended_at all o ≤ length (born_at all o)
-  pub ended : (o : ℕ) → HaveEnded app (born_at all o) (ended_at all o)
 
 -- there is room for one process more at an object
 abbrev pub has_spare : Option AtObject → Type 0
@@ -115,12 +98,6 @@ pub record Changes (before after : List AtObject) (o : ℕ) (here : List Process
   pub count : length after ≡ length before
   pub here_are : born_at after o ≡ here
   pub others : (k : ℕ) → (o ≡ k → ⊥) → born_at after k ≡ born_at before k
-  pub ended : (k : ℕ) → ended_at after k ≡ ended_at before k
-
--- the processes are the same, in lists that may have more room
-pub record SameBorn (before after : List AtObject) : Type 0 where
-  pub count : length after ≡ length before
-  pub same : (o : ℕ) → born_at after o ≡ born_at before o
 
 -- one process of an object has become another, by a change of this kind
 pub record Becomes (By : Process → Process → Type 0) (before after : List AtObject) (o i : ℕ) : Type 0 where
@@ -171,7 +148,6 @@ IsAt Is all o i = (p : Process) → slice_get (born_at all o) i ≡ Some p → I
 pub record NoneBorn (count : ℕ) (all : List AtObject) : Type 0 where
   pub many : length all ≡ count
   pub none : (o : ℕ) → born_at all o ≡ []
-  pub not_ended : (o : ℕ) → ended_at all o ≡ 0
 
 -- the trace behind an entry that was put into it: its object's history gets it at the end, the others stay
 pub record Grows (app : App) (before after : List Entry) (e : Entry) : Type 0 where
@@ -196,12 +172,10 @@ pub record IsNewOf (app : App) (e : Entry) (p : Process) : Type 0 where
 
 -- ---- all of them
 
--- The processes stand for the trace: those of each object are named by the births of its history, the marked ones have ended, and each
--- stands for its entries.
+-- The processes stand for the trace: those of each object are named by the births of its history, and each stands for its entries.
 pub record AreProcessesOf (app : App) (all : List AtObject) (trace : List Entry) : Type 0 where
   pub count : length all ≡ object_count app
   pub born : AreBorn all trace
-  pub ended : AreEnded app all
   pub live : AllLive app all trace
 
 -- of some legal trace of some application

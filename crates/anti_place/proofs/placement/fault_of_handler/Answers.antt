@@ -7,5 +7,5 @@ use Rattle.anti_place.proofs.placement.fault_of_handler.Goals as goal
 pub returns : goal.returns
 returns c =
     c.first_fault.ensures
-    ∙ ap (λ (statements : List Statement). first_fault c.is_called.result c.is_named.result (block_from (map step_of statements))) c.as_slice.ensures
-    ∙ ap₂ (λ (called named : Bool). first_fault called named (block_of c.args.body.now)) c.is_called.ensures c.is_named.ensures
+    ∙ ap (λ (statements : List Statement). first_fault c.is_called-called.result c.is_named-named.result (block_from (map step_of statements))) c.as_slice.ensures
+    ∙ ap₂ (λ (called named : Bool). first_fault called named (block_of c.args.body.now)) c.is_called-called.ensures c.is_named-named.ensures

@@ -1,18 +1,30 @@
-use Rattle.std.proofs.Common.{◌≡◌, ◌++◌, codes, length, decimal, rules, false, map, sym, ap, ◌∙◌}
+use Rattle.std.proofs.Common.{◌≡◌, ℕ, List, ◌++◌, codes, length, decimal, rules, false, map, sym, ap, ◌∙◌}
+use Rattle.serde_json.specs.Data.{Data}
 use Rattle.serde_json.specs.View.{items_of}
 use Rattle.serde_json.specs.Written.{items_text}
 use Rattle.anti_ids.specs.List.{plain}
+use Rattle.anti_app.specs.declared.app.App.{App}
 use Rattle.anti_text.specs.Json.{entry_data, process_data, span_data, wait_data}
 use Rattle.anti_text.proofs.Shapes.{record_added}
 use Rattle.anti_text.proofs.printed_json.print_json.Goals as goal
+
+-- a list that was added, by what the printer's application and the items are
+added : {T : Type 0} (says : App → T → Data) (new out before : List ℕ) (a b : App) (xs ys : List T) → a ≡ b → xs ≡ ys
+    → new ≡ out ++ before ++ items_text false (items_of (map (says a) xs)) → new ≡ out ++ before ++ items_text false (items_of (map (says b) ys))
+added says new out before a b xs ys app items h = rw (← app, ← items) h
 
 pub returns : goal.returns
 returns c =
     let app = c.args.app.now in
     let t = c.args.report.now in
+    let same : c.in_ok-printer.printer.app.now ≡ app = c.in_ok-printer.ensures in
+    let told_entries : c.as_slice-entries.result.now ≡ t.entries = c.as_slice-entries.ensures.entries ∙ ap (λ told. told.entries) c.report.view_is in
+    let told_ends : c.as_slice.result.now ≡ t.ends = c.as_slice.ensures ∙ ap (λ told. told.ends) c.report.view_is in
     let number : c.add_number.new.out ≡ codes "{\"end\":" ++ decimal (length t.entries) = search rules in
-    let entries : c.add_list.new.out ≡ c.add_number.new.out ++ codes ",\"entries\":[" ++ items_text false (items_of (map (entry_data app) t.entries)) = search rules in
-    let processes : c.add_list-2.new.out ≡ c.add_list.new.out ++ codes ",\"processes\":[" ++ items_text false (items_of (map (process_data app) t.ends)) = search rules in
+    let entries : c.add_list.new.out ≡ c.add_number.new.out ++ codes ",\"entries\":[" ++ items_text false (items_of (map (entry_data app) t.entries)) =
+    added entry_data c.add_list.new.out c.add_number.new.out (codes ",\"entries\":[") c.in_ok-printer.printer.app.now app c.as_slice-entries.result.now t.entries same told_entries c.in_ok-add_list.ensures in
+    let processes : c.add_list-2.new.out ≡ c.add_list.new.out ++ codes ",\"processes\":[" ++ items_text false (items_of (map (process_data app) t.ends)) =
+    added process_data c.add_list-2.new.out c.add_list.new.out (codes ",\"processes\":[") c.in_ok-printer.printer.app.now app c.as_slice.result.now t.ends same told_ends c.in_ok-add_list-2.ensures in
     let one : c.put.new.self ≡ c.add_list-2.new.out ++ codes ",\"record\":1" = c.in_ok-put.ensures in
     let spans : c.add_list-3.new.out ≡ c.put.new.self ++ codes ",\"spans\":[" ++ items_text false (items_of (map (span_data app) t.spans)) = search rules in
     let waits : c.add_list-4.new.out ≡ c.add_list-3.new.out ++ codes ",\"waits\":[" ++ items_text false (items_of (map (wait_data app) t.waits)) = search rules in

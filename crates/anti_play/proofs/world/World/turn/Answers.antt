@@ -1,105 +1,51 @@
-use Rattle.std.proofs.Common.{◌≡◌, List, Bool, Ok, Option, None, ◌++◌, true, false, sym, ap, ◌∙◌}
-use Rattle.std.specs.Option.{option_or}
-use Rattle.anti_kind.specs.declared.entry.Entry.{Entry}
-use Rattle.anti_app.specs.declared.app.App.{App}
-use Rattle.anti_app.specs.declared.app.Choice.{Choice}
-use Rattle.anti_play.specs.declared.world.World.{World}
-use Rattle.anti_play.specs.Schedule.{chosen, first_made, first_of, goes, pulls, ships, takes}
-use Rattle.anti_play.specs.inner.Standing.{Chose, WorldStands}
-use Rattle.anti_play.proofs.FirstOf.{first_of-append}
-use Rattle.anti_play.proofs.Tried.{came_as, chose_of, chose_false, or_first, or_second}
+use Rattle.std.proofs.Common.{true, false}
+use Rattle.anti_play.specs.Schedule.{first_made}
+use Rattle.anti_play.specs.inner.Attending.{entry_by_offer}
+use Rattle.anti_play.proofs.Attempting.{turned_lost}
+use Rattle.anti_play.proofs.Tried.{came_as}
+use Rattle.anti_play.proofs.Turning.{attends_first, attends_still, is_attended, none_then, turned_first, turned_none}
 use Rattle.anti_play.proofs.world.World.turn.Goals as goal
 
--- the first entry of some choices
-abbrev first : App → List Entry → List Choice → Option Entry
-first app trace choices = first_of (chosen app trace) choices
+pub loop-offer-init : goal.loop-offer-init
+loop-offer-init c = λ trace s a. record { stands = s; attends = a }
 
--- first those of the processes, then the takes, then the pulls, then the shipments
-abbrev gone : App → List Entry → Option Entry
-gone app trace = first app trace (goes app trace)
+pub attempt-requires-clause-attended : goal.attempt-requires-clause-attended
+attempt-requires-clause-attended c =
+    let r = c.requires.attended in
+    is_attended c.args.app.now c.loop-offer.self c.loop-offer.agenda r.trace (c.loop-offer.invariant r.trace r.stands r.attends)
 
-abbrev taken : App → List Entry → Option Entry
-taken app trace = first app trace (takes app)
+pub returns-in_err-attempt-clause-chose : goal.returns-in_err-attempt-clause-chose
+returns-in_err-attempt-clause-chose c = λ trace s a.
+    let still = c.loop-offer.invariant trace s a in
+    turned_lost c.args.app.now trace (first_made c.args.app.now trace) _ c.attempt.new.self c.from_residual.ensures.0 (c.in_err-attempt.ensures.chose trace still.stands still.attends)
 
-abbrev pulled : App → List Entry → Option Entry
-pulled app trace = first app trace (pulls app)
-
-abbrev shipped : App → List Entry → Option Entry
-shipped app trace = first app trace (ships app trace)
-
-abbrev behind_takes : App → List Entry → Option Entry
-behind_takes app trace = option_or (pulled app trace) (shipped app trace)
-
-abbrev behind_goes : App → List Entry → Option Entry
-behind_goes app trace = option_or (taken app trace) (behind_takes app trace)
-
-in_turn : (app : App) (trace : List Entry) → option_or (gone app trace) (behind_goes app trace) ≡ first_made app trace
-in_turn app trace =
-    ap (λ (later : Option Entry). option_or (gone app trace) (option_or (taken app trace) later)) (sym (first_of-append (chosen app trace) (pulls app) (ships app trace)))
-    ∙ ap (option_or (gone app trace)) (sym (first_of-append (chosen app trace) (takes app) (pulls app ++ ships app trace)))
-    ∙ sym (first_of-append (chosen app trace) (goes app trace) (takes app ++ (pulls app ++ ships app trace)))
-
--- where some choices made none, the world stands for the same trace
-passed : (app : App) (trace : List Entry) (o : Option Entry) (n : World) (found : Bool) → found ≡ false → Chose app trace o (Ok found) n → (o ≡ None) × WorldStands app n trace
-passed app trace o n found off chose = chose_false app trace o n (came_as app trace o n found false off chose)
-
-pub pull_first-requires-clause-world : goal.pull_first-requires-clause-world
-pull_first-requires-clause-world c =
+pub returns-then-branch-clause-chose : goal.returns-then-branch-clause-chose
+returns-then-branch-clause-chose c = λ trace s a.
+    let still = c.loop-offer.invariant trace s a in
     let app = c.args.app.now in
-    let trace = c.requires.world.trace in
-    let one = passed app trace (gone app trace) c.go_first.new.self c.in_ok-go_first.field-0 c.if-branch.false (c.in_ok-go_first.ensures trace c.requires.world.stands) in
-    let two = passed app trace (taken app trace) c.take_first.new.self c.in_ok-take_first.field-0 c.if-branch-2.false (c.in_ok-take_first.ensures trace one.1) in
-    record { trace = trace; stands = two.1 }
+    turned_first app c.requires.sound c.loop-offer.self c.attempt.new.self trace c.loop-offer.agenda still c.in-Some.offer c.in-Some.ensures
+    (came_as app trace (entry_by_offer app trace c.in-Some.offer) c.attempt.new.self c.in_ok-attempt.field-0 true c.if-branch.true (c.in_ok-attempt.ensures.chose trace still.stands still.attends))
 
-pub ship_first-requires-clause-world : goal.ship_first-requires-clause-world
-ship_first-requires-clause-world c =
+pub returns-then-branch-clause-attends : goal.returns-then-branch-clause-attends
+returns-then-branch-clause-attends c = λ trace s a.
+    let still = c.loop-offer.invariant trace s a in
     let app = c.args.app.now in
-    let trace = c.requires.world.trace in
-    let one = passed app trace (gone app trace) c.go_first.new.self c.in_ok-go_first.field-0 c.if-branch.false (c.in_ok-go_first.ensures trace c.requires.world.stands) in
-    let two = passed app trace (taken app trace) c.take_first.new.self c.in_ok-take_first.field-0 c.if-branch-2.false (c.in_ok-take_first.ensures trace one.1) in
-    let three = passed app trace (pulled app trace) c.pull_first.new.self c.in_ok-pull_first.field-0 c.if-branch-3.false (c.in_ok-pull_first.ensures trace two.1) in
-    record { trace = trace; stands = three.1 }
+    attends_first app c.requires.sound c.loop-offer.self c.attempt.new.self trace c.loop-offer.agenda still c.in-Some.offer c.in-Some.ensures
+    (came_as app trace (entry_by_offer app trace c.in-Some.offer) c.attempt.new.self c.in_ok-attempt.field-0 true c.if-branch.true (c.in_ok-attempt.ensures.chose trace still.stands still.attends))
+    c.attempt.new.agenda (c.in_ok-attempt.ensures.attends trace still.stands still.attends)
 
-pub returns-then-branch : goal.returns-then-branch
-returns-then-branch c = λ trace s.
+pub loop-offer-preserved : goal.loop-offer-preserved
+loop-offer-preserved c = λ trace s a.
+    let still = c.loop-offer.invariant trace s a in
     let app = c.args.app.now in
-    let n = c.go_first.new.self in
-    chose_of app trace (option_or (gone app trace) (behind_goes app trace)) (first_made app trace) _ n (in_turn app trace)
-    (or_first app trace (gone app trace) (behind_goes app trace) n
-    (came_as app trace (gone app trace) n c.in_ok-go_first.field-0 true c.if-branch.true (c.in_ok-go_first.ensures trace s)))
+    none_then app c.attempt.new.self trace (entry_by_offer app trace c.in-Some.offer) c.attempt.new.agenda
+    (came_as app trace (entry_by_offer app trace c.in-Some.offer) c.attempt.new.self c.in_ok-attempt.field-0 false c.if-branch.false (c.in_ok-attempt.ensures.chose trace still.stands still.attends))
+    (c.in_ok-attempt.ensures.attends trace still.stands still.attends)
 
-pub returns-then-branch-2 : goal.returns-then-branch-2
-returns-then-branch-2 c = λ trace s.
-    let app = c.args.app.now in
-    let n = c.take_first.new.self in
-    let one = passed app trace (gone app trace) c.go_first.new.self c.in_ok-go_first.field-0 c.if-branch.false (c.in_ok-go_first.ensures trace s) in
-    chose_of app trace (option_or (gone app trace) (behind_goes app trace)) (first_made app trace) _ n (in_turn app trace)
-    (or_second app trace (gone app trace) (behind_goes app trace) _ n one.0
-    (or_first app trace (taken app trace) (behind_takes app trace) n
-    (came_as app trace (taken app trace) n c.in_ok-take_first.field-0 true c.if-branch-2.true (c.in_ok-take_first.ensures trace one.1))))
+pub returns-clause-chose : goal.returns-clause-chose
+returns-clause-chose c = λ trace s a.
+    turned_none c.args.app.now c.requires.sound c.loop-offer.self trace c.loop-offer.agenda (c.loop-offer.invariant trace s a) c.in_default.ensures
 
-pub returns-then-branch-3 : goal.returns-then-branch-3
-returns-then-branch-3 c = λ trace s.
-    let app = c.args.app.now in
-    let n = c.pull_first.new.self in
-    let one = passed app trace (gone app trace) c.go_first.new.self c.in_ok-go_first.field-0 c.if-branch.false (c.in_ok-go_first.ensures trace s) in
-    let two = passed app trace (taken app trace) c.take_first.new.self c.in_ok-take_first.field-0 c.if-branch-2.false (c.in_ok-take_first.ensures trace one.1) in
-    chose_of app trace (option_or (gone app trace) (behind_goes app trace)) (first_made app trace) _ n (in_turn app trace)
-    (or_second app trace (gone app trace) (behind_goes app trace) _ n one.0
-    (or_second app trace (taken app trace) (behind_takes app trace) _ n two.0
-    (or_first app trace (pulled app trace) (shipped app trace) n
-    (came_as app trace (pulled app trace) n c.in_ok-pull_first.field-0 true c.if-branch-3.true (c.in_ok-pull_first.ensures trace two.1)))))
-
-pub returns : goal.returns
-returns c = λ trace s.
-    let app = c.args.app.now in
-    let r = c.ship_first.result in
-    let n = c.ship_first.new.self in
-    let one = passed app trace (gone app trace) c.go_first.new.self c.in_ok-go_first.field-0 c.if-branch.false (c.in_ok-go_first.ensures trace s) in
-    let two = passed app trace (taken app trace) c.take_first.new.self c.in_ok-take_first.field-0 c.if-branch-2.false (c.in_ok-take_first.ensures trace one.1) in
-    let three = passed app trace (pulled app trace) c.pull_first.new.self c.in_ok-pull_first.field-0 c.if-branch-3.false (c.in_ok-pull_first.ensures trace two.1) in
-    chose_of app trace (option_or (gone app trace) (behind_goes app trace)) (first_made app trace) r n (in_turn app trace)
-    (or_second app trace (gone app trace) (behind_goes app trace) r n one.0
-    (or_second app trace (taken app trace) (behind_takes app trace) r n two.0
-    (or_second app trace (pulled app trace) (shipped app trace) r n three.0
-    (c.ship_first.ensures trace three.1))))
+pub returns-clause-attends : goal.returns-clause-attends
+returns-clause-attends c = λ trace s a.
+    attends_still c.args.app.now c.requires.sound c.loop-offer.self trace c.loop-offer.agenda (c.loop-offer.invariant trace s a) c.in_default.ensures

@@ -1,4 +1,4 @@
-use Rattle.std.proofs.Common.{◌≡◌, ◌+◌, length, Ok, Err, Result, OnOk, refl}
+use Rattle.std.proofs.Common.{◌+◌, length, Ok, Err, Result, OnOk, refl}
 use Rattle.anti_ids.specs.declared.memory.NoMemory.{NoMemory}
 use Rattle.anti_replicas.specs.inner.Standing.{Keeps}
 use Rattle.anti_replicas.proofs.Standing.{writable, stands_write}

@@ -16,5 +16,5 @@ returns c =
     let here = c.index_mut-here.result.now in
     let within : c.args.object < length all.items = c.requires.object in
     becomes_set all.items c.args.object here _ c.index_mut-here.ensures.value within (MetFull c.args.full) c.args.at c.index_mut.result.now c.full.new.self c.index_mut.ensures.value
-    (low_here all.items c.args.object here c.index_mut-here.ensures.value within c.args.at c.requires.at) refl refl
+    (low_here all.items c.args.object here c.index_mut-here.ensures.value within c.args.at c.requires.at) refl
     (record { run = c.full.ensures.run; clock = c.full.ensures.clock; birth = c.full.ensures.birth; role = c.full.ensures.role; full = c.full.ensures.full })

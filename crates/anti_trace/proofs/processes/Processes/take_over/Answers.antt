@@ -9,7 +9,7 @@ returns c =
     let here = c.index_mut-here.result.now in
     let within : c.args.object < length all.items = c.requires.object in
     becomes_set all.items c.args.object here _ c.index_mut-here.ensures.value within (TakesOver c.args.stamp c.args.advance) c.args.at c.index_mut.result.now c.take.new.self c.index_mut.ensures.value
-    (low_here all.items c.args.object here c.index_mut-here.ensures.value within c.args.at c.requires.at) refl refl
+    (low_here all.items c.args.object here c.index_mut-here.ensures.value within c.args.at c.requires.at) refl
     (record {
       tree = λ app. c.take.ensures.stands app;
       run = c.take.ensures.run;

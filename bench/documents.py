@@ -1,0 +1,251 @@
+"""The documents that bench/run plays: each a function of the sizes that it grows with."""
+import os
+
+HERE = os.path.dirname(os.path.abspath(__file__))
+
+# Limits of documents and objects: requests, and the units of an object, of which a write takes one for itself and one for each part
+# that is to be brought to each replica.
+MOST_REQUESTS = 400
+MOST_UNITS = 4096
+
+
+def quoted(texts):
+    """An array of strings."""
+    return "[" + ", ".join(f'"{text}"' for text in texts) + "]"
+
+
+# What a handler does: it writes, each time with all that it wrote before in its lineage, and reads or looks.
+BODIES = {
+    "writes": [f"write s k{i % 8} v{i}" for i in range(62)] + ["barrier", "read s k0 as x"],
+    "looks": [line for i in range(32) for line in (f"write s k{i % 8} v{i}", "dryrun")],
+}
+
+
+def document(choices, body):
+    """One store with a replica, requests with this body, and a schedule of so many choices that ships each write at once."""
+    lines, request, version = [], 0, 0
+    while len(lines) < choices:
+        request += 1
+        lines.append("take w 1")
+        for statement in body:
+            lines.append(f"go w.{request}")
+            if statement.startswith("write"):
+                version += 1
+                lines.append(f"ship s eu {version}")
+    lines = lines[:choices]
+    return "\n".join(
+        [
+            'regions = ["eu"]',
+            f"choices = {quoted(lines)}",
+            'store = [{ name = "s", kind = "kv", replicas = ["eu"] }]',
+            "request = [" + ", ".join(['{ service = "w", handler = "h" }'] * max(request, 1)) + "]",
+            "[[service]]",
+            'name = "w"',
+            'region = "eu"',
+            f'handler = [{{ name = "h", body = {quoted(body)} }}]',
+        ]
+    )
+
+
+def finished(requests, names, lines):
+    """So many requests to one handler with these lines, on stores of these names with a replica each, and `finish`."""
+    stores = ", ".join(f'{{ name = "{name}", kind = "kv", replicas = ["eu"] }}' for name in names)
+    return "\n".join(
+        [
+            'regions = ["eu"]',
+            'choices = ["finish"]',
+            f"store = [{stores}]",
+            "request = [" + ", ".join(['{ service = "w", handler = "h", value = "k" }'] * requests) + "]",
+            "[[service]]",
+            'name = "w"',
+            'region = "eu"',
+            f'handler = [{{ name = "h", body = {quoted(lines)} }}]',
+        ]
+    )
+
+
+def called(requests, deep):
+    """So many requests, each through a chain of calls this deep, and `finish`."""
+    services = "".join(
+        f'[[service]]\nname = "a{i}"\nregion = "eu"\nhandler = [{{ name = "h", body = ["{line}"] }}]\n'
+        for i, line in enumerate([f"call a{i + 1} h $in as x" for i in range(deep)] + ["reply $in"])
+    )
+    return "\n".join(
+        [
+            'regions = ["eu"]',
+            'choices = ["finish"]',
+            "request = [" + ", ".join(['{ service = "a0", handler = "h", value = "k" }'] * requests) + "]",
+            services,
+        ]
+    )
+
+
+def carrying(ids):
+    """Seven requests, each of which sends 256 messages with so many ids, a multiple of 16, as their baggage."""
+    lines = ["repeat 16", f"repeat {ids // 16}", "write s k v", "end", "end"] if ids > 0 else []
+    lines += ["repeat 16", "repeat 16", "send d h x", "end", "end"]
+    return "\n".join(
+        [
+            'regions = ["eu"]',
+            'choices = ["finish"]',
+            'store = [{ name = "s", kind = "kv", replicas = ["eu"] }]',
+            "request = [" + ", ".join(['{ service = "c", handler = "h" }'] * 7) + "]",
+            f'[[service]]\nname = "c"\nregion = "eu"\nhandler = [{{ name = "h", body = {quoted(lines)} }}]',
+            '[[service]]\nname = "d"\nregion = "eu"\nhandler = [{ name = "h", body = [] }]',
+        ]
+    )
+
+
+SENDS = 256
+# Names with which an id has some 55 bytes.
+LONG_STORE = "a-store-of-long-name-{}"
+LONG_KEY = "a-key-of-a-longer-name"
+
+
+def sending(services, times, ids, name="s{}", key="k", then=()):
+    """A request for each of so many services: it writes so many ids, a multiple of 16, and sends `times` times 256 messages to the
+    service's one handler, which does what it is told. Of two stores each has units for eight such requests of 256 ids, an inbox for
+    2,048 sends."""
+    bodies = []
+    stores = ", ".join(f'{{ name = "{name.format(i)}", kind = "kv", replicas = ["eu"] }}' for i in range(2))
+    for i in range(services):
+        lines = ["repeat 16", f"repeat {ids // 16}", f"write {name.format(i % 2)} {key} v", "end", "end"] if ids > 0 else []
+        lines += ["repeat 16", f"repeat {SENDS // 16}", f"send d{i} h x", "end", "end"] * times
+        bodies.append(f'{{ name = "h{i}", body = {quoted(lines)} }}')
+    targets = "".join(
+        f'[[service]]\nname = "d{i}"\nregion = "eu"\nhandler = [{{ name = "h", body = {quoted(then)} }}]\n' for i in range(services)
+    )
+    return "\n".join(
+        [
+            'regions = ["eu"]',
+            'choices = ["finish"]',
+            f"store = [{stores}]",
+            "request = [" + ", ".join(f'{{ service = "c", handler = "h{i}" }}' for i in range(services)) + "]",
+            f'[[service]]\nname = "c"\nregion = "eu"\nhandler = [{", ".join(bodies)}]',
+            targets,
+        ]
+    )
+
+
+def missing(stores, ids, looks):
+    """A request for each of so many stores: it writes so many ids to it, a multiple of 16, and looks for them so often, a multiple of 512,
+    before any of them is shipped. Of the 4,096 units of a store 256 writes take 512, and each look one."""
+    bodies = []
+    for i in range(stores):
+        lines = ["repeat 16", f"repeat {ids // 16}", f"write {LONG_STORE.format(i)} {LONG_KEY} v", "end", "end"]
+        lines += ["repeat 16", "repeat 16", "dryrun", "dryrun", "end", "end"] * (looks // 512)
+        bodies.append(f'{{ name = "h{i}", body = {quoted(lines)} }}')
+    defined = ", ".join(f'{{ name = "{LONG_STORE.format(i)}", kind = "kv", replicas = ["eu"] }}' for i in range(stores))
+    return "\n".join(
+        [
+            'regions = ["eu"]',
+            'choices = ["finish"]',
+            f"store = [{defined}]",
+            "request = [" + ", ".join(f'{{ service = "c", handler = "h{i}" }}' for i in range(stores)) + "]",
+            f'[[service]]\nname = "c"\nregion = "eu"\nhandler = [{", ".join(bodies)}]',
+        ]
+    )
+
+
+def on_stores(kind, regions, stores, requests, handlers):
+    """`finish` of requests, each a handler and a value, on so many stores of a kind with a replica in each of so many regions."""
+    names = [f"r{i}" for i in range(regions)]
+    defined = ", ".join(f'{{ name = "s{i}", kind = "{kind}", replicas = {quoted(names)} }}' for i in range(stores))
+    asked = ", ".join(f'{{ service = "w", handler = "{handler}", value = "{value}" }}' for handler, value in requests)
+    bodies = ", ".join(f'{{ name = "{name}", body = {quoted(body)} }}' for name, body in handlers.items())
+    return "\n".join(
+        [
+            f"regions = {quoted(names)}",
+            'choices = ["finish"]',
+            f"store = [{defined}]",
+            f"request = [{asked}]",
+            "[[service]]",
+            'name = "w"',
+            'region = "r0"',
+            f"handler = [{bodies}]",
+        ]
+    )
+
+
+def scanned(stores):
+    """400 requests that write a key each on so many tables. The last eight wait for what they wrote, and scan all 400 keys of each
+    table: of each 4,008 units, 2 for a write, 1 for a look of a barrier, and 400 for a scan."""
+    writes = [f"write s{i} $in v" for i in range(stores)]
+    scans = ["barrier"] + [f"scan s{i} k as x{i}" for i in range(stores)]
+    requests = [("scan" if i >= MOST_REQUESTS - 8 else "put", f"k{i}") for i in range(MOST_REQUESTS)]
+    return on_stores("table", 1, stores, requests, {"put": writes, "scan": writes + scans})
+
+
+def replicated(stores):
+    """Values of 256 bytes, in four parts, on so many blobs with eight replicas, each value read back where it was written: 33 units
+    for a write, 1 for a look and 1 for a read, as often as a store has units."""
+    body = [f"write s{i} k $in" for i in range(stores)] + ["barrier"] + [f"read s{i} k as x{i}" for i in range(stores)]
+    return on_stores("blob", 8, stores, [("put", "v" * 256)] * (MOST_UNITS // 35), {"put": body})
+
+
+def filled(kind):
+    """One store of a kind, which 400 requests fill: it has units for 2,048 of their 2,400 writes."""
+    requests = [("put", f"k{i}") for i in range(MOST_REQUESTS)]
+    return on_stores(kind, 1, 1, requests, {"put": ["write s0 $in v"] * 6})
+
+
+# How many messages are written by one request of `pulled`.
+EACH = 4
+
+
+def pulled(kind, units, subs, body):
+    """A queue or a topic with one replica and so many subscriptions of one channel, whose handlers have this body. As many messages are
+    written and shipped as the store has units for, if each takes so many to its end; then `finish` pulls them."""
+    requests = MOST_UNITS // units // EACH
+    lines = [choice for i in range(requests) for choice in ["take w 1"] + [f"go w.{i + 1}"] * EACH]
+    lines += [f"ship s eu {i + 1}" for i in range(requests * EACH)] + ["finish"]
+    defined = ", ".join(f'{{ name = "p{i}", store = "s", channel = "c", service = "w", handler = "h" }}' for i in range(subs))
+    return "\n".join(
+        [
+            'regions = ["eu"]',
+            f"choices = {quoted(lines)}",
+            f'store = [{{ name = "s", kind = "{kind}", replicas = ["eu"]{", tries = 8" if kind == "queue" else ""} }}]',
+            f"sub = [{defined}]",
+            "request = [" + ", ".join(['{ service = "w", handler = "put", value = "v" }'] * requests) + "]",
+            "[[service]]",
+            'name = "w"',
+            'region = "eu"',
+            f'handler = [{{ name = "put", body = {quoted(["write s c $in"] * EACH)} }}, {{ name = "h", body = {quoted(body)} }}]',
+        ]
+    )
+
+
+def whole(requests):
+    """The example of a whole application, with a store of each kind, but so many requests in place of its own: two users, and posts."""
+    with open(os.path.join(HERE, "../examples/whole_application.toml"), encoding="utf-8") as example:
+        front, rest = example.read().split("request = [\n")
+    asked = ['{ service = "admin", handler = "join" }'] * 2
+    asked += [f'{{ service = "front", handler = "post", value = "v{i}" }}' for i in range(requests - 2)]
+    return front + "request = [\n" + ",\n".join(asked) + "\n" + rest[rest.index("]\n") :]
+
+
+def largest():
+    """A document of nearly 262,144 bytes: many choices, services and bodies, each line with a long literal."""
+    text = "v" * 40
+    body = "[" + ", ".join(f'"write s $in {text}{i}"' for i in range(64)) + "]"
+    handlers = ", ".join(f'{{ name = "h{i}", body = {body} }}' for i in range(4))
+    services = "".join(f'[[service]]\nname = "w{i}"\nregion = "eu"\nhandler = [{handlers}]\n' for i in range(12))
+    head = 'regions = ["eu"]\nstore = [{ name = "s", kind = "kv", replicas = ["eu"] }]\n'
+    requests = "request = [" + ", ".join('{ service = "w0", handler = "h0" }' for _ in range(400)) + "]\n"
+    rest = 262_144 - len(head) - len(requests) - len(services) - len("choices = []\n")
+    choices = "choices = [" + ", ".join(['"again s eu 4096"'] * min(4096, rest // 19)) + "]\n"
+    document = head + choices + requests + services
+    return document + "#" * (262_144 - len(document))
+
+
+def judged(handlers):
+    """So many handlers, a multiple of 16, of 59 lines, 256 in a document of 262,144 bytes: each reads into 14 variables, behind a barrier
+    each time, and calls another."""
+    each = handlers // 16
+    body = ["barrier", "read s $in as a", "transfer a", "if a absent", "barrier", "end"]
+    for i in range(13):
+        body += ["barrier", f"read s k{i} as x{i}", f"transfer x{i}", f"write s k{i} v"]
+    bodies = [[f'{{ name = "h{j}", body = {quoted(body + [f"call w{(i + 1) % 16} h{j} v as r"])} }}' for j in range(each)] for i in range(16)]
+    services = "".join(f'[[service]]\nname = "w{i}"\nregion = "eu"\nhandler = [{", ".join(bodies[i])}]\n' for i in range(16))
+    document = 'regions = ["eu"]\nstore = [{ name = "s", kind = "kv", replicas = ["eu"] }]\n' + services
+    return document + "#" * (handlers * 1_024 - len(document))

@@ -1,0 +1,5 @@
+mod Brought
+mod Changes
+mod Finding
+mod KeySets
+mod Orders

@@ -1,0 +1,74 @@
+ghost use Rattle.std.specs.Prelude.{OnOk};
+ghost use Rattle.anti_agenda.specs.Agendas.{IsEmpty, IsFirst, IsGone, IsIdled, IsPutToSleep, IsWoken};
+
+use crate::offer::{Offer, Sleeper};
+use anti_ids::NoMemory;
+use anti_kind::Awaited;
+use std::alloc::Global;
+use std::collections::BTreeSet;
+
+/// The offers that may make an entry (awake), those that wait for something at an object (asleep), and those that were tried in vain for
+/// a cause that is not known (idle). Contracts see three lists.
+#[derive(Drop)]
+pub struct Agenda {
+    pub(crate) awake: BTreeSet<Offer>,
+    pub(crate) asleep: BTreeSet<Sleeper>,
+    pub(crate) idle: Vec<Offer>,
+}
+
+impl Agenda {
+    /// No offer. It takes no memory.
+    pub fn new(alloc: Global) -> Agenda
+        ensures { IsEmpty result }
+    {
+        Agenda {
+            awake: BTreeSet::new(alloc),
+            asleep: BTreeSet::new(alloc),
+            idle: Vec::new(alloc),
+        }
+    }
+
+    /// The first offer that is awake. It takes no memory.
+    pub fn first(&self) -> Option<Offer>
+        ensures { IsFirst self.now result }
+    {
+        self.awake.first().copied()
+    }
+
+    /// Wakes an offer, which may be awake. The only error is want of memory.
+    pub fn wake(&mut self, offer: Offer) -> Result<(), NoMemory>
+        ensures { OnOk result (IsWoken offer self.old self.new) }
+    {
+        self.awake.insert(offer)?;
+        Ok(())
+    }
+
+    /// Gives up an offer that is awake. It takes no memory.
+    pub fn rest(&mut self, offer: Offer)
+        ensures { IsGone offer self.old self.new }
+    {
+        self.awake.remove(&offer);
+    }
+
+    /// Puts an offer that is awake to sleep, until what it awaits at the object is brought. The only error is want of memory.
+    pub fn sleep(&mut self, offer: Offer, object: u32, awaited: Awaited) -> Result<(), NoMemory>
+        ensures { OnOk result (IsPutToSleep offer object awaited self.old self.new) }
+    {
+        self.rest(offer);
+        self.asleep.insert(Sleeper {
+            object,
+            awaited,
+            offer,
+        })?;
+        Ok(())
+    }
+
+    /// Makes an offer that is awake idle, until anything is made. The only error is want of memory.
+    pub fn idle(&mut self, offer: Offer) -> Result<(), NoMemory>
+        ensures { OnOk result (IsIdled offer self.old self.new) }
+    {
+        self.rest(offer);
+        self.idle.push(offer)?;
+        Ok(())
+    }
+}

@@ -1,0 +1,13 @@
+-- What a text is known to state, beside it.
+use Rattle.std.specs.Prelude.{◌≡◌, ℕ, Option, IfSome, Ok}
+use Rattle.std.specs.Arc.{arc_value}
+use Rattle.std.specs.declared.alloc.Global.{Global}
+use Rattle.std.specs.declared.sync.Arc.{Arc}
+use Rattle.anti_ids.specs.List.{Listed}
+use Rattle.anti_baggage.specs.Reading.{read_lineage}
+use Rattle.anti_baggage.specs.declared.baggage.Stated.{Stated}
+
+-- the lineage that is kept is the one that the text states, over the names that are kept, and the text has no room
+abbrev pub IsKept : Listed ℕ → Option (Arc Stated Global) → Type 0
+IsKept text stated =
+    IfSome stated (λ kept. (text.spare ≡ 0) × (read_lineage (arc_value kept).stores.items text.items ≡ Ok (arc_value kept).lineage))

@@ -1,0 +1,107 @@
+use Rattle.std.proofs.Common.{◌≡◌, ◌<◌, List, length, true, false, sym, subst, ap, ◌∙◌, arith}
+use Rattle.std.specs.Prelude.{Bool, IsTrue, Ok, Err}
+use Rattle.anti_kind.specs.declared.call.Call.TheVariants.{Ship}
+use Rattle.anti_kind.specs.declared.entry.Entry.{Entry}
+use Rattle.anti_kind.specs.Objects.{StandsFor, next_ship}
+use Rattle.anti_kind.specs.Records.{Record}
+use Rattle.anti_app.specs.declared.app.App.{App}
+use Rattle.anti_app.specs.Sound.{is_sound}
+use Rattle.anti_object.specs.declared.object.Object.{Object}
+use Rattle.anti_object.specs.Standing.{ObjectStands, object_start}
+use Rattle.anti_trace.specs.Traces.{entries_on}
+use Rattle.anti_play.specs.Schedule.{carrying, made_at}
+use Rattle.anti_play.specs.inner.Attending.{entry_by_offer}
+use Rattle.anti_play.specs.inner.Standing.{Chose, IsObject, WorldStands}
+use Rattle.anti_play.proofs.Attempting.{chosen_lost, turned_lost, vain_lost, went_nowhere}
+use Rattle.anti_play.proofs.Shipping.{carried_is, route_attends, shipped_attends, shipped_lost, unshipped_attends}
+use Rattle.anti_play.proofs.Tried.{came_as}
+use Rattle.anti_play.proofs.world.World.attempt_ship.Goals as goal
+use Rattle.anti_play.proofs.world.World.attempt_ship.Goals.{After-next_ship, In_ok-carry}
+
+-- the store of the route
+here : (c : After-next_ship) (app : App) (trace : List Entry) → WorldStands app c.args.self.now trace
+    → IsObject app c.args.store c.index-recorded.result.now (entries_on c.args.store trace)
+here c app trace s =
+    let r : Record Object = c.index-recorded.result.now in
+    let short : c.args.store < length c.args.self.now.objects.items = omega (arith, c.args.self.now.objects.ok.0) in
+    subst (λ (x : Record Object). IsObject app c.args.store x (entries_on c.args.store trace)) (sym c.index-recorded.ensures) (s.objects.each c.args.store r short)
+
+-- its next shipment
+told : (c : After-next_ship) → c.next_ship.result ≡ next_ship (object_start c.index-recorded.result.now.machine) c.index-recorded.result.now.history c.args.region
+told c =
+    let r : Record Object = c.index-recorded.result.now in
+    c.next_ship.ensures r.history (subst (λ (m : Object). StandsFor (object_start m) (ObjectStands m) r.history) (sym c.machine.ensures.machine) c.machine.ensures.stands)
+    ∙ ap (λ (m : Object). next_ship (object_start m) r.history c.args.region) c.machine.ensures.machine
+
+pub returns-in_err-sleep-clause-chose : goal.returns-in_err-sleep-clause-chose
+returns-in_err-sleep-clause-chose c = λ app trace replica sound s a is to.
+    turned_lost app trace (entry_by_offer app trace c.args.offer) c.from_residual.result c.args.self.now c.from_residual.ensures.0 (went_nowhere app trace c.args.self.now s)
+
+pub returns-in_default-clause-attends : goal.returns-in_default-clause-attends
+returns-in_default-clause-attends c = λ app trace replica sound s a is to.
+    let at = (goal.at.returns-in_default-clause-attends c).After-next_ship in
+    route_attends app sound c.args.self.now trace s c.args.offer c.args.store replica c.args.region is to c.index-recorded.result.now (here at app trace s)
+    (sym c.in_default.is ∙ told at) c.args.agenda.now c.sleep.new.self a c.requires.awake c.in_ok-sleep.ensures
+
+pub returns-in_err-carry-clause-chose : goal.returns-in_err-carry-clause-chose
+returns-in_err-carry-clause-chose c = λ app trace replica sound s a is to.
+    let at = (goal.at.returns-in_err-carry-clause-chose c).After-next_ship in
+    let n = c.carry.new.self in
+    let x = c.in_err-carry.field-0.0 in
+    chosen_lost app trace (entry_by_offer app trace c.args.offer) x c.from_residual-in_err-carry.result n c.from_residual-in_err-carry.ensures.0
+    (carried_is app sound c.args.self.now trace s c.args.offer c.args.store replica c.args.region is to c.index-recorded.result.now (here at app trace s)
+    c.in-Some.version c.in-Some.part (sym c.in-Some.is ∙ told at) (Err x) n (c.in_err-carry.ensures app trace sound s))
+
+-- what came of the shipment, told as the branch
+came : (c : In_ok-carry) (app : App) (trace : List Entry) → IsTrue (is_sound app) → WorldStands app c.args.self.now trace → (made : Bool) → c.in_ok-carry.field-0 ≡ made
+    → Chose app trace (made_at app trace (carrying trace c.args.store (Ship c.args.region c.in-Some.version c.in-Some.part))) (Ok made) c.carry.new.self
+came c app trace sound s made is =
+    came_as app trace (made_at app trace (carrying trace c.args.store (Ship c.args.region c.in-Some.version c.in-Some.part))) c.carry.new.self c.in_ok-carry.field-0 made is
+    (c.in_ok-carry.ensures app trace sound s)
+
+pub returns-in_err-idle-clause-chose : goal.returns-in_err-idle-clause-chose
+returns-in_err-idle-clause-chose c = λ app trace replica sound s a is to.
+    let at = (goal.at.returns-in_err-idle-clause-chose c).After-next_ship in
+    let n = c.carry.new.self in
+    vain_lost app trace (entry_by_offer app trace c.args.offer) c.from_residual-in_err-idle.result n c.from_residual-in_err-idle.ensures.0
+    (carried_is app sound c.args.self.now trace s c.args.offer c.args.store replica c.args.region is to c.index-recorded.result.now (here at app trace s)
+    c.in-Some.version c.in-Some.part (sym c.in-Some.is ∙ told at) (Ok false) n
+    (came ((goal.at.returns-in_err-idle-clause-chose c).In_ok-carry) app trace sound s false c.if-not-branch.true))
+
+pub returns-then-not-branch-clause-chose : goal.returns-then-not-branch-clause-chose
+returns-then-not-branch-clause-chose c = λ app trace replica sound s a is to.
+    let at = (goal.at.returns-then-not-branch-clause-chose c).After-next_ship in
+    carried_is app sound c.args.self.now trace s c.args.offer c.args.store replica c.args.region is to c.index-recorded.result.now (here at app trace s)
+    c.in-Some.version c.in-Some.part (sym c.in-Some.is ∙ told at) (Ok false) c.carry.new.self
+    (came ((goal.at.returns-then-not-branch-clause-chose c).In_ok-carry) app trace sound s false c.if-not-branch.true)
+
+pub returns-then-not-branch-clause-attends : goal.returns-then-not-branch-clause-attends
+returns-then-not-branch-clause-attends c = λ app trace replica sound s a is to.
+    let at = (goal.at.returns-then-not-branch-clause-attends c).After-next_ship in
+    unshipped_attends app sound c.args.self.now trace s c.args.offer c.args.store replica c.args.region is to c.index-recorded.result.now (here at app trace s)
+    c.in-Some.version c.in-Some.part (sym c.in-Some.is ∙ told at) c.carry.new.self
+    (came ((goal.at.returns-then-not-branch-clause-attends c).In_ok-carry) app trace sound s false c.if-not-branch.true)
+    c.args.agenda.now c.idle.new.self a c.requires.awake c.in_ok-idle.ensures
+
+pub returns-in_err-stir-clause-chose : goal.returns-in_err-stir-clause-chose
+returns-in_err-stir-clause-chose c = λ app trace replica sound s a is to.
+    let at = (goal.at.returns-in_err-stir-clause-chose c).After-next_ship in
+    shipped_lost app sound c.args.self.now trace s c.args.offer c.args.store replica c.args.region is to c.index-recorded.result.now (here at app trace s)
+    c.in-Some.version c.in-Some.part (sym c.in-Some.is ∙ told at) c.carry.new.self
+    (came ((goal.at.returns-in_err-stir-clause-chose c).In_ok-carry) app trace sound s true c.if-not-branch.false)
+    c.from_residual-in_err-stir.result c.from_residual-in_err-stir.ensures.0
+
+pub returns-clause-chose : goal.returns-clause-chose
+returns-clause-chose c = λ app trace replica sound s a is to.
+    let at = (goal.at.returns-clause-chose c).After-next_ship in
+    carried_is app sound c.args.self.now trace s c.args.offer c.args.store replica c.args.region is to c.index-recorded.result.now (here at app trace s)
+    c.in-Some.version c.in-Some.part (sym c.in-Some.is ∙ told at) (Ok true) c.carry.new.self
+    (came ((goal.at.returns-clause-chose c).In_ok-carry) app trace sound s true c.if-not-branch.false)
+
+pub returns-clause-attends : goal.returns-clause-attends
+returns-clause-attends c = λ app trace replica sound s a is to.
+    let at = (goal.at.returns-clause-attends c).After-next_ship in
+    shipped_attends app sound c.args.self.now trace s c.args.offer c.args.store replica c.args.region is to c.index-recorded.result.now (here at app trace s)
+    c.in-Some.version c.in-Some.part (sym c.in-Some.is ∙ told at) c.carry.new.self
+    (came ((goal.at.returns-clause-attends c).In_ok-carry) app trace sound s true c.if-not-branch.false)
+    c.args.agenda.now c.stir.new.self a c.brought-brought.result c.brought-brought.ensures c.in_ok-stir.ensures
