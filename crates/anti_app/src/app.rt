@@ -4,6 +4,7 @@ use anti_ids::{List, Name, NoMemory, Value};
 use anti_kind::StoreKind;
 use anti_lang::Body;
 use anti_rules::Place;
+use thiserror::Error;
 
 /// Names, in the order of the document.
 pub type Names = List<Name>;
@@ -160,15 +161,19 @@ pub struct App {
 }
 
 /// Why bytes state no application.
-#[derive(Clone, Copy, Debug, PartialEq, Eq)]
+#[derive(Clone, Copy, Debug, PartialEq, Eq, Error)]
 pub enum AppFault {
     /// The bytes are no TOML document.
+    #[error("the bytes are no TOML document")]
     NotToml,
     /// This rule of the format, counted from 1, is the first that the document fails, and this the first place at which it does.
+    #[error("the document fails rule {rule} at {place}")]
     Bad { rule: u32, place: Place },
     /// The choice of this number, counted from 1, is none.
+    #[error("choice {number} is none")]
     BadChoice { number: u32 },
     /// There was no memory. It says nothing of the bytes.
+    #[error("no memory")]
     NoMemory,
 }
 

@@ -27,8 +27,9 @@ fn add_number(text: &mut List<u8>, number: u64) -> Result<(), NoMemory>
     text.append(digits.format(number).as_bytes())
 }
 
-// Adds an id with the name of its store at the end of a text without room.
-fn add_id(text: &mut List<u8>, stores: &[Name], id: &WriteId) -> Result<(), NoMemory>
+/// Adds an id at the end of a text without room, over the names of the stores by their numbers. The id of a store that is not there
+/// is written without a name.
+pub fn add_id(text: &mut List<u8>, stores: &[Name], id: &WriteId) -> Result<(), NoMemory>
     requires { text.old.spare ≡ 0 }
     ensures ok { OnOk result (text.new ≡ plain (text.old.items ++ id_text stores.now id.now)) }
     ensures spare { text.new.spare ≡ 0 }
@@ -40,9 +41,8 @@ fn add_id(text: &mut List<u8>, stores: &[Name], id: &WriteId) -> Result<(), NoMe
     add_number(text, id.version)
 }
 
-/// Adds the text of a lineage at the end of a text without room, over the names of the stores by their numbers. An id of a store that
-/// is not there is written without a name, and no text with such an id is read again.
-pub fn add_lineage(text: &mut List<u8>, stores: &[Name], lineage: &Lineage) -> Result<(), NoMemory>
+// Adds the text of a lineage at the end of a text without room.
+fn add_lineage(text: &mut List<u8>, stores: &[Name], lineage: &Lineage) -> Result<(), NoMemory>
     requires { text.old.spare ≡ 0 }
     ensures ok { OnOk result (text.new ≡ plain (text.old.items ++ lineage_text stores.now lineage.now)) }
     ensures spare { text.new.spare ≡ 0 }
@@ -59,7 +59,8 @@ pub fn add_lineage(text: &mut List<u8>, stores: &[Name], lineage: &Lineage) -> R
     Ok(())
 }
 
-/// The text of a lineage, as a text of its own.
+/// The text of a lineage, as a text of its own, over the names of the stores by their numbers. No text with an id of a store that is
+/// not there is read again.
 pub fn encode(alloc: Global, stores: &[Name], lineage: &Lineage) -> Result<Bytes, NoMemory>
     ensures { IfOk result (λ text. text ≡ plain (lineage_text stores.now lineage.now)) }
 {

@@ -13,7 +13,7 @@ mod same;
 
 pub use baggage::Baggage;
 pub use decoding::decode;
-pub use encoding::{add_lineage, encode};
+pub use encoding::{add_id, encode};
 pub use escaping::escape;
 pub use fault::BaggageFault;
 pub use laws::texts_state_lineages;

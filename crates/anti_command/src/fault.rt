@@ -6,6 +6,8 @@ use anti_app::{AppFault, Part, Place};
 use anti_ids::{LONGEST_LINE, NoMemory};
 use arrayvec::ArrayString;
 use itoa::Buffer;
+use std::error::Error;
+use std::fmt;
 
 /// Why a call did not write all that it was asked for.
 #[derive(Clone, Copy, Debug, PartialEq, Eq)]
@@ -52,6 +54,15 @@ impl From<NoMemory> for TopFault {
         TopFault::NoMemory
     }
 }
+
+/// The line of the fault, without its end.
+impl fmt::Display for TopFault {
+    fn fmt<W: fmt::Write>(&self, f: &mut fmt::Formatter<W>) -> fmt::Result {
+        f.write_str(line_of(*self).trim_end())
+    }
+}
+
+impl Error for TopFault {}
 
 /// The status of the program for a fault, or for none.
 pub fn status_of(fault: Option<TopFault>) -> u8

@@ -6,15 +6,19 @@ use crate::failed::Failed;
 use crate::source::Source;
 use anti_ids::{Bytes, NoMemory};
 use std::alloc::Global;
+use thiserror::Error;
 
 /// Why a source was not read to its end.
-#[derive(Clone, Copy, Debug, PartialEq, Eq)]
+#[derive(Clone, Copy, Debug, PartialEq, Eq, Error)]
 pub enum ReadRefused {
     /// A read failed, and the count of faults of the source rose. No more than the limit were taken before.
+    #[error("a read failed")]
     Fault,
     /// There are more bytes than the limit.
+    #[error("there are more bytes than the limit")]
     TooLong,
     /// There was no memory for the bytes.
+    #[error("no memory for the bytes")]
     NoMemory,
 }
 

@@ -10,13 +10,16 @@ use crate::memory::NoMemory;
 use crate::roomy::Roomy;
 use std::alloc::Global;
 use std::marker::Model;
+use thiserror::Error;
 
 /// Why a lineage was not changed. It is as it was.
-#[derive(Clone, Copy, Debug, PartialEq, Eq)]
+#[derive(Clone, Copy, Debug, PartialEq, Eq, Error)]
 pub enum LineageRefused {
     /// The lineage would have more than `MOST_IDS` ids.
+    #[error("the lineage has as many ids as one may have")]
     Full,
     /// There was no memory for a further id.
+    #[error("no memory for a further id")]
     NoMemory,
 }
 

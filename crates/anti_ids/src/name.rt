@@ -16,15 +16,19 @@ use crate::memory::NoMemory;
 use std::alloc::Global;
 use std::cmp::Ordering;
 use std::marker::Model;
+use thiserror::Error;
 
 /// Why bytes are no name. The faults are tried in this order.
-#[derive(Clone, Copy, Debug, PartialEq, Eq)]
+#[derive(Clone, Copy, Debug, PartialEq, Eq, Error)]
 pub enum NameFault {
     /// There is no byte.
+    #[error("a name has one byte at least")]
     Empty,
     /// There are more than `LONGEST_NAME` bytes.
+    #[error("a name has {LONGEST_NAME} bytes at most")]
     TooLong,
     /// The byte at this position, counted from 0, is the first that no name has.
+    #[error("the byte at position {0} is none of a name")]
     BadByte(u32),
 }
 

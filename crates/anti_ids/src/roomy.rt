@@ -7,6 +7,7 @@ use crate::id::WriteId;
 use crate::limits::MOST_IDS;
 use crate::lineage::Lineage;
 use std::marker::Model;
+use thiserror::Error;
 
 /// A lineage with room for further ids, which takes no memory. How many can be added to it is part of its value.
 #[derive(Drop)]
@@ -16,7 +17,8 @@ pub struct Roomy {
 }
 
 /// The ids would be more than `MOST_IDS`. They are as they were.
-#[derive(Clone, Copy, Debug, PartialEq, Eq)]
+#[derive(Clone, Copy, Debug, PartialEq, Eq, Error)]
+#[error("the ids would be more than a lineage may have")]
 pub struct RoomyFull;
 
 impl Model for Roomy {

@@ -10,15 +10,19 @@ use crate::memory::NoMemory;
 use crate::text::Text;
 use std::alloc::Global;
 use std::marker::Model;
+use thiserror::Error;
 
 /// Why bytes are no value. The faults of the bytes are tried in this order.
-#[derive(Clone, Copy, Debug, PartialEq, Eq)]
+#[derive(Clone, Copy, Debug, PartialEq, Eq, Error)]
 pub enum ValueFault {
     /// There are more than `LONGEST_VALUE` bytes.
+    #[error("a value has {LONGEST_VALUE} bytes at most")]
     TooLong,
     /// The bytes are no UTF-8.
+    #[error("a value is UTF-8")]
     BadUtf8,
     /// There was no memory for the value.
+    #[error("no memory for the value")]
     NoMemory,
 }
 

@@ -6,7 +6,7 @@ ghost use Rattle.anti_inbox.specs.inner.Fates.{untouched, taken, reposted, answe
 
 use crate::inbox::{Fate, Inbox};
 use anti_ids::NoMemory;
-use anti_kind::Message;
+use anti_kind::{Handle, Message};
 
 impl Inbox {
     ghost use Rattle.anti_kind.specs.declared.call.Call.TheVariants.{Take, Repost};
@@ -14,7 +14,7 @@ impl Inbox {
     ghost use Rattle.anti_inbox.specs.inner.Inboxes.{start_of, At, InboxStands, Turns};
 
     // Adds a message, with a delivery that is free. All of it is added or nothing.
-    pub(crate) fn post(&mut self, message: Message) -> Result<(), NoMemory>
+    pub(crate) fn post(&mut self, message: Handle<Message>) -> Result<(), NoMemory>
         requires { length self.old.messages.items + 1 < 2 ^ 32 }
         ensures ok { OnOk result (Turns self.old self.new (self.old.messages.items ++ message ∷ []) (self.old.fates.items ++ untouched ∷ [])
             (self.old.free.items ++ (length self.old.messages.items + 1) ∷ [])) }
@@ -82,7 +82,7 @@ impl Inbox {
     }
 
     // Keeps the reply to a call.
-    pub(crate) fn answer(&mut self, number: u32, reply: Message)
+    pub(crate) fn answer(&mut self, number: u32, reply: Handle<Message>)
         requires some { 1 ≤ number }
         requires within { number ≤ length self.old.fates.items }
         ensures { (d : Fate) → Turns self.old self.new self.old.messages.items

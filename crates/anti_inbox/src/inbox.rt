@@ -6,7 +6,7 @@ ghost use Rattle.anti_kind.specs.Objects.{inbox, IsStart};
 ghost use Rattle.anti_inbox.specs.inner.Fates.{fate_of, untouched};
 
 use anti_ids::NoMemory;
-use anti_kind::{Message, MessageKind, Messages};
+use anti_kind::{Handle, Message, MessageKind, Messages};
 use std::alloc::Global;
 
 /// What became of a message: whether it was taken, whether it was delivered again, and, where it is a call, its reply and whether
@@ -15,7 +15,7 @@ use std::alloc::Global;
 pub(crate) struct Fate {
     pub(crate) taken: bool,
     pub(crate) reposted: bool,
-    pub(crate) reply: Option<Message>,
+    pub(crate) reply: Option<Handle<Message>>,
     pub(crate) heard: bool,
 }
 
@@ -75,7 +75,7 @@ impl Inbox {
             return false;
         }
         match self.messages.as_slice().get(number as usize - 1) {
-            Some(message) => message.kind == MessageKind::Call,
+            Some(message) => message.get().kind == MessageKind::Call,
             None => false,
         }
     }
@@ -91,7 +91,7 @@ impl Inbox {
     }
 
     // The reply to the call with a number.
-    pub(crate) fn reply(&self, number: u32) -> Option<&Message>
+    pub(crate) fn reply(&self, number: u32) -> Option<&Handle<Message>>
         ensures { (h : List Entry) → At self.now h
             → MatchOption result (slice_get (replies h number) 0 ≡ None) (λ m. slice_get (replies h number) 0 ≡ Some m.now) }
     {

@@ -5,8 +5,8 @@ ghost use Rattle.anti_kind.specs.Inbox.{free, got_of, handed, messages, numbered
 ghost use Rattle.anti_kind.specs.Objects.{Follows, MayMake};
 
 use crate::inbox::Inbox;
-use anti_ids::{Copies, NoMemory};
-use anti_kind::{Awaited, Call, Machine, Message, MessageKind, Reply};
+use anti_ids::NoMemory;
+use anti_kind::{Awaited, Call, Handle, Machine, Message, MessageKind, Reply};
 
 impl Inbox {
     ghost use Rattle.anti_inbox.specs.inner.Inboxes.{start_of, requests_of, At, InboxStands, Keeps, Knows};
@@ -30,7 +30,7 @@ impl Inbox {
             → IfOk result (λ r. r ≡ handed (messages (requests_of self.now) h) (numbered (free (requests_of self.now) h) nth)) }
     {
         let number = self.free[nth as usize - 1];
-        let message = self.messages.at(number as usize - 1).copy(self.alloc)?;
+        let message = self.messages.at(number as usize - 1).share()?;
         Ok(Reply::Got { number, message })
     }
 
@@ -40,22 +40,22 @@ impl Inbox {
     {
         match self.reply(number) {
             Some(message) => {
-                let message = message.copy(self.alloc)?;
+                let message = message.share()?;
                 Ok(Reply::Got { number, message })
             }
             None => Ok(Reply::Done),
         }
     }
 
-    // Notes a message that is posted.
-    fn note_post(&mut self, message: &Message) -> Result<(), NoMemory>
-        requires { MayMake (start_of self.old) (InboxStands self.old) (Post message.now) }
+    // Notes a message that is posted, and keeps it.
+    fn note_post(&mut self, message: &Message, kept: Handle<Message>) -> Result<(), NoMemory>
+        requires may { MayMake (start_of self.old) (InboxStands self.old) (Post message.now) }
+        requires same { kept ≡ message.now }
         ensures ok { (h : List Entry) (e : Entry) → At self.old h → Follows (start_of self.old) h e → e.call ≡ Post message.now
             → OnOk result (Knows self.new (h ++ e ∷ [])) }
         ensures err { (h : List Entry) → Knows self.old h → OnErr result (Knows self.new h) }
         ensures keeps { Keeps self.old self.new }
     {
-        let kept = message.copy(self.alloc)?;
         match message.kind {
             MessageKind::Reply => {
                 self.answer(message.to, kept);
@@ -74,7 +74,7 @@ impl Inbox {
         ensures keeps { Keeps self.old self.new }
     {
         match c {
-            Call::Post { message } => self.note_post(message),
+            Call::Post { message } => self.note_post(message.get(), message.share()?),
             Call::Take { nth } => {
                 self.take(*nth);
                 Ok(())
@@ -99,7 +99,7 @@ impl Machine for Inbox {
 
     fn ready(&self, c: &Call) -> bool {
         match c {
-            Call::Post { message } => self.can_post(message),
+            Call::Post { message } => self.can_post(message.get()),
             Call::Take { nth } => *nth >= 1 && *nth as usize <= self.free.len(),
             Call::Repost { number } => *number >= 1 && *number as usize <= self.messages.len(),
             Call::TakeReply { number } => self.has_reply(*number) && !self.is_heard(*number),
@@ -109,7 +109,7 @@ impl Machine for Inbox {
 
     fn need(&self, c: &Call) -> u32 {
         match c {
-            Call::Post { message } => match message.kind {
+            Call::Post { message } => match message.get().kind {
                 MessageKind::Call => 4,
                 MessageKind::Send => 2,
                 _ => 0,
@@ -156,7 +156,7 @@ impl Machine for Inbox {
 
     fn due(&self, c: &Call) -> Result<Reply, NoMemory> {
         match c {
-            Call::Post { message } => match message.kind {
+            Call::Post { message } => match message.get().kind {
                 MessageKind::Reply => Ok(Reply::Done),
                 _ => Ok(Reply::Posted(self.messages.len() as u32 + 1)),
             },

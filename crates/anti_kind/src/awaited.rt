@@ -55,7 +55,7 @@ impl Call {
         ensures { result ≡ brought self.now }
     {
         match self {
-            Call::Post { message } => posted_as(message.kind, message.to),
+            Call::Post { message } => posted_as(message.get().kind, message.get().to),
             Call::Repost { .. } => Brought::Delivered,
             Call::Write { .. } => Brought::Written,
             Call::Ship {

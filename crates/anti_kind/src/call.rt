@@ -1,3 +1,4 @@
+use crate::handle::Handle;
 use crate::message::Message;
 use crate::row::{Row, Rows};
 use anti_ids::{Copies, Lineage, Name, NoMemory, Value};
@@ -9,9 +10,9 @@ use std::alloc::Global;
 pub enum Call {
     /// Writes a value to a key, or, in a queue and a topic, to a channel.
     Write {
-        key: Name,
+        key: Handle<Name>,
         value: Value,
-        lineage: Lineage,
+        lineage: Handle<Lineage>,
     },
     /// Reads what a region shows for a key.
     Read {
@@ -31,7 +32,7 @@ pub enum Call {
     /// Asks which ids are not visible at a region. A dry one is answered whatever it finds.
     Look {
         region: u32,
-        ids: Lineage,
+        ids: Handle<Lineage>,
         dry: bool,
     },
     /// Brings a part of a version to a region.
@@ -65,7 +66,7 @@ pub enum Call {
     },
     /// Posts a message to an inbox.
     Post {
-        message: Message,
+        message: Handle<Message>,
     },
     /// Takes the message of the nth free delivery.
     Take {
@@ -86,26 +87,26 @@ pub enum Call {
 pub enum Reply {
     /// The key and the version that was written.
     Written {
-        key: Name,
+        key: Handle<Name>,
         version: u64,
     },
     /// The rows that a read shows.
     Shown(Rows),
     /// The ids that are not visible, and those that nobody wrote.
     Missing {
-        missing: Lineage,
-        unwritten: Lineage,
+        missing: Handle<Lineage>,
+        unwritten: Handle<Lineage>,
     },
     /// A part was brought.
     Moved,
     /// The row of the message or cell.
-    Pulled(Row),
+    Pulled(Handle<Row>),
     /// The number of the message that was posted.
     Posted(u32),
     /// The message that was taken, with its number; of a reply, the number of its call.
     Got {
         number: u32,
-        message: Message,
+        message: Handle<Message>,
     },
     /// It was done.
     Done,
@@ -119,10 +120,11 @@ impl Copies for Call {
                 value,
                 lineage,
             } => {
+                let key = key.share()?;
                 let value = value.copy(alloc)?;
                 let lineage = lineage.copy(alloc)?;
                 Ok(Call::Write {
-                    key: *key,
+                    key,
                     value,
                     lineage,
                 })
@@ -186,10 +188,13 @@ impl Copies for Call {
 impl Copies for Reply {
     fn copy(&self, alloc: Global) -> Result<Reply, NoMemory> {
         match self {
-            Reply::Written { key, version } => Ok(Reply::Written {
-                key: *key,
-                version: *version,
-            }),
+            Reply::Written { key, version } => {
+                let key = key.share()?;
+                Ok(Reply::Written {
+                    key,
+                    version: *version,
+                })
+            }
             Reply::Shown(rows) => {
                 let rows = rows.copy(alloc)?;
                 Ok(Reply::Shown(rows))

@@ -7,6 +7,7 @@ mod asking;
 mod awaited;
 mod call;
 mod entry;
+mod handle;
 mod kind;
 mod laws;
 mod lone;
@@ -22,6 +23,7 @@ pub use asking::Asking;
 pub use awaited::{Awaited, Brought};
 pub use call::{Call, Reply};
 pub use entry::{Entry, History};
+pub use handle::Handle;
 pub use kind::Kind;
 pub use laws::{
     asking_stays_ready, calls_name_own, full_stays_full, looks_are_right, need_never_falls,

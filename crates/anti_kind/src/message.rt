@@ -1,3 +1,4 @@
+use crate::handle::Handle;
 use anti_baggage::Baggage;
 use anti_ids::{Copies, List, Name, NoMemory, Value};
 use std::alloc::Global;
@@ -24,7 +25,7 @@ pub struct Message {
 }
 
 /// A list of messages.
-pub type Messages = List<Message>;
+pub type Messages = List<Handle<Message>>;
 
 impl Copies for Message {
     fn copy(&self, alloc: Global) -> Result<Message, NoMemory> {

@@ -48,7 +48,7 @@ impl Machine for Kv {
                 version,
                 part,
             } => self.base.was_shipped(*region, *version, *part),
-            Call::Look { region, ids, dry } => self.base.can_look(*region, ids, *dry),
+            Call::Look { region, ids, dry } => self.base.can_look(*region, ids.get(), *dry),
             Call::Read { region, .. } => self.base.is_replica(*region),
             _ => false,
         }
@@ -76,7 +76,7 @@ impl Machine for Kv {
 
     fn awaits(&self, c: &Call) -> Option<Awaited> {
         match c {
-            Call::Look { region, ids, dry } => self.base.look_awaits(*region, ids, *dry),
+            Call::Look { region, ids, dry } => self.base.look_awaits(*region, ids.get(), *dry),
             _ => None,
         }
     }
@@ -84,12 +84,12 @@ impl Machine for Kv {
     fn due(&self, c: &Call) -> Result<Reply, NoMemory> {
         match c {
             Call::Write { key, .. } => Ok(Reply::Written {
-                key: *key,
+                key: key.share()?,
                 version: self.base.next_version(),
             }),
             Call::Ship { .. } => Ok(Reply::Moved),
             Call::Again { .. } => Ok(Reply::Moved),
-            Call::Look { region, ids, .. } => self.base.look(*region, ids),
+            Call::Look { region, ids, .. } => self.base.look(*region, ids.get()),
             Call::Read { region, key } => self.base.read(*region, key),
             _ => unreachable!(),
         }
@@ -102,7 +102,7 @@ impl Machine for Kv {
                 value,
                 lineage,
             } => {
-                self.base.write(*key, value, lineage)?;
+                self.base.write(*key.get(), value, lineage.get())?;
                 Ok(())
             }
             Call::Ship {

@@ -2,6 +2,8 @@ ghost use Rattle.std.specs.Prelude.{◌≡◌};
 ghost use Rattle.anti_lang.specs.Parsing.{fault_at};
 
 use anti_ids::NoMemory;
+use std::fmt;
+use thiserror::Error;
 
 /// What is wrong with a line of a body.
 #[derive(Clone, Copy, Debug, PartialEq, Eq)]
@@ -15,12 +17,24 @@ pub enum LangCode {
     Variable,
 }
 
+impl fmt::Display for LangCode {
+    fn fmt<W: fmt::Write>(&self, f: &mut fmt::Formatter<W>) -> fmt::Result {
+        f.write_str(match self {
+            LangCode::Unknown => "is no statement",
+            LangCode::Block => "has a block that is not right",
+            LangCode::Variable => "has a variable that is not right",
+        })
+    }
+}
+
 /// Why lines are no body.
-#[derive(Clone, Copy, Debug, PartialEq, Eq)]
+#[derive(Clone, Copy, Debug, PartialEq, Eq, Error)]
 pub enum LangFault {
     /// This line, counted from 1, is the first that is wrong so.
+    #[error("line {line} {code}")]
     Line { line: u32, code: LangCode },
     /// There was no memory. It says nothing of the lines.
+    #[error("no memory")]
     NoMemory,
 }
 

@@ -12,7 +12,7 @@ use anti_baggage::Baggage;
 use anti_blob::Blob;
 use anti_ids::{Bytes, Copies, List, NoMemory};
 use anti_inbox::Inbox;
-use anti_kind::{Message, MessageKind, Messages, StoreKind, Sub};
+use anti_kind::{Handle, Message, MessageKind, Messages, StoreKind, Sub};
 use anti_kv::Kv;
 use anti_queue::Queue;
 use anti_table::Table;
@@ -117,17 +117,18 @@ fn message_to(
     alloc: Global,
     request: &RequestDef,
     handler: &HandlerDef,
-) -> Result<Message, NoMemory>
+) -> Result<Handle<Message>, NoMemory>
     ensures { IfOk result (λ m. m ∷ [] ≡ message_to request.now (Some handler.now)) }
 {
-    Ok(Message {
+    let message = Message {
         kind: MessageKind::Request,
         to: 0,
         depth: 0,
         handler: handler.name,
         value: request.value.copy(alloc)?,
         baggage: Baggage::from_text(empty_lineage(alloc)?),
-    })
+    };
+    Handle::new(alloc, message)
 }
 
 // The text of the empty lineage.

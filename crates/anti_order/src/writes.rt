@@ -26,7 +26,7 @@ fn id_written(entry: &Entry) -> Option<WriteId>
     match (&entry.call, &entry.reply) {
         (Call::Write { .. }, Reply::Written { key, version }) if *version > 0 => Some(WriteId {
             store: entry.object,
-            key: *key,
+            key: *key.get(),
             version: *version,
         }),
         _ => None,

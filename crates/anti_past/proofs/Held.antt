@@ -2,7 +2,8 @@
 use Rattle.std.proofs.Common.{◌≡◌, ℕ, ◌&&◌, ◌++◌, Bool, true, false, List, [], ◌∷◌, refl, sym, ap, ◌∙◌, inl, inr}
 use Rattle.std.specs.List.{list_all}
 use Rattle.std.proofs.lemmas.Bool.{and_from, and_parts, or_cases, or_left, or_right}
-use Rattle.std.proofs.lemmas.List.Folds.{list_all-append}
+use Rattle.std.proofs.lemmas.List.{append_assoc}
+use Rattle.std.proofs.lemmas.List.Folds.{list_all-append, list_any-append}
 use Rattle.anti_ids.specs.Ids.{has_id, is_id}
 use Rattle.anti_ids.specs.List.{Listed}
 use Rattle.anti_ids.specs.declared.id.WriteId.{WriteId}
@@ -15,7 +16,7 @@ use Rattle.anti_kind.specs.declared.row.Row.{Row}
 use Rattle.anti_app.specs.declared.app.App.{App}
 use Rattle.anti_proc.specs.Local.{id_at, row_ids, rows_ids}
 use Rattle.anti_causal.specs.Words.{comes_with, reads}
-use Rattle.anti_past.specs.inner.Came.{holds}
+use Rattle.anti_past.specs.inner.Came.{IsRear, holds}
 
 pub holds_both : (lineage xs ys : List WriteId) → holds lineage (xs ++ ys) ≡ (holds lineage xs && holds lineage ys)
 holds_both lineage xs ys = list_all-append (λ w. has_id w lineage) xs ys
@@ -30,6 +31,17 @@ holds_rows_ids lineage store [] = refl
 holds_rows_ids lineage store (row ∷ rows) =
     holds_both lineage (row_ids store row) (rows_ids store rows)
     ∙ ap (λ (t : Bool). holds lineage (row_ids store row) && t) (holds_rows_ids lineage store rows)
+
+-- the rear of a lineage, whose next id is met
+pub rear_met : (lineage rest met : List WriteId) (i : WriteId) → IsRear lineage rest → rest ≡ i ∷ met → IsRear lineage met
+rear_met lineage rest met i rear is =
+    (rear.0 ++ i ∷ [], rear.1 ∙ ap (λ (t : List WriteId). rear.0 ++ t) is ∙ sym (append_assoc rear.0 (i ∷ []) met))
+
+pub rear_has : (lineage rest met : List WriteId) (i : WriteId) → IsRear lineage rest → rest ≡ i ∷ met → has_id i lineage ≡ true
+rear_has lineage rest met i rear is =
+    ap (has_id i) (rear.1 ∙ ap (λ (t : List WriteId). rear.0 ++ t) is)
+    ∙ list_any-append (λ j. is_id i j) rear.0 (i ∷ met)
+    ∙ or_right (has_id i rear.0) (has_id i (i ∷ met)) (or_left (is_id i i) (has_id i met) (is_id-itself i))
 
 -- what is so of all ids is so of each that is among them, and the other way round
 module _ (p : WriteId → Bool) where

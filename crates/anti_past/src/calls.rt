@@ -46,7 +46,7 @@ fn names_none(reply: &Reply) -> bool
     ensures { result ≡ names_none reply.now }
 {
     match reply {
-        Reply::Missing { missing, .. } => missing.is_empty(),
+        Reply::Missing { missing, .. } => missing.get().is_empty(),
         _ => false,
     }
 }
@@ -58,7 +58,7 @@ pub fn found_in(entry: &Entry) -> Option<&Lineage>
     match &entry.call {
         Call::Look { ids, .. } => {
             if names_none(&entry.reply) {
-                Some(ids)
+                Some(ids.get())
             } else {
                 None
             }

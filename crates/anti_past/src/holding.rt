@@ -4,21 +4,35 @@ ghost use Rattle.anti_app.specs.Sound.{is_sound};
 ghost use Rattle.anti_causal.specs.Words.{brings};
 ghost use Rattle.anti_proc.specs.Local.{id_at, row_ids};
 ghost use Rattle.anti_proc.specs.Meaning.{stated_in};
-ghost use Rattle.anti_past.specs.inner.Came.{brought_at, holds, ids_since};
+ghost use Rattle.anti_ids.specs.Ids.{has_id};
+ghost use Rattle.anti_past.specs.inner.Came.{IsRear, brought_at, holds, ids_since};
 
 use anti_app::{App, store_names};
 use anti_baggage::BaggageFault;
-use anti_ids::{Lineage, Name, NoMemory, WriteId};
+use anti_ids::{Ids, Lineage, Name, NoMemory, WriteId};
 use anti_kind::{Call, Entry, Message, Reply, Row};
 use anti_trace::Trace;
 use std::alloc::Global;
 
-/// Whether all ids of a lineage are in another.
+// Whether an id is in a lineage, of which the rest was not met yet. The next of the rest is compared first.
+fn holds_next(lineage: &Lineage, rest: &mut Ids<'_>, id: &WriteId) -> bool
+    requires { IsRear lineage.now rest.old }
+    ensures is { result ≡ has_id id.now lineage.now }
+    ensures rear { IsRear lineage.now rest.new }
+{
+    match rest.next() {
+        Some(met) => met == *id || lineage.contains(id),
+        None => lineage.contains(id),
+    }
+}
+
+/// Whether all ids of a lineage are in another. What was carried before is mostly a front of what is carried now.
 pub fn holds_all(lineage: &Lineage, ids: &Lineage) -> bool
     ensures { result ≡ holds lineage.now ids.now }
 {
+    let mut rest = lineage.iter();
     for id in ids.iter() {
-        if !lineage.contains(&id) {
+        if !holds_next(lineage, &mut rest, &id) {
             return false;
         }
     }
@@ -96,16 +110,24 @@ fn holds_brought(
     let store = entry.object;
     match (&entry.call, &entry.reply) {
         (Call::Write { .. }, Reply::Written { key, version }) => Ok(holds_version(
-            lineage, store, *key, *version,
+            lineage,
+            store,
+            *key.get(),
+            *version,
         )),
         (Call::Read { .. }, Reply::Shown(rows)) => Ok(holds_rows(lineage, store, rows.as_slice())),
         (Call::Scan { .. }, Reply::Shown(rows)) => Ok(holds_rows(lineage, store, rows.as_slice())),
         (Call::Poll { .. }, Reply::Shown(rows)) => Ok(holds_rows(lineage, store, rows.as_slice())),
         (Call::Pull { .. } | Call::Repull { .. }, Reply::Pulled(row)) => Ok(holds_row(
-            lineage, store, row,
+            lineage,
+            store,
+            row.get(),
         )),
         (Call::Take { .. } | Call::TakeReply { .. }, Reply::Got { message, .. }) => holds_message(
-            alloc, app, lineage, message,
+            alloc,
+            app,
+            lineage,
+            message.get(),
         ),
         _ => Ok(true),
     }

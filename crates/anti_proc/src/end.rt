@@ -2,6 +2,7 @@ ghost use Rattle.std.specs.Prelude.{◌≡◌};
 ghost use Rattle.anti_proc.specs.Trees.{end_as};
 
 use anti_ids::NoMemory;
+use thiserror::Error;
 
 /// How a process ends by its body.
 #[derive(Clone, Copy, Debug, PartialEq, Eq)]
@@ -44,12 +45,14 @@ pub fn end_as(end: BodyEnd) -> End
 }
 
 /// Why a process took no message or reply.
-#[derive(Clone, Copy, Debug, PartialEq, Eq)]
+#[derive(Clone, Copy, Debug, PartialEq, Eq, Error)]
 pub enum ProcFault {
     /// The message, the row or the reply is none of the application's: the service has not the handler that is named, it is too deep, its
     /// baggage states no lineage, or an id in it is of no store.
+    #[error("the message, the row or the reply is none of the application")]
     Foreign,
     /// There was no memory.
+    #[error("no memory")]
     NoMemory,
 }
 

@@ -69,10 +69,10 @@ pub fn brought(alloc: Global, app: &App, reply: &Reply) -> Result<Lineage, ProcF
         Reply::Shown(rows) => none_unless(alloc, !have_stores(app, rows.as_slice())),
         Reply::Missing { missing, unwritten } => none_unless(
             alloc,
-            !(has_stores(app, missing) && has_stores(app, unwritten)),
+            !(has_stores(app, missing.get()) && has_stores(app, unwritten.get())),
         ),
-        Reply::Pulled(row) => none_unless(alloc, !has_stores(app, &row.lineage)),
-        Reply::Got { message, .. } => stated(alloc, app, message),
+        Reply::Pulled(row) => none_unless(alloc, !has_stores(app, &row.get().lineage)),
+        Reply::Got { message, .. } => stated(alloc, app, message.get()),
         _ => Ok(Lineage::root(alloc)),
     }
 }

@@ -16,7 +16,7 @@ use crate::task::Duty;
 use anti_app::{App, store_names};
 use anti_baggage::Baggage;
 use anti_ids::{Copies, Name, NoMemory, Value};
-use anti_kind::{Call, Message, MessageKind, Reply};
+use anti_kind::{Call, Handle, Message, MessageKind, Reply};
 use std::alloc::Global;
 
 // The text of what a process carries. Its last baggage serves again where it is that text.
@@ -49,20 +49,23 @@ pub fn message(
     variable: &Option<Name>,
     handler: Name,
     value: Value,
-) -> Result<Message, NoMemory>
+) -> Result<Handle<Message>, NoMemory>
     requires { given.now.role.depth < MOST_DEPTH }
     ensures { IfOk result (λ m. m ≡ message (kind_of variable.now) (setting app.now given.now)
         (local_in draft.now) handler value) }
 {
     let baggage = baggage(given.alloc, app, draft)?;
-    Ok(Message {
-        kind: kind_of(variable),
-        to: 0,
-        depth: given.role.depth + 1,
-        handler,
-        value,
-        baggage,
-    })
+    Handle::new(
+        given.alloc,
+        Message {
+            kind: kind_of(variable),
+            to: 0,
+            depth: given.role.depth + 1,
+            handler,
+            value,
+            baggage,
+        },
+    )
 }
 
 // The reply to the call of a number, by a handler.
@@ -72,20 +75,23 @@ fn answer(
     app: &App,
     number: u32,
     handler: Name,
-) -> Result<Message, NoMemory>
+) -> Result<Handle<Message>, NoMemory>
     ensures { IfOk result (λ m. m
         ≡ answer (setting app.now given.now) (local_in draft.now) number handler) }
 {
     let value = draft.changes.reply.copy(given.alloc)?;
     let baggage = baggage(given.alloc, app, draft)?;
-    Ok(Message {
-        kind: MessageKind::Reply,
-        to: number,
-        depth: 0,
-        handler,
-        value,
-        baggage,
-    })
+    Handle::new(
+        given.alloc,
+        Message {
+            kind: MessageKind::Reply,
+            to: number,
+            depth: 0,
+            handler,
+            value,
+            baggage,
+        },
+    )
 }
 
 /// What is next after a message was posted to an inbox: the reply to a call is to be taken, and a send has none.

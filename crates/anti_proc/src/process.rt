@@ -14,9 +14,8 @@ use crate::foreign::brought;
 use crate::run::{Advance, Life, begun};
 use crate::task::{Role, Task};
 use anti_app::App;
-use anti_baggage::Baggage;
-use anti_ids::{Copies, Lineage, NoMemory};
-use anti_kind::{Birth, Call, Entry, Reply};
+use anti_ids::{Lineage, NoMemory};
+use anti_kind::{Birth, Call, Entry, Handle, Message, Reply};
 use std::alloc::Global;
 
 /// The call that a process makes next, and the lineage that it carries into it. Objects are numbered from 0, first the stores and then the
@@ -39,10 +38,10 @@ pub struct Process {
     life: Life,
 }
 
-// The baggage of the message with which an entry starts a process; `None` where it has none.
-fn came_with(alloc: Global, entry: &Entry) -> Result<Option<Baggage>, NoMemory> {
+// The message with which an entry starts a process; `None` where it has none.
+fn came_with(entry: &Entry) -> Result<Option<Handle<Message>>, NoMemory> {
     match &entry.reply {
-        Reply::Got { message, .. } => Ok(Some(message.baggage.copy(alloc)?)),
+        Reply::Got { message, .. } => Ok(Some(message.share()?)),
         _ => Ok(None),
     }
 }
@@ -64,7 +63,7 @@ impl Process {
     {
         let task = Task::of(alloc, app, entry)?;
         let role = task.role;
-        let life = begun(alloc, app, task, came_with(alloc, entry)?)?;
+        let life = begun(alloc, app, task, came_with(entry)?)?;
         Ok(Process {
             alloc,
             birth: Birth {

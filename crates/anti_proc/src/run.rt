@@ -21,7 +21,7 @@ use crate::variables::{Held, Variable};
 use anti_app::{App, body_of};
 use anti_baggage::Baggage;
 use anti_ids::{Copies, Lineage, Name, NoMemory, WriteId};
-use anti_kind::{Call, Reply};
+use anti_kind::{Call, Handle, Message, Reply};
 use std::alloc::Global;
 use std::mem;
 
@@ -33,8 +33,8 @@ pub struct Run {
     pub cursor: Cursor,
     pub state: State,
     pub next: Next,
-    // The baggage that it posted or came with, before its next call. It may serve again, and means nothing else.
-    pub posted: Option<Baggage>,
+    // The message that it posted or came with, before its next call. Its baggage may serve again, and it means nothing else.
+    pub posted: Option<Handle<Message>>,
 }
 
 /// A process that goes on, or has ended, and then holds nothing more.
@@ -100,12 +100,12 @@ impl<'g, 'o> Way<'g, 'o> {
     }
 }
 
-// What a process is that begins a task, with the baggage with which it came.
+// What a process is that begins a task, with the message with which it came.
 pub fn begun(
     alloc: Global,
     app: &App,
     task: Task,
-    posted: Option<Baggage>,
+    posted: Option<Handle<Message>>,
 ) -> Result<Life, NoMemory>
     requires { CanRun app.now }
     ensures tree { IfOk result (λ life. life_tree app.now life ≡ task_tree app.now task) }
@@ -125,7 +125,7 @@ pub fn begun(
     let mut way = Way {
         given: &given,
         cursor: Cursor::start(alloc),
-        draft: state.draft(alloc, Since::Same, posted.as_ref())?,
+        draft: state.draft(alloc, Since::Same, baggage_of(&posted))?,
     };
     let stage = way.settle(app)?;
     let (cursor, changes) = (way.cursor, way.draft.changes);
@@ -145,10 +145,18 @@ pub fn begun(
     }
 }
 
-// Keeps the baggage of a call that posts it.
-fn keep(posted: &mut Option<Baggage>, call: Call) {
+// The baggage of a message, where there is one.
+fn baggage_of(message: &Option<Handle<Message>>) -> Option<&Baggage> {
+    match message {
+        Some(message) => Some(&message.get().baggage),
+        None => None,
+    }
+}
+
+// Keeps the message of a call that posts it.
+fn keep(posted: &mut Option<Handle<Message>>, call: Call) {
     if let Call::Post { message } = call {
-        *posted = Some(message.baggage);
+        *posted = Some(message);
     }
 }
 
@@ -156,8 +164,8 @@ impl Run {
     // The baggage that it posts next, or else posted last or came with.
     fn last_baggage(&self) -> Option<&Baggage> {
         match &self.next.call {
-            Call::Post { message } => Some(&message.baggage),
-            _ => self.posted.as_ref(),
+            Call::Post { message } => Some(&message.get().baggage),
+            _ => baggage_of(&self.posted),
         }
     }
 
@@ -252,7 +260,7 @@ impl Run {
             Reply::Written { key, version } => {
                 let id = WriteId {
                     store: self.next.object,
-                    key: *key,
+                    key: *key.get(),
                     version: *version,
                 };
                 self.holding_write(app, &id, variable, untracked)
@@ -303,7 +311,7 @@ impl Run {
         let Reply::Got { message, .. } = reply else {
             return self.passed(app, None);
         };
-        let value = message.value.copy(self.given.alloc)?;
+        let value = message.get().value.copy(self.given.alloc)?;
         let since = Since::Set(Variable {
             name: variable,
             held: Held::Heard(value),

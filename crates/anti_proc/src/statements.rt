@@ -20,7 +20,7 @@ use crate::state::Draft;
 use crate::words::{cell_key, plain_key, text_of};
 use anti_app::{App, inbox_of, store_number, stores_here};
 use anti_ids::{Copies, MOST_DEPTH, Name, NoMemory, Value};
-use anti_kind::Call;
+use anti_kind::{Call, Handle};
 use anti_lang::{KeyWord, Statement, ValueWord};
 use anti_shim::plan;
 
@@ -61,7 +61,8 @@ fn write(
         → stage_tree stage (setting app given.now) (local_in draft.now) go
         ≡ write_call store value variable untracked (local_in draft.now) go key) }
 {
-    let lineage = draft.changes.carried.copy(given.alloc)?;
+    let key = Handle::new(given.alloc, key)?;
+    let lineage = Handle::new(given.alloc, draft.changes.carried.copy(given.alloc)?)?;
     Ok(Stage::Asks(Next {
         object: store,
         call: Call::Write {

@@ -91,8 +91,8 @@ fn role_taken(app: &App, inbox: u32, service: usize, reply: &Reply) -> Option<Ro
     ensures { result ≡ role_taken app.now inbox service reply.now }
 {
     match reply {
-        Reply::Got { number, message } if is_for(app, service, message) => {
-            Some(role_in(app, inbox, service, *number, message))
+        Reply::Got { number, message } if is_for(app, service, message.get()) => {
+            Some(role_in(app, inbox, service, *number, message.get()))
         }
         _ => None,
     }
@@ -130,7 +130,7 @@ fn role_pulled(app: &App, store: u32, position: u32, reply: &Reply) -> Option<Ro
         return None;
     };
     match sub_on(app, store, position as usize) {
-        Some(sub) => Some(role_on(app, store, row.version, sub)),
+        Some(sub) => Some(role_on(app, store, row.get().version, sub)),
         None => None,
     }
 }
@@ -251,8 +251,8 @@ impl Task {
             return Err(ProcFault::Foreign);
         };
         match &entry.reply {
-            Reply::Got { message, .. } => task_of_message(alloc, app, role, message),
-            Reply::Pulled(row) => task_of_row(alloc, app, role, entry.object, row),
+            Reply::Got { message, .. } => task_of_message(alloc, app, role, message.get()),
+            Reply::Pulled(row) => task_of_row(alloc, app, role, entry.object, row.get()),
             _ => Err(ProcFault::Foreign),
         }
     }

@@ -5,7 +5,7 @@ ghost use Rattle.anti_queue.specs.QueueStarts.{queue_start};
 use crate::messages::Messages;
 use crate::subscribers::Subscribers;
 use anti_ids::NoMemory;
-use anti_kind::{Awaited, Call, Kind, Machine, Reply, StoreKind, Sub};
+use anti_kind::{Awaited, Call, Handle, Kind, Machine, Reply, StoreKind, Sub};
 use anti_replicas::{Channels, Replicas};
 use std::alloc::Global;
 
@@ -60,7 +60,7 @@ impl Machine for Queue {
 
     fn ready(&self, c: &Call) -> bool {
         match c {
-            Call::Write { key, .. } => key.plain(),
+            Call::Write { key, .. } => key.get().plain(),
             Call::Ship {
                 region,
                 version,
@@ -71,7 +71,7 @@ impl Machine for Queue {
                 version,
                 part,
             } => self.base.was_shipped(*region, *version, *part),
-            Call::Look { region, ids, dry } => self.base.can_look(*region, ids, *dry),
+            Call::Look { region, ids, dry } => self.base.can_look(*region, ids.get(), *dry),
             Call::Pull { sub } => self.base.is_version(self.next_version(*sub)),
             Call::Ack { version } => self.messages.is_out(*version),
             Call::Nack { version } => self.messages.is_out(*version),
@@ -101,7 +101,7 @@ impl Machine for Queue {
 
     fn awaits(&self, c: &Call) -> Option<Awaited> {
         match c {
-            Call::Look { region, ids, dry } => self.base.look_awaits(*region, ids, *dry),
+            Call::Look { region, ids, dry } => self.base.look_awaits(*region, ids.get(), *dry),
             Call::Pull { sub } => {
                 if self.base.is_version(self.next_version(*sub)) {
                     return None;
@@ -114,18 +114,18 @@ impl Machine for Queue {
 
     fn due(&self, c: &Call) -> Result<Reply, NoMemory> {
         match c {
-            Call::Write { key, .. } => match self.channels.next_key(key) {
+            Call::Write { key, .. } => match self.channels.next_key(key.get()) {
                 Some(key) => Ok(Reply::Written {
-                    key,
+                    key: Handle::new(self.base.allocator(), key)?,
                     version: self.base.next_version(),
                 }),
                 None => unreachable!(),
             },
             Call::Ship { .. } => Ok(Reply::Moved),
             Call::Again { .. } => Ok(Reply::Moved),
-            Call::Look { region, ids, .. } => self.base.look(*region, ids),
+            Call::Look { region, ids, .. } => self.base.look(*region, ids.get()),
             Call::Pull { sub } => match self.base.written_row(self.next_version(*sub))? {
-                Some(row) => Ok(Reply::Pulled(row)),
+                Some(row) => Ok(Reply::Pulled(Handle::new(self.base.allocator(), row)?)),
                 None => unreachable!(),
             },
             Call::Ack { .. } => Ok(Reply::Done),
@@ -140,7 +140,7 @@ impl Machine for Queue {
                 key,
                 value,
                 lineage,
-            } => self.write(key, value, lineage),
+            } => self.write(key.get(), value, lineage.get()),
             Call::Ship {
                 region,
                 version,

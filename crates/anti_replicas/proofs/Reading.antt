@@ -1,5 +1,5 @@
 -- What is read off the rows that are kept, and the loops over lineages, a step at a time.
-use Rattle.std.proofs.Common.{◌≡◌, ℕ, zero, suc, ◌+◌, ◌-◌, ◌<◌, ◌≤◌, Bool, true, false, cond, not, ◌&&◌, List, [], ◌∷◌, ◌++◌, length, get_or, filter, Some, None, refl, sym, ap, subst, ◌∙◌, ◌⊎◌, inl, inr, ⊎_elim, ◌==◌, eq-eqb, ne_eqb, append_assoc, arith}
+use Rattle.std.proofs.Common.{◌≡◌, ℕ, zero, suc, ◌+◌, ◌-◌, ◌<◌, ◌≤◌, Bool, true, false, cond, not, ◌&&◌, ◌||◌, List, [], ◌∷◌, ◌++◌, length, get_or, filter, Some, None, refl, sym, ap, subst, ◌∙◌, ◌⊎◌, inl, inr, ⊎_elim, ◌==◌, eq-eqb, ne_eqb, append_assoc, arith}
 use Rattle.std.specs.Prelude.{bytes_eq, slice_get}
 use Rattle.std.specs.List.{list_any}
 use Rattle.std.specs.declared.cmp.Ordering.{Ordering}
@@ -136,3 +136,14 @@ length_placed Greater i j js further l = omega arith
 pub length_with : (i : WriteId) (ids : List WriteId) → length (with_id i ids) ≤ length ids + 1
 length_with i [] = omega arith
 length_with i (j ∷ js) = let l : length (placed (id_cmp i j) i j js (with_id i js)) ≤ length js + 2 = length_placed (id_cmp i j) i j js (with_id i js) (length_with i js) in omega arith
+
+-- where no item passes a test, all are left that do not pass
+pub none_passes : {T : Type 0} (p : T → Bool) (xs : List T) → list_any p xs ≡ false → filter (λ x. not (p x)) xs ≡ xs
+none_passes p [] none = refl
+none_passes p (x ∷ xs) none = by_test (p x) refl (λ rest. none_passes p xs rest)
+  where
+    by_test : (b : Bool) → p x ≡ b → (list_any p xs ≡ false → filter (λ y. not (p y)) xs ≡ xs) → filter (λ y. not (p y)) (x ∷ xs) ≡ x ∷ xs
+    by_test true is rest = absurd (let both : true ≡ false = sym (ap (λ b. b || list_any p xs) is) ∙ none in cc)
+    by_test false is rest =
+        ap (λ b. cond (not b) (x ∷ filter (λ y. not (p y)) xs) (filter (λ y. not (p y)) xs)) is
+        ∙ ap (λ ys. x ∷ ys) (rest (sym (ap (λ b. b || list_any p xs) is) ∙ none))

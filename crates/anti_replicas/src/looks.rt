@@ -1,5 +1,5 @@
 ghost use Rattle.std.specs.Prelude.{◌≡◌, ◌<◌, ◌≤◌, ◌&&◌, ◌==◌, nat_le, List, length, IfOk, OnOk};
-ghost use Rattle.std.specs.List.{list_all};
+ghost use Rattle.std.specs.List.{list_all, list_any};
 ghost use Rattle.anti_ids.specs.declared.id.WriteId.{WriteId};
 ghost use Rattle.anti_ids.specs.Ids.{with_id};
 ghost use Rattle.anti_kind.specs.declared.call.Reply.TheVariants.{Missing};
@@ -8,8 +8,8 @@ ghost use Rattle.anti_kind.specs.Stored.{upto_of};
 ghost use Rattle.anti_kind.specs.Store.{Store, is_visible, is_written, missing, unwritten, can_look};
 
 use crate::replicas::Replicas;
-use anti_ids::{Lineage, LineageRefused, MOST_IDS, NoMemory, WriteId};
-use anti_kind::Reply;
+use anti_ids::{Copies, Lineage, LineageRefused, MOST_IDS, NoMemory, WriteId};
+use anti_kind::{Handle, Reply};
 
 // Of the ids of a look, whether all are of the store, all are visible at the region, and all are those of writes.
 #[derive(Clone, Copy)]
@@ -65,8 +65,33 @@ impl Replicas {
         }
     }
 
-    /// The ids that are not visible at the region.
+    // Whether some id is visible at the region.
+    fn shows_some(&self, region: u32, ids: &Lineage) -> bool
+        ensures { (s : Store) (h : List Entry) → At self.now s h
+            → result ≡ list_any (is_visible (showing_whole s) h region) ids.now }
+    {
+        for id in ids.iter() {
+            if self.is_visible(region, &id) {
+                return true;
+            }
+        }
+        false
+    }
+
+    /// The ids that are not visible at the region. Where none is visible, as before anything is shipped, they are all, and take no memory.
     pub fn missing(&self, region: u32, ids: &Lineage) -> Result<Lineage, NoMemory>
+        ensures { (s : Store) (h : List Entry) → At self.now s h
+            → IfOk result (λ l. l ≡ missing (showing_whole s) h region ids.now) }
+    {
+        if self.shows_some(region, ids) {
+            return self.some_missing(region, ids);
+        }
+        let all = ids.copy(self.alloc)?;
+        Ok(all)
+    }
+
+    // The ids that are not visible at the region, one after another.
+    fn some_missing(&self, region: u32, ids: &Lineage) -> Result<Lineage, NoMemory>
         ensures { (s : Store) (h : List Entry) → At self.now s h
             → IfOk result (λ l. l ≡ missing (showing_whole s) h region ids.now) }
     {
@@ -146,8 +171,8 @@ impl Replicas {
         ensures { (s : Store) (h : List Entry) → At self.now s h
             → IfOk result (λ reply. reply ≡ Missing (missing (showing_whole s) h region ids.now) (unwritten h ids.now)) }
     {
-        let missing = self.missing(region, ids)?;
-        let unwritten = self.unwritten(ids)?;
+        let missing = Handle::new(self.alloc, self.missing(region, ids)?)?;
+        let unwritten = Handle::new(self.alloc, self.unwritten(ids)?)?;
         Ok(Reply::Missing { missing, unwritten })
     }
 }

@@ -60,6 +60,11 @@ impl Replicas {
         }
     }
 
+    /// What further memory is of.
+    pub fn allocator(&self) -> Global {
+        self.alloc
+    }
+
     /// Whether the store has a replica in the region.
     pub fn is_replica(&self, region: u32) -> bool
         ensures { (s : Store) (h : List Entry) → At self.now s h → result ≡ is_replica s region }

@@ -7,7 +7,7 @@ use crate::playing::{Run, run_of};
 use anti_app::App;
 use anti_baggage::Baggage;
 use anti_ids::{Bytes, Copies, Name};
-use anti_kind::{Entry, Message, Reply};
+use anti_kind::{Entry, Handle, Message, Reply};
 use anti_proc::{ProcFault, Process};
 use std::alloc::Global;
 use std::test::Fail;
@@ -268,6 +268,15 @@ fn changed(
     };
     let mut text = Bytes::new(alloc);
     text.append(baggage).ok()?;
+    let message = message.get();
+    let changed = Message {
+        kind: message.kind,
+        to: message.to,
+        depth,
+        handler,
+        value: message.value.copy(alloc).ok()?,
+        baggage: Baggage::from_text(text),
+    };
     Some(Entry {
         stamp: entry.stamp,
         object: entry.object,
@@ -278,14 +287,7 @@ fn changed(
         call: entry.call.copy(alloc).ok()?,
         reply: Reply::Got {
             number: *number,
-            message: Message {
-                kind: message.kind,
-                to: message.to,
-                depth,
-                handler,
-                value: message.value.copy(alloc).ok()?,
-                baggage: Baggage::from_text(text),
-            },
+            message: Handle::new(alloc, changed).ok()?,
         },
     })
 }

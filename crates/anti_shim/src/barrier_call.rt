@@ -52,7 +52,7 @@ pub fn barrier<P: Port>(
         if cursor.has(look.store) {
             continue;
         }
-        if let Err(fault) = cursor.look(alloc, port, who, region, look) {
+        if let Err(fault) = cursor.look(port, who, region, look) {
             return BarrierAnswer::refused(fault);
         }
     }

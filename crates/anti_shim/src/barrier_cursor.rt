@@ -7,7 +7,7 @@ use crate::caller::Caller;
 use crate::fault::ShimFault;
 use crate::looks::PlannedLook;
 use crate::sight::{Sights, see};
-use anti_ids::{Copies, List};
+use anti_ids::List;
 use anti_kind::Port;
 use std::alloc::Global;
 use std::marker::Model;
@@ -59,7 +59,6 @@ impl Barrier {
     // Makes a planned look, and keeps its sight.
     pub(crate) fn look<P: Port>(
         &mut self,
-        alloc: Global,
         port: &mut P,
         who: &mut Caller,
         region: u32,
@@ -69,7 +68,7 @@ impl Barrier {
             LooksOnce step region look.now self.old self.new result }
         ensures fixed { (o : ℕ) → P.start port.new o ≡ P.start port.old o }
     {
-        let ids = look.ids.copy(alloc)?;
+        let ids = look.ids.share()?;
         self.seen.reserve(1)?;
         let sight = see(port, who, look.store, region, ids)?;
         self.seen.put(sight);

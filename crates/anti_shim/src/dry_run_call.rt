@@ -9,8 +9,8 @@ ghost use Rattle.anti_shim.specs.inner.Looks.{SeesDry};
 use crate::caller::Caller;
 use crate::fault::ShimFault;
 use crate::looks::plan;
-use anti_ids::{Copies, Lineage};
-use anti_kind::{Call, Port, Reply};
+use anti_ids::Lineage;
+use anti_kind::{Call, Handle, Port, Reply};
 use std::alloc::Global;
 
 /// Makes a dry look at each store of `here` of which the lineage has ids, in ascending order, and
@@ -40,9 +40,9 @@ pub fn dry_run<P: Port>(
         return Err(ShimFault::NoMemory);
     };
     for look in looks.as_slice() {
-        let ids = look.ids.copy(alloc)?;
+        let ids = look.ids.share()?;
         let missing = see_dry(port, who, look.store, region, ids)?;
-        match named.transfer(&missing) {
+        match named.transfer(missing.get()) {
             Ok(()) => {}
             Err(_) => unreachable!(),
         }
@@ -56,8 +56,8 @@ fn see_dry<P: Port>(
     who: &mut Caller,
     store: u32,
     region: u32,
-    ids: Lineage,
-) -> Result<Lineage, ShimFault>
+    ids: Handle<Lineage>,
+) -> Result<Handle<Lineage>, ShimFault>
     ensures answer { let step = between P.Port port.old port.new who.old who.new in
         SeesDry step store region ids result }
     ensures fixed { (o : ℕ) → P.start port.new o ≡ P.start port.old o }

@@ -1,20 +1,27 @@
 use anti_ids::{NoMemory, WriteId};
+use thiserror::Error;
 
 /// Why a call of a shim gives nothing.
-#[derive(Clone, Copy, Debug, PartialEq, Eq)]
+#[derive(Clone, Copy, Debug, PartialEq, Eq, Error)]
 pub enum ShimFault {
     /// The port answered that the call was not ready.
+    #[error("the call was not ready")]
     NotYet,
     /// The port answered that the store is full.
+    #[error("the store holds {held} units, owes {owed}, and the call needs {need}")]
     Full { held: u32, owed: u32, need: u32 },
     /// The port answered that there is no stamp left.
+    #[error("no stamp is left after {clock}")]
     Spent { clock: u64 },
     /// The look was made, and this id is the first that nobody wrote.
+    #[error("nobody wrote version {} of store {}", .0.version, .0.store)]
     Unwritten(WriteId),
     /// The write was made, and its id would be one more than the lineage can have, which is as it
     /// was.
+    #[error("version {} of store {} was written, and the lineage is full", .0.version, .0.store)]
     LineageFull(WriteId),
     /// There was no memory.
+    #[error("no memory")]
     NoMemory,
 }
 

@@ -3,18 +3,19 @@ ghost use Rattle.anti_ids.specs.List.{plain};
 ghost use Rattle.anti_shim.specs.Plans.{plan};
 
 use anti_ids::{Copies, Lineage, List, NoMemory};
+use anti_kind::Handle;
 use std::alloc::Global;
 
 /// A look that a barrier makes: the number of the store, and the ids that it asks for.
 #[derive(Drop)]
 pub struct PlannedLook {
     pub store: u32,
-    pub ids: Lineage,
+    pub ids: Handle<Lineage>,
 }
 
 impl Copies for PlannedLook {
-    fn copy(&self, alloc: Global) -> Result<PlannedLook, NoMemory> {
-        let ids = self.ids.copy(alloc)?;
+    fn copy(&self, _alloc: Global) -> Result<PlannedLook, NoMemory> {
+        let ids = self.ids.share()?;
         Ok(PlannedLook {
             store: self.store,
             ids,
@@ -36,7 +37,10 @@ pub fn plan(alloc: Global, here: &[u32], lineage: &Lineage) -> Result<Looks, NoM
         if ids.is_empty() {
             continue;
         }
-        let look = PlannedLook { store: *store, ids };
+        let look = PlannedLook {
+            store: *store,
+            ids: Handle::new(alloc, ids)?,
+        };
         looks.add(look)?;
     }
     Ok(looks)

@@ -5,7 +5,7 @@ ghost use Rattle.anti_shim.specs.Shims.{Sees};
 use crate::caller::{Caller, Made};
 use crate::fault::ShimFault;
 use anti_ids::{Copies, Lineage, List, NoMemory};
-use anti_kind::{Call, Port, Reply};
+use anti_kind::{Call, Handle, Port, Reply};
 use std::alloc::Global;
 
 /// A look that found nothing missing: the number of the store, and the place and the stamp of the
@@ -32,7 +32,7 @@ pub(crate) fn see<P: Port>(
     who: &mut Caller,
     store: u32,
     region: u32,
-    ids: Lineage,
+    ids: Handle<Lineage>,
 ) -> Result<Sight, ShimFault>
     ensures answer { let step = between P.Port port.old port.new who.old who.new in
         Sees step store region ids result }
@@ -51,7 +51,7 @@ pub(crate) fn see<P: Port>(
     let Reply::Missing { unwritten, .. } = reply else {
         unreachable!()
     };
-    match unwritten.iter().next() {
+    match unwritten.get().iter().next() {
         Some(id) => Err(ShimFault::Unwritten(id)),
         None => Ok(Sight {
             store,

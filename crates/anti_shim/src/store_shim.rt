@@ -1,4 +1,4 @@
-ghost use Rattle.std.specs.Prelude.{◌≡◌, ◌≤◌, ℕ, is_some, true};
+ghost use Rattle.std.specs.Prelude.{◌≡◌, ◌≤◌, ℕ, is_some, true, IfOk};
 ghost use Rattle.anti_ids.specs.Ids.{ids_of};
 ghost use Rattle.anti_shim.specs.Steps.{between};
 ghost use Rattle.anti_shim.specs.Shims.{Appends, IsShown, Polls, Reads, Scans, Sees, Writes};
@@ -9,7 +9,7 @@ use crate::fault::ShimFault;
 use crate::kinds::{ReadByKey, TableStore, TopicStore};
 use crate::sight::{Sight, see};
 use anti_ids::{Copies, Lineage, Name, NoMemory, Roomy, RoomyFull, Value, WriteId};
-use anti_kind::{Call, Port, Reply, Row, Rows};
+use anti_kind::{Call, Handle, Port, Reply, Row, Rows};
 use std::alloc::Global;
 use std::marker::PhantomData;
 
@@ -54,7 +54,7 @@ impl<K> StoreShim<K> {
             Writes step self.now.store key value lineage.old lineage.new result }
         ensures fixed { (o : ℕ) → P.start port.new o ≡ P.start port.old o }
     {
-        let stored = lineage.copy(alloc)?;
+        let (key, stored) = handles_of(alloc, key, lineage)?;
         let taken = std::mem::replace(lineage, Lineage::root(alloc));
         let roomy = match taken.reserve(1) {
             Ok(roomy) => roomy,
@@ -77,9 +77,9 @@ impl<K> StoreShim<K> {
         &self,
         port: &mut P,
         who: &mut Caller,
-        key: Name,
+        key: Handle<Name>,
         value: Value,
-        stored: Lineage,
+        stored: Handle<Lineage>,
     ) -> Result<WriteId, ShimFault>
         ensures answer { let step = between P.Port port.old port.new who.old who.new in
             Puts step self.now.store key value stored result }
@@ -94,7 +94,7 @@ impl<K> StoreShim<K> {
         match &made.reply {
             Reply::Written { key, version } => Ok(WriteId {
                 store: self.store,
-                key: *key,
+                key: *key.get(),
                 version: *version,
             }),
             _ => unreachable!(),
@@ -116,7 +116,7 @@ impl<K> StoreShim<K> {
             Sees step self.now.store self.now.region (ids_of self.now.store ids.now) result }
         ensures fixed { (o : ℕ) → P.start port.new o ≡ P.start port.old o }
     {
-        let ids = ids.ids_of(alloc, self.store)?;
+        let ids = ids_at(alloc, self.store, ids)?;
         see(port, who, self.store, self.region, ids)
     }
 }
@@ -170,6 +170,26 @@ impl StoreShim<TopicStore> {
         let made = who.ask(port, self.store, Call::Poll { region, key })?;
         Ok(only_row(made.reply))
     }
+}
+
+// The key and the lineage of a write, as its call holds them.
+fn handles_of(
+    alloc: Global,
+    key: Name,
+    lineage: &Lineage,
+) -> Result<(Handle<Name>, Handle<Lineage>), NoMemory>
+    ensures { IfOk result (λ handles. (handles.0 ≡ key) × (handles.1 ≡ lineage.now)) }
+{
+    let key = Handle::new(alloc, key)?;
+    let stored = Handle::new(alloc, lineage.copy(alloc)?)?;
+    Ok((key, stored))
+}
+
+// The ids of a store, as a look holds them.
+fn ids_at(alloc: Global, store: u32, lineage: &Lineage) -> Result<Handle<Lineage>, NoMemory>
+    ensures { IfOk result (λ ids. ids ≡ ids_of store lineage.now) }
+{
+    Handle::new(alloc, lineage.ids_of(alloc, store)?)
 }
 
 // The row of a reply that shows just one.

@@ -49,7 +49,7 @@ impl Machine for Table {
                 version,
                 part,
             } => self.base.was_shipped(*region, *version, *part),
-            Call::Look { region, ids, dry } => self.base.can_look(*region, ids, *dry),
+            Call::Look { region, ids, dry } => self.base.can_look(*region, ids.get(), *dry),
             Call::Read { region, .. } => self.base.is_replica(*region),
             Call::Scan { region, .. } => self.base.is_replica(*region),
             _ => false,
@@ -78,7 +78,7 @@ impl Machine for Table {
 
     fn awaits(&self, c: &Call) -> Option<Awaited> {
         match c {
-            Call::Look { region, ids, dry } => self.base.look_awaits(*region, ids, *dry),
+            Call::Look { region, ids, dry } => self.base.look_awaits(*region, ids.get(), *dry),
             _ => None,
         }
     }
@@ -86,12 +86,12 @@ impl Machine for Table {
     fn due(&self, c: &Call) -> Result<Reply, NoMemory> {
         match c {
             Call::Write { key, .. } => Ok(Reply::Written {
-                key: *key,
+                key: key.share()?,
                 version: self.base.next_version(),
             }),
             Call::Ship { .. } => Ok(Reply::Moved),
             Call::Again { .. } => Ok(Reply::Moved),
-            Call::Look { region, ids, .. } => self.base.look(*region, ids),
+            Call::Look { region, ids, .. } => self.base.look(*region, ids.get()),
             Call::Read { region, key } => self.base.read(*region, key),
             Call::Scan { region, prefix } => self.base.scan(*region, prefix),
             _ => unreachable!(),
@@ -105,7 +105,7 @@ impl Machine for Table {
                 value,
                 lineage,
             } => {
-                self.base.write(*key, value, lineage)?;
+                self.base.write(*key.get(), value, lineage.get())?;
                 Ok(())
             }
             Call::Ship {

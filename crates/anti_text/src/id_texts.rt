@@ -3,7 +3,6 @@ ghost use Rattle.std.specs.List.{flat_map};
 ghost use Rattle.anti_baggage.specs.Texts.{lineage_text};
 ghost use Rattle.anti_text.specs.inner.Runs.{IsRun, kept_text, run_text};
 
-use crate::ids::id_text;
 use crate::lists::{empty_lists, item_at, item_count};
 use crate::output::Output;
 use crate::pieces::{Pieces, Run};
@@ -37,7 +36,7 @@ fn add_written(lists: &mut Vec<Vec<WriteId>>, entry: &Entry) -> Result<(), NoMem
     }
     list.push(WriteId {
         store,
-        key: *key,
+        key: *key.get(),
         version: *version,
     })?;
     Ok(())
@@ -123,7 +122,7 @@ impl IdTexts {
             Some(number) => self.pieces.go_on(out, run, number),
             None => {
                 self.pieces.write(out, run)?;
-                id_text(out, self.stores.as_slice(), id)?;
+                out.id(self.stores.as_slice(), id)?;
                 out.put(b",")?;
                 Ok(Run { from: 0, to: 0 })
             }

@@ -4,7 +4,6 @@
 mod call_words;
 mod entry_lines;
 mod id_texts;
-mod ids;
 mod json_items;
 mod lists;
 mod mark_texts;

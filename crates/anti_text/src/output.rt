@@ -2,9 +2,10 @@ ghost use Rattle.std.specs.Prelude.{◌≡◌, ℕ, [], ◌∷◌, ◌++◌, dec
 ghost use Rattle.std.specs.Prelude.{List as Items};
 ghost use Rattle.anti_ids.specs.List.{plain};
 ghost use Rattle.anti_baggage.specs.Escapes.{escaped};
+ghost use Rattle.anti_baggage.specs.Texts.{id_text};
 
-use anti_baggage::escape;
-use anti_ids::{Bytes, List, NoMemory};
+use anti_baggage::{add_id, escape};
+use anti_ids::{Bytes, List, Name, NoMemory, WriteId};
 use itoa::Buffer;
 use std::alloc::Global;
 use std::marker::Model;
@@ -47,6 +48,13 @@ impl Output {
         ensures { OnOk result (self.new ≡ self.old ++ escaped bytes.now) }
     {
         escape(&mut self.bytes, bytes)
+    }
+
+    /// Adds an id at the end, over the names of the stores by their numbers.
+    pub fn id(&mut self, stores: &[Name], id: &WriteId) -> Result<(), NoMemory>
+        ensures { OnOk result (self.new ≡ self.old ++ id_text stores.now id.now) }
+    {
+        add_id(&mut self.bytes, stores, id)
     }
 
     /// Adds a number in decimal at the end.

@@ -4,7 +4,6 @@ ghost use Rattle.anti_text.specs.Spans.{spaced_mark};
 ghost use Rattle.anti_text.specs.inner.Cut.{edge};
 ghost use Rattle.anti_text.specs.inner.Runs.{IsRun, kept_text, run_text};
 
-use crate::ids::id_text;
 use crate::output::Output;
 use crate::words::spaced_mark;
 use anti_app::App;
@@ -77,7 +76,7 @@ impl Pieces {
         ensures { IfOk result (λ pieces. pieces ≡ self ++ kept_text stores.now id.now ∷ []) }
     {
         let Pieces { mut text, mut ends } = self;
-        id_text(&mut text, stores, id)?;
+        text.id(stores, id)?;
         text.put(b",")?;
         ends.push(text.bytes().len())?;
         Ok(Pieces { text, ends })

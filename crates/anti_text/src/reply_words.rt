@@ -100,18 +100,23 @@ pub fn reply_text(out: &mut Output, printer: &Printer, reply: &Reply) -> Result<
     ensures { OnOk result (out.new ≡ out.old ++ reply_text printer.now.app.now reply.now) }
 {
     match reply {
-        Reply::Written { key, version } => version_text(out, key, *version),
+        Reply::Written { key, version } => version_text(out, key.get(), *version),
         Reply::Shown(rows) => rows_text(out, printer, rows.as_slice()),
-        Reply::Missing { missing, unwritten } => look_text(out, printer, missing, unwritten),
+        Reply::Missing { missing, unwritten } => look_text(
+            out,
+            printer,
+            missing.get(),
+            unwritten.get(),
+        ),
         Reply::Moved => out.put(b"moved"),
-        Reply::Pulled(row) => row_text(out, printer, row),
+        Reply::Pulled(row) => row_text(out, printer, row.get()),
         Reply::Posted(number) => {
             out.put(b"posted ")?;
             out.number(u64::from(*number))
         }
         Reply::Got { number, message } => {
             out.put(b"got ")?;
-            taken_text(out, *number, message, message.kind)
+            taken_text(out, *number, message.get(), message.get().kind)
         }
         Reply::Done => out.put(b"done"),
     }

@@ -9,7 +9,7 @@ ghost use Rattle.anti_kind.specs.Objects.{Follows, MayMake};
 use crate::cursor::Cursor;
 use crate::topic_store::Topic;
 use anti_ids::NoMemory;
-use anti_kind::{Reply, Sub};
+use anti_kind::{Handle, Reply, Sub};
 use anti_replicas::cell_key;
 
 impl Topic {
@@ -76,7 +76,7 @@ impl Topic {
             → IfOk result (λ reply. reply ≡ Pulled (or_absent [] (row_of h version))) }
     {
         match self.base.written_row(version)? {
-            Some(row) => Ok(Reply::Pulled(row)),
+            Some(row) => Ok(Reply::Pulled(Handle::new(self.base.allocator(), row)?)),
             None => unreachable!(),
         }
     }

@@ -3,7 +3,7 @@ ghost use Rattle.anti_kind.specs.Objects.{IsStart};
 
 use crate::cursor::{Cursor, new_cursors};
 use anti_ids::NoMemory;
-use anti_kind::{Awaited, Call, Kind, Machine, Reply, StoreKind, Sub};
+use anti_kind::{Awaited, Call, Handle, Kind, Machine, Reply, StoreKind, Sub};
 use anti_replicas::{Channels, Replicas};
 use std::alloc::Global;
 
@@ -60,7 +60,7 @@ impl Machine for Topic {
 
     fn ready(&self, c: &Call) -> bool {
         match c {
-            Call::Write { key, .. } => key.plain(),
+            Call::Write { key, .. } => key.get().plain(),
             Call::Ship {
                 region,
                 version,
@@ -71,7 +71,7 @@ impl Machine for Topic {
                 version,
                 part,
             } => self.base.was_shipped(*region, *version, *part),
-            Call::Look { region, ids, dry } => self.base.can_look(*region, ids, *dry),
+            Call::Look { region, ids, dry } => self.base.can_look(*region, ids.get(), *dry),
             Call::Poll { region, .. } => self.base.is_replica(*region),
             Call::Pull { sub } => self.base.is_version(self.next_version(*sub)),
             Call::Repull { sub, version } => self.was_pulled(*sub, *version),
@@ -101,7 +101,7 @@ impl Machine for Topic {
 
     fn awaits(&self, c: &Call) -> Option<Awaited> {
         match c {
-            Call::Look { region, ids, dry } => self.base.look_awaits(*region, ids, *dry),
+            Call::Look { region, ids, dry } => self.base.look_awaits(*region, ids.get(), *dry),
             Call::Pull { sub } => {
                 if self.base.is_version(self.next_version(*sub)) {
                     return None;
@@ -114,16 +114,16 @@ impl Machine for Topic {
 
     fn due(&self, c: &Call) -> Result<Reply, NoMemory> {
         match c {
-            Call::Write { key, .. } => match self.channels.next_key(key) {
+            Call::Write { key, .. } => match self.channels.next_key(key.get()) {
                 Some(key) => Ok(Reply::Written {
-                    key,
+                    key: Handle::new(self.base.allocator(), key)?,
                     version: self.base.next_version(),
                 }),
                 None => unreachable!(),
             },
             Call::Ship { .. } => Ok(Reply::Moved),
             Call::Again { .. } => Ok(Reply::Moved),
-            Call::Look { region, ids, .. } => self.base.look(*region, ids),
+            Call::Look { region, ids, .. } => self.base.look(*region, ids.get()),
             Call::Poll { region, key } => self.base.read(*region, key),
             Call::Pull { sub } => self.cell_of(self.next_version(*sub)),
             Call::Repull { version, .. } => self.cell_of(*version),
@@ -137,7 +137,7 @@ impl Machine for Topic {
                 key,
                 value,
                 lineage,
-            } => self.write(key, value, lineage),
+            } => self.write(key.get(), value, lineage.get()),
             Call::Ship {
                 region,
                 version,

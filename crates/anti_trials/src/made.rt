@@ -4,7 +4,7 @@ ghost use Rattle.anti_ids.specs.Names.{is_plain};
 
 use anti_baggage::Baggage;
 use anti_ids::{Bytes, Lineage, Name, Value, WriteId};
-use anti_kind::{Message, MessageKind, Sub};
+use anti_kind::{Handle, Message, MessageKind, Sub};
 use std::alloc::Global;
 
 /// The name that a text is.
@@ -57,25 +57,33 @@ pub fn lineage(alloc: Global, ids: &[(&[u8], u64)]) -> Result<Lineage, &'static 
     Ok(lineage)
 }
 
+/// A handle on a value.
+pub fn handle<T: Drop>(alloc: Global, value: T) -> Result<Handle<T>, &'static str>
+    ensures { IfOk result (λ handle. handle ≡ value) }
+{
+    Handle::new(alloc, value).ok().ok_or("no handle")
+}
+
 /// A message to the handler `work`, whose value is a letter.
 pub fn message(
     alloc: Global,
     kind: MessageKind,
     to: u32,
     letter: u8,
-) -> Result<Message, &'static str>
+) -> Result<Handle<Message>, &'static str>
     ensures { IfOk result (λ m. m.kind ≡ kind) }
 {
     let handler = name(b"work")?;
     let value = value(alloc, &[letter])?;
-    Ok(Message {
+    let message = Message {
         kind,
         to,
         depth: 0,
         handler,
         value,
         baggage: Baggage::from_text(Bytes::new(alloc)),
-    })
+    };
+    handle(alloc, message)
 }
 
 /// A subscription to a plain channel, in region 0.

@@ -7,7 +7,7 @@ ghost use Rattle.anti_shim.specs.Sights.{IsHere};
 ghost use Rattle.anti_table.specs.TableStates as tables;
 ghost use Rattle.anti_topic.specs.TopicStates as topics;
 
-use crate::made::{id, lineage, name, sub, value, versions};
+use crate::made::{handle, id, lineage, name, sub, value, versions};
 use anti_blob::Blob;
 use anti_ids::{Lineage, Name, NoMemory, WriteId};
 use anti_kind::{Actor, Answer, Call, Lone, Machine, Port, Row};
@@ -108,9 +108,9 @@ fn write(alloc: Global, port: &mut Lone<Kv>, key: Name) -> Option<Result<(), Shi
     let value = value(alloc, b"v").ok()?;
     let lineage = Lineage::root(alloc);
     let write = Call::Write {
-        key,
+        key: handle(alloc, key).ok()?,
         value,
-        lineage,
+        lineage: handle(alloc, lineage).ok()?,
     };
     Some(made(&port.call(0, Actor::Carrier(0), 0, 0, write)))
 }

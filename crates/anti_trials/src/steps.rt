@@ -1,8 +1,8 @@
 // What an object is asked, one call after another, and what it answers.
 
-use crate::made::{lineage, message, name, value};
+use crate::made::{handle, lineage, message, name, value};
 use anti_ids::{Lineage, NoMemory};
-use anti_kind::{Actor, Asking, Call, Machine, MessageKind, Recorded, Reply, Row};
+use anti_kind::{Actor, Asking, Call, Handle, Machine, MessageKind, Recorded, Reply, Row};
 use std::alloc::Global;
 
 /// A key and its version.
@@ -83,9 +83,9 @@ pub fn write(
     let value = value(alloc, text)?;
     let lineage = lineage(alloc, ids)?;
     Ok(Call::Write {
-        key,
+        key: handle(alloc, key)?,
         value,
-        lineage,
+        lineage: handle(alloc, lineage)?,
     })
 }
 
@@ -105,7 +105,7 @@ fn again(version: u64, part: u32) -> Call {
     }
 }
 
-fn look(ids: Lineage) -> Call {
+fn look(ids: Handle<Lineage>) -> Call {
     Call::Look {
         region: 0,
         ids,
@@ -130,7 +130,7 @@ fn call_of(alloc: Global, asked: Asked) -> Result<Call, &'static str> {
         }
         Asked::Look(ids) => {
             let ids = lineage(alloc, ids)?;
-            Ok(look(ids))
+            Ok(look(handle(alloc, ids)?))
         }
         Asked::Ship(version, part) => Ok(ship(version, part)),
         Asked::Again(version, part) => Ok(again(version, part)),
@@ -169,17 +169,17 @@ fn is_told(reply: &Option<Reply>, told: Told) -> bool {
         Told::Wrote(wanted) =>
             matches!(reply, Reply::Written { version, .. } if *version == wanted),
         Told::WroteAs(named, wanted) =>
-            matches!(reply, Reply::Written { key, version } if key.bytes() == named && *version == wanted),
+            matches!(reply, Reply::Written { key, version } if key.get().bytes() == named && *version == wanted),
         Told::Rows(wanted) =>
             matches!(reply, Reply::Shown(rows) if are_rows(rows.as_slice(), wanted)),
         Told::Missing(count) =>
-            matches!(reply, Reply::Missing { missing, .. } if missing.len() == count),
+            matches!(reply, Reply::Missing { missing, .. } if missing.get().len() == count),
         Told::Moved => matches!(reply, Reply::Moved),
         Told::Posted(wanted) => matches!(reply, Reply::Posted(number) if *number == wanted),
         Told::Got(wanted, letter) =>
-            matches!(reply, Reply::Got { number, message } if *number == wanted && message.value.bytes() == [letter].as_slice()),
+            matches!(reply, Reply::Got { number, message } if *number == wanted && message.get().value.bytes() == [letter].as_slice()),
         Told::Pulled(named, wanted) =>
-            matches!(reply, Reply::Pulled(row) if row.key.bytes() == named && row.version == wanted),
+            matches!(reply, Reply::Pulled(row) if row.get().key.bytes() == named && row.get().version == wanted),
         Told::Done => matches!(reply, Reply::Done),
     }
 }

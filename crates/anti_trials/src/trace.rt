@@ -1,7 +1,7 @@
 ghost use Rattle.std.specs.Prelude.{◌≡◌, ◌<◌, All, IfOk, length};
 ghost use Rattle.anti_trace.specs.Histories.{IsHistory};
 
-use crate::made::{message, name};
+use crate::made::{handle, message, name};
 use anti_ids::{Copies, Lineage, List, Name, NoMemory, Value};
 use anti_kind::{Actor, Call, Entry, History, MessageKind, Reply, Row};
 use anti_trace::{Histories, merge};
@@ -86,9 +86,9 @@ fn copied(alloc: Global, key: Name, stamp: u64, reply: Reply) -> Option<u64> {
         actor: Actor::Newborn,
         span: 1,
         call: Call::Write {
-            key,
+            key: handle(alloc, key).ok()?,
             value: Value::empty(alloc),
-            lineage: Lineage::root(alloc),
+            lineage: handle(alloc, Lineage::root(alloc)).ok()?,
         },
         reply,
     };

@@ -18,6 +18,10 @@ use Rattle.anti_past.specs.inner.Keys.{is_in, key_cmp}
 abbrev pub holds : List WriteId → List WriteId → Bool
 holds lineage ids = list_all (λ w. has_id w lineage) ids
 
+-- the rest stands at the end of the ids
+abbrev pub IsRear : List WriteId → List WriteId → Type 0
+IsRear ids rest = (front : List WriteId) × (ids ≡ front ++ rest)
+
 -- what comes to a span with entries
 abbrev pub came_to : App → Key → List Entry → List WriteId
 came_to app q entries = flat_map (brings app) (filter (is_in q) entries)

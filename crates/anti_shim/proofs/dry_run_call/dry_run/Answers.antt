@@ -82,29 +82,32 @@ short g c missing gave =
 
 pub transfer-requires : goal.transfer-requires
 transfer-requires g c =
-    let few : length (with_ids c.in_ok-missing.missing c.loop-look.named.ids) ≤ length c.args.lineage.now = short g (goal.at.transfer-requires g c).After-see_dry c.in_ok-missing.missing c.in_ok-missing.was in
+    let missing = c.get.result.now in
+    let few : length (with_ids missing c.loop-look.named.ids) ≤ length c.args.lineage.now = short g (goal.at.transfer-requires g c).After-see_dry missing (c.in_ok-missing.was ∙ ap Ok (sym c.get.ensures)) in
     let room : length c.loop-look.named.ids + c.loop-look.named.spare ≡ length c.args.lineage.now = c.loop-look.invariant.room in
     omega arith
 
 pub unreachable-requires : goal.unreachable-requires
 unreachable-requires g c =
-    let few : length (with_ids c.in_ok-missing.missing c.loop-look.named.ids) ≤ length c.args.lineage.now = short g (goal.at.unreachable-requires g c).After-see_dry c.in_ok-missing.missing c.in_ok-missing.was in
+    let missing = c.get.result.now in
+    let few : length (with_ids missing c.loop-look.named.ids) ≤ length c.args.lineage.now = short g (goal.at.unreachable-requires g c).After-see_dry missing (c.in_ok-missing.was ∙ ap Ok (sym c.get.ensures)) in
     let most : length c.args.lineage.now ≤ MOST_IDS = c.len.ensures.short in
-    let past : MOST_IDS < length (with_ids c.in_ok-missing.missing c.loop-look.named.ids) = c.in-Err.ensures.full in
+    let past : MOST_IDS < length (with_ids missing c.loop-look.named.ids) = c.in-Err.ensures.full in
     omega arith
 
 pub loop-look-preserved : goal.loop-look-preserved
 loop-look-preserved g c =
     let a = (goal.at.loop-look-preserved g c).After-see_dry in
-    let missing = c.in_ok-missing.missing in
-    let l = seen g a (Ok missing) c.in_ok-missing.was in
+    let missing = c.get.result.now in
+    let gave : c.see_dry.result ≡ Ok missing = c.in_ok-missing.was ∙ ap Ok (sym c.get.ensures) in
+    let l = seen g a (Ok missing) gave in
     let more : c.transfer.new.self.ids ≡ with_ids missing c.loop-look.named.ids = c.in-Ok-transfer.ensures.ok in
     let finds = dry_finds (turn g a) l c.loop-look.named.ids c.loop-look.invariant.finds in
     record {
       looked = looked g a;
       untouched = dry_untouched (turn g a) l.asked;
       finds = (finds.0, finds.1, more ∙ finds.2);
-      part = λ id has. part_more missing c.loop-look.named.ids c.args.lineage.now (part g a missing c.in_ok-missing.was) c.loop-look.invariant.part id (subst (λ (xs : List WriteId). has_id id xs ≡ true) more has);
+      part = λ id has. part_more missing c.loop-look.named.ids c.args.lineage.now (part g a missing gave) c.loop-look.invariant.part id (subst (λ (xs : List WriteId). has_id id xs ≡ true) more has);
       room = c.transfer.ensures.spare ∙ c.loop-look.invariant.room;
       caller = caller g a;
       fixed = λ o. c.see_dry.ensures.fixed o ∙ c.loop-look.invariant.fixed o;

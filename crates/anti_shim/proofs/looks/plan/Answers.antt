@@ -1,9 +1,5 @@
-use Rattle.std.proofs.Common.{◌≡◌, ℕ, ◌+◌, ◌<◌, ◌++◌, ◌∷◌, [], List, length, drop, get_or, false, ◌==◌, sym, ap, ◌∙◌, append_assoc, rules, arith}
-use Rattle.anti_ids.specs.declared.id.WriteId.{WriteId}
-use Rattle.anti_ids.specs.Ids.{ids_of}
-use Rattle.anti_ids.specs.List.{Listed, pushed}
-use Rattle.anti_shim.specs.declared.looks.PlannedLook.{PlannedLook}
-use Rattle.anti_shim.specs.Plans.{plan}
+use Rattle.std.proofs.Common.{◌≡◌, length, get_or, false, ◌==◌, rules}
+use Rattle.anti_ids.specs.List.{pushed}
 use Rattle.anti_shim.proofs.Planned.{planned_more}
 use Rattle.anti_shim.proofs.looks.plan.Goals as goal
 

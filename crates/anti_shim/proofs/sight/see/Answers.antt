@@ -12,5 +12,5 @@ returns-clause-answer g c =
     record {
       outcome = Ok made;
       asked = inl c.in_ok-place.ensures.answer;
-      gives = (refl, see_clear s c.args.store c.args.region c.args.ids made c.in-Missing.missing c.in-Missing.unwritten c.in_ok-place.ensures.answer c.in-Missing.is (sym c.iter.ensures.ids ∙ c.in-None.ensures.steps.0));
+      gives = (refl, see_clear s c.args.store c.args.region c.args.ids made c.in-Missing.missing c.in-Missing.unwritten c.in_ok-place.ensures.answer c.in-Missing.is (sym c.get.ensures ∙ (sym c.iter.ensures.ids ∙ c.in-None.ensures.steps.0)));
     }

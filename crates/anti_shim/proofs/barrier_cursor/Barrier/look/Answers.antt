@@ -7,10 +7,10 @@ use Rattle.anti_shim.specs.Shims.{Sees}
 use Rattle.anti_shim.proofs.NextCall.{unasked, no_memory_of}
 use Rattle.anti_shim.proofs.barrier_cursor.Barrier.look.Given as given
 use Rattle.anti_shim.proofs.barrier_cursor.Barrier.look.Goals as goal
-use Rattle.anti_shim.proofs.barrier_cursor.Barrier.look.Goals.{After-copy}
+use Rattle.anti_shim.proofs.barrier_cursor.Barrier.look.Goals.{After-share}
 
 -- without memory for the ids, or for one sight more, nothing is asked
-unseen : (g : given.Over) (c : After-copy g) → let look = c.args.look.now in
+unseen : (g : given.Over) (c : After-share g) → let look = c.args.look.now in
     Sees (between g.P.Port c.args.port.now c.args.port.now c.args.who.now c.args.who.now) look.store c.args.region look.ids (Err NoMemory)
 unseen g c =
     let look = c.args.look.now in
@@ -24,7 +24,7 @@ pub returns-in_err-ids-clause-answer : goal.returns-in_err-ids-clause-answer
 returns-in_err-ids-clause-answer g c =
     record {
       sight = Err NoMemory;
-      seen = unseen g (goal.at.returns-in_err-ids-clause-answer g c).After-copy;
+      seen = unseen g (goal.at.returns-in_err-ids-clause-answer g c).After-share;
       kept = (no_memory_of c.from_residual.result c.from_residual.ensures.1, refl);
     }
 
@@ -32,6 +32,6 @@ pub returns-in_err-reserve-clause-answer : goal.returns-in_err-reserve-clause-an
 returns-in_err-reserve-clause-answer g c =
     record {
       sight = Err NoMemory;
-      seen = unseen g (goal.at.returns-in_err-reserve-clause-answer g c).After-copy;
+      seen = unseen g (goal.at.returns-in_err-reserve-clause-answer g c).After-share;
       kept = (no_memory_of c.from_residual-in_err-reserve.result c.from_residual-in_err-reserve.ensures.1, ap (λ l. l.items) c.in_err-reserve.ensures.err ∙ c.self.view_is);
     }

@@ -9,7 +9,7 @@ use Rattle.anti_text.proofs.pieces.Pieces.with_id.Goals.{In_ok-push}
 -- what was written, and where it ends
 written : (c : In_ok-push) → c.put.new.self ≡ c.self.inside.text ++ kept_text c.args.stores.now c.args.id.now
 written c =
-    c.in_ok-put.ensures ∙ ap (λ t. t ++ codes ",") c.in_ok-id_text.ensures
+    c.in_ok-put.ensures ∙ ap (λ t. t ++ codes ",") c.in_ok-id.ensures
     ∙ append_assoc c.self.inside.text (id_text c.args.stores.now c.args.id.now) (codes ",")
 
 ended : (c : In_ok-push) → c.push.new.self.items ≡ c.self.inside.ends.items ++ length c.put.new.self ∷ []

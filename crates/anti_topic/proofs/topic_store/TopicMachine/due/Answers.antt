@@ -15,14 +15,16 @@ cell_of-requires-in-Repull c =
     let pulled = ap (λ (call : Call). store_ready (its_store m) h call) (sym c.in-Repull.is) ∙ c.requires.is_ready in
     (h, c.requires.stands_for, ap is_there (pulled_there (its_store m) h c.requires.stands_for.legal c.in-Repull.sub c.in-Repull.version pulled).1)
 
-pub returns-in-Some-clause-due : goal.returns-in-Some-clause-due
-returns-in-Some-clause-due c = λ h at.
+pub returns-in_ok-new-in-Some-clause-due : goal.returns-in_ok-new-in-Some-clause-due
+returns-in_ok-new-in-Some-clause-due c = λ h at.
     let m = c.args.self.now in
     let channel = c.in-Write.key in
-    let plain : is_plain channel ≡ true = ap (λ (call : Call). store_ready (its_store m) c.requires.history call) (sym c.in-Write.is) ∙ c.requires.is_ready in
-    let found : Some c.in-Some.key ≡ Some (key_for (its_store m).kind h channel) = sym c.in-Some.is ∙ c.next_key.ensures (its_store m) h at.legal at.state.counts refl plain in
-    let key : c.in-Some.key ≡ key_for (its_store m).kind h channel = cc in
-    rw c.in-Write.is (ap₂ (λ (k : List ℕ) (v : ℕ). Written k v) key (c.next_version.ensures (its_store m) h (topic_base m h at)))
+    let asked = c.get.result.now in
+    let plain : is_plain asked ≡ true = ap is_plain c.get.ensures ∙ ap (λ (call : Call). store_ready (its_store m) c.requires.history call) (sym c.in-Write.is) ∙ c.requires.is_ready in
+    let found : Some c.in-Some.key ≡ Some (key_for (its_store m).kind h asked) = sym c.in-Some.is ∙ c.next_key.ensures (its_store m) h at.legal at.state.counts refl plain in
+    let same : c.in-Some.key ≡ key_for (its_store m).kind h asked = cc in
+    let key : c.in-Some.key ≡ key_for (its_store m).kind h channel = same ∙ ap (key_for (its_store m).kind h) c.get.ensures in
+    rw c.in-Write.is (ap₂ (λ (k : List ℕ) (v : ℕ). Written k v) (c.in_ok-new-in-Some.ensures ∙ key) (c.next_version.ensures (its_store m) h (topic_base m h at)))
 
 pub returns-in-Poll-clause-due : goal.returns-in-Poll-clause-due
 returns-in-Poll-clause-due c = λ h at. rw c.in-Poll.is (c.read.ensures (its_store c.args.self.now) h (topic_base c.args.self.now h at))

@@ -4,7 +4,7 @@ use Rattle.anti_ids.specs.declared.limits.TheConstants.{MOST_IDS}
 use Rattle.anti_kind.specs.declared.entry.Entry.{Entry}
 use Rattle.anti_kind.specs.Store.{Store, missing}
 use Rattle.anti_replicas.specs.Stores.{At, showing_whole}
-use Rattle.anti_replicas.proofs.replicas.Replicas.missing.Given as goal
+use Rattle.anti_replicas.proofs.replicas.Replicas.some_missing.Given as goal
 
 abbrev pub invariant-loop-id : goal.invariant-loop-id
 invariant-loop-id l = record {
