@@ -1,10 +1,21 @@
--- What became of a shipment.
-use Rattle.std.specs.Prelude.{◌≡◌, false, Option, None, Some}
+-- What became of shipments.
+use Rattle.std.specs.Prelude.{◌≡◌, ℕ, ◌<◌, ◌≤◌, true, false, List, Option, None, Some}
 use Rattle.anti_kind.specs.declared.call.Call.{Call}
+use Rattle.anti_kind.specs.declared.call.Call.TheVariants.{Ship}
+use Rattle.anti_kind.specs.declared.entry.Entry.{Entry}
 use Rattle.anti_kind.specs.Objects.{Start, ready}
 use Rattle.anti_kind.specs.Ports.{View}
+use Rattle.anti_kind.specs.Stored.{is_shipped}
 
 -- the port has no such object, or the call is not ready after the history that was seen
 abbrev pub IsUnready : Option Start → View → Call → Type 0
 IsUnready None view call = Unit {0}
 IsUnready (Some start) view call = ready start view.seen call ≡ false
+
+-- the first parts of the versions from the first on, up to the one that is left, were shipped to the region
+abbrev pub AreBrought : List Entry → ℕ → ℕ → ℕ → Type 0
+AreBrought seen region first left = (v : ℕ) → first ≤ v → v < left → is_shipped seen region v 1 ≡ true
+
+-- a version before the end is left only where its first part can't be shipped
+abbrev pub IsLeft : Option Start → View → ℕ → ℕ → ℕ → Type 0
+IsLeft start view region end left = left < end → IsUnready start view (Ship region left 1)

@@ -1,9 +1,8 @@
 ghost use Rattle.std.specs.Prelude.{◌≡◌, ℕ, ◌+◌, ◌<◌, ◌≤◌, ◌^◌, true, false, is_some, [], Some, IfOk};
 ghost use Rattle.anti_kind.specs.Lones.{lone_start, lone_view};
 ghost use Rattle.anti_kind.specs.Objects.{IsStart, ready};
-ghost use Rattle.anti_kind.specs.Stored.{is_shipped};
 ghost use Rattle.anti_kv.specs.KvStates.{its_start, kv_start};
-ghost use Rattle.anti_callers.specs.Shipments.{IsUnready};
+ghost use Rattle.anti_callers.specs.Shipments.{AreBrought, IsLeft};
 
 use anti_ids::{MOST_UNITS, NoMemory};
 use anti_kind::{Actor, Answer, Call, Lone, Port, Refusal};
@@ -33,8 +32,8 @@ pub fn bring_from<P: Port>(
     most: u32,
 ) -> Result<u64, Refusal>
     requires { first + most < 2 ^ 64 }
-    ensures brought { IfOk result (λ left. (v : ℕ) → first ≤ v → v < left → is_shipped (P.view port.new store).seen region v 1 ≡ true) }
-    ensures left { IfOk result (λ left. left < first + most → IsUnready (P.start port.old store) (P.view port.new store) (Call.Ship region left 1)) }
+    ensures brought { IfOk result (AreBrought (P.view port.new store).seen region first) }
+    ensures left { IfOk result (IsLeft (P.start port.old store) (P.view port.new store) region (first + most)) }
     ensures others { (o : ℕ) → (o ≡ store → ⊥) → P.view port.new o ≡ P.view port.old o }
     ensures fixed { (o : ℕ) → P.start port.new o ≡ P.start port.old o }
 {
@@ -60,8 +59,9 @@ pub fn bring_from<P: Port>(
 /// Brings versions to a region over a port that is just this store, as many as it may have, and gives the first that was not brought.
 pub fn bring_all(port: &mut Lone<Kv>, store: u32, region: u32) -> Result<u64, Refusal>
     requires { is_some (lone_start its_start port.old store) ≡ true }
-    ensures brought { IfOk result (λ left. (v : ℕ) → 1 ≤ v → v < left → is_shipped port.new.history region v 1 ≡ true) }
-    ensures left { IfOk result (λ left. left ≤ MOST_UNITS → ready (its_start port.new.machine) port.new.history (Call.Ship region left 1) ≡ false) }
+    ensures brought { IfOk result (AreBrought port.new.history region 1) }
+    ensures left { IfOk result (λ left. left ≤ MOST_UNITS
+        → ready (its_start port.new.machine) port.new.history (Call.Ship region left 1) ≡ false) }
 {
     bring_from(port, store, region, 1, MOST_UNITS)
 }
