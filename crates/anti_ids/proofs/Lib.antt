@@ -6,3 +6,4 @@ pub mod PartLemmas
 pub mod LeftLemmas
 pub mod GoneLemmas
 pub mod Decimals
+mod StoreLemmas

@@ -1,4 +1,4 @@
-ghost use Rattle.std.specs.Prelude.{◌≡◌, ◌+◌, ◌<◌, ◌≤◌, false, not, length, slice_get, vec_capacity, OnOk, OnErr, IfOk, IfErr, IsErrOf, IsTrue};
+ghost use Rattle.std.specs.Prelude.{[], ◌≡◌, ◌+◌, ◌<◌, ◌≤◌, false, not, length, slice_get, vec_capacity, OnOk, OnErr, IfOk, IfErr, IsErrOf, IsTrue};
 ghost use Rattle.anti_ids.specs.Ids.{IsLineage, has_id, ids_of, is_id, with_id, with_ids, without_id};
 ghost use Rattle.anti_ids.specs.inner.Held.{base_ids, held_ids};
 ghost use Rattle.anti_ids.specs.inner.Left.{left_of};
@@ -141,6 +141,18 @@ impl Held {
         }
     }
 
+    // Whether a store is between that of the first id and that of the last; else no id is of it.
+    fn reaches(&self, store: u32) -> bool
+        requires { IsLineage (base_ids self.now) }
+        ensures { result ≡ false → ids_of store (held_ids self.now) ≡ [] }
+    {
+        let Some(first) = self.ids().next() else {
+            return false;
+        };
+        let last = self.at(self.len() - 1);
+        first.store <= store && store <= last.store
+    }
+
     // The ids of one store. They share their memory with all of the ids, where these are of that store, and with copies.
     pub(crate) fn of_store(&self, alloc: Global, store: u32) -> Result<Held, NoMemory>
         requires { IsLineage (base_ids self.now) }
@@ -149,6 +161,9 @@ impl Held {
     {
         if are_of(self.ids(), store) {
             return self.copy(alloc);
+        }
+        if !self.reaches(store) {
+            return Ok(Held::Own(Vec::new(alloc)));
         }
         let ids = of_store(alloc, self.ids(), store)?;
         Held::Own(ids).copy(alloc)
