@@ -1,6 +1,7 @@
 -- The JSON of an entry, of a wait, of a process, of a span and of a whole record, piece by piece.
 use Rattle.std.proofs.Common.{◌≡◌, ℕ, List, [], ◌∷◌, ◌++◌, false, length, codes, map, decimal, refl, sym, ap, ◌∙◌}
 use Rattle.std.specs.Fmt.{digits}
+use Rattle.std.proofs.lemmas.List.{append_assoc}
 use Rattle.serde_json.specs.View.{items_of}
 use Rattle.serde_json.specs.Written.{compact_text, items_text}
 use Rattle.serde_json.proofs.OnLiterals.{serde_json_on_literals}
@@ -14,7 +15,7 @@ use Rattle.anti_text.specs.Entries.{actor_name, choice_numbered}
 use Rattle.anti_text.specs.Processes.{end_text}
 use Rattle.anti_text.specs.Report.{Told}
 use Rattle.anti_text.specs.Spans.{answer_text, span_name}
-use Rattle.anti_text.specs.Json.{text, entry_data, wait_data, process_data, span_data, record_data}
+use Rattle.anti_text.specs.Json.{text, entry_data, wait_data, process_data, span_data, record_data, json_of}
 use Rattle.anti_text.proofs.Added.{added, joined, added_is}
 
 abbrev entry_rest : App → Entry → List (List ℕ)
@@ -110,5 +111,7 @@ record_is : (app : App) (t : Told) → compact_text (record_data app t) ≡ join
 unfolding record_data serde_json_on_literals digits
 record_is app t = refl
 
-pub record_added : (app : App) (t : Told) → compact_text (record_data app t) ≡ added [] (codes "{\"end\":" ∷ record_rest app t)
-record_added app t = record_is app t ∙ sym (added_is [] (codes "{\"end\":") (record_rest app t))
+pub record_added : (out : List ℕ) (app : App) (t : Told) → out ++ json_of app t ≡ added out (codes "{\"end\":" ∷ record_rest app t) ++ codes "\n"
+record_added out app t =
+    sym (append_assoc out (compact_text (record_data app t)) (codes "\n"))
+    ∙ ap (λ x. x ++ codes "\n") (ap (λ x. out ++ x) (record_is app t) ∙ sym (added_is out (codes "{\"end\":") (record_rest app t)))

@@ -1,21 +1,17 @@
-ghost use Rattle.std.specs.Prelude.{◌≡◌, ◌++◌, OnOk, decimal};
-ghost use Rattle.serde_json.specs.Written.{compact_text};
-ghost use Rattle.anti_text.specs.Json.{entry_data, process_data, span_data, text, wait_data};
+ghost use Rattle.anti_text.specs.Json.{entry_data, process_data, span_data, wait_data};
 
-use crate::call_words::call_text;
-use crate::entry_lines::actor_name;
+use crate::json_texts::{
+    add_actor, add_call, add_end, add_handler, add_mark, add_number, add_object, add_reply,
+    add_service, add_string,
+};
 use crate::output::Output;
 use crate::printer::Printer;
-use crate::process_lines::end_text;
-use crate::reply_words::reply_text;
 use crate::span_lines::{answer_text, span_name};
 use crate::wait_lines::choice_numbered;
-use crate::words::{handler_name, mark_text, object_name, service_name};
 use anti_ids::NoMemory;
 use anti_kind::Entry;
 use anti_order::SpanAnswer;
 use anti_trace::ProcessEnd;
-use serde_json::Value;
 
 /// What stands in a list of the record.
 pub trait Item {
@@ -32,50 +28,16 @@ pub trait Item {
             (out.new ≡ out.old ++ compact_text (says printer.now.app.now self.now)) };
 }
 
-// Adds some text, and what was printed as a JSON string.
-#[tactic(auto, unfolding(crate::specs::Json::text))]
-fn add_string(
-    out: &mut Output,
-    printer: &Printer,
-    before: &[u8],
-    printed: &Output,
-) -> Result<(), NoMemory>
-    ensures { OnOk result
-        (out.new ≡ out.old ++ before.now ++ compact_text (text printed.now)) }
-{
-    let value = Value::from(String::from_utf8_lossy(printer.alloc, printed.bytes())?);
-    let quoted = value.to_string(printer.alloc)?;
-    out.put(before)?;
-    out.put(quoted.as_bytes())
-}
-
-/// Adds some text and a number.
-pub fn add_number(out: &mut Output, before: &[u8], number: u64) -> Result<(), NoMemory>
-    ensures { OnOk result (out.new ≡ out.old ++ before.now ++ decimal number) }
-{
-    out.put(before)?;
-    out.number(number)
-}
-
 impl Item for Entry {
     ghost says = { entry_data };
 
     #[tactic(auto, using(crate::proofs::Shapes::entry_added))]
     fn print(&self, out: &mut Output, printer: &Printer) -> Result<(), NoMemory> {
-        let app = printer.app;
-        let mut actor = Output::new(printer.alloc);
-        actor_name(&mut actor, app, self.actor)?;
-        add_string(out, printer, b"{\"actor\":", &actor)?;
-        let mut call = Output::new(printer.alloc);
-        call_text(&mut call, printer, self.object, &self.call)?;
-        add_string(out, printer, b",\"call\":", &call)?;
-        let mut object = Output::new(printer.alloc);
-        object_name(&mut object, app, self.object)?;
-        add_string(out, printer, b",\"object\":", &object)?;
+        add_actor(out, printer, b"{\"actor\":", self.actor)?;
+        add_call(out, printer, b",\"call\":", self.object, &self.call)?;
+        add_object(out, printer, b",\"object\":", self.object)?;
         add_number(out, b",\"place\":", u64::from(self.place))?;
-        let mut reply = Output::new(printer.alloc);
-        reply_text(&mut reply, printer, &self.reply)?;
-        add_string(out, printer, b",\"reply\":", &reply)?;
+        add_reply(out, printer, b",\"reply\":", &self.reply)?;
         add_number(out, b",\"span\":", u64::from(self.span))?;
         add_number(out, b",\"stamp\":", self.stamp)?;
         out.put(b"}")
@@ -87,19 +49,16 @@ impl Item for ProcessEnd {
 
     #[tactic(auto, using(crate::proofs::Shapes::process_added))]
     fn print(&self, out: &mut Output, printer: &Printer) -> Result<(), NoMemory> {
-        let app = printer.app;
-        let mut end = Output::new(printer.alloc);
-        end_text(&mut end, app, self.end)?;
-        add_string(out, printer, b"{\"end\":", &end)?;
-        let mut handler = Output::new(printer.alloc);
-        handler_name(&mut handler, app, self.service, self.handler)?;
-        add_string(out, printer, b",\"handler\":", &handler)?;
-        let mut name = Output::new(printer.alloc);
-        mark_text(&mut name, app, self.birth.object, self.birth.place)?;
-        add_string(out, printer, b",\"name\":", &name)?;
-        let mut service = Output::new(printer.alloc);
-        service_name(&mut service, app, self.service)?;
-        add_string(out, printer, b",\"service\":", &service)?;
+        add_end(out, printer, b"{\"end\":", self.end)?;
+        add_handler(out, printer, b",\"handler\":", self.service, self.handler)?;
+        add_mark(
+            out,
+            printer,
+            b",\"name\":",
+            self.birth.object,
+            self.birth.place,
+        )?;
+        add_service(out, printer, b",\"service\":", self.service)?;
         out.put(b"}")
     }
 }

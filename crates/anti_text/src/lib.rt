@@ -5,6 +5,7 @@ mod call_words;
 mod entry_lines;
 mod id_texts;
 mod json_items;
+mod json_texts;
 mod lists;
 mod mark_texts;
 mod output;

@@ -8,7 +8,8 @@ ghost use Rattle.anti_trace.specs.Legal.{IsLegalTrace};
 ghost use Rattle.anti_text.specs.Json.{json_of};
 ghost use Rattle.anti_text.specs.Report.{IsPrinted};
 
-use crate::json_items::{Item, add_number};
+use crate::json_items::Item;
+use crate::json_texts::add_number;
 use crate::output::Output;
 use crate::printer::Printer;
 use crate::report::Report;
@@ -48,27 +49,28 @@ fn add_list<T: Item>(
     out.put(b"]")
 }
 
+// Adds the record of what a report tells, as one JSON object and a newline.
+fn add_record(out: &mut Output, printer: &Printer, report: &Report) -> Result<(), NoMemory>
+    ensures { OnOk result (out.new ≡ out.old ++ json_of printer.now.app.now report.now) }
+{
+    let entries = report.trace.as_slice();
+    add_number(out, b"{\"end\":", entries.len() as u64)?;
+    add_list(out, printer, b",\"entries\":[", entries)?;
+    add_list(out, printer, b",\"processes\":[", report.ends.as_slice())?;
+    out.put(b",\"record\":1")?;
+    add_list(out, printer, b",\"spans\":[", report.spans.as_slice())?;
+    add_list(out, printer, b",\"waits\":[", report.waits.as_slice())?;
+    out.put(b"}")?;
+    out.put(b"\n")
+}
+
 /// The record of what a report tells, as one JSON object and a newline. The only error is want of memory.
-#[tactic(auto, using(crate::proofs::Shapes::record_added))]
 pub fn print_json(alloc: Global, app: &App, report: &Report) -> Result<Bytes, NoMemory>
     ensures { IfOk result (λ t. t ≡ plain (json_of app.now report.now)) }
 {
     let printer = Printer::new(alloc, app, report)?;
     let mut out = Output::new(alloc);
-    let entries = report.trace.as_slice();
-    add_number(&mut out, b"{\"end\":", entries.len() as u64)?;
-    add_list(&mut out, &printer, b",\"entries\":[", entries)?;
-    add_list(
-        &mut out,
-        &printer,
-        b",\"processes\":[",
-        report.ends.as_slice(),
-    )?;
-    out.put(b",\"record\":1")?;
-    add_list(&mut out, &printer, b",\"spans\":[", report.spans.as_slice())?;
-    add_list(&mut out, &printer, b",\"waits\":[", report.waits.as_slice())?;
-    out.put(b"}")?;
-    out.put(b"\n")?;
+    add_record(&mut out, &printer, report)?;
     Ok(out.into_bytes())
 }
 

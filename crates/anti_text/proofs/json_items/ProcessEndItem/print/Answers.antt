@@ -10,14 +10,10 @@ pub returns : goal.returns
 returns c =
     let app = c.args.printer.now.app.now in
     let p = c.args.self.now in
-    let end : c.add_string.new.out ≡ c.args.out.now ++ codes "{\"end\":" ++ compact_text (text (end_text app p.end)) = search rules in
-    let handler_is : c.handler_name.new.out ≡ handler_name app p.service p.handler = search rules in
-    let handler : c.add_string-2.new.out ≡ c.add_string.new.out ++ codes ",\"handler\":" ++ compact_text (text (handler_name app p.service p.handler)) =
-    c.in_ok-add_string-2.ensures ∙ ap (λ x. c.add_string.new.out ++ codes ",\"handler\":" ++ compact_text (text x)) handler_is in
-    let name : c.add_string-3.new.out ≡ c.add_string-2.new.out ++ codes ",\"name\":" ++ compact_text (text (mark_text app p.birth.object p.birth.place)) = search rules in
-    let service_is : c.service_name.new.out ≡ service_name app p.service = search rules in
-    let service : c.add_string-4.new.out ≡ c.add_string-3.new.out ++ codes ",\"service\":" ++ compact_text (text (service_name app p.service)) =
-    c.in_ok-add_string-4.ensures ∙ ap (λ x. c.add_string-3.new.out ++ codes ",\"service\":" ++ compact_text (text x)) service_is in
+    let end : c.add_end.new.out ≡ c.args.out.now ++ codes "{\"end\":" ++ compact_text (text (end_text app p.end)) = search rules in
+    let handler : c.add_handler.new.out ≡ c.add_end.new.out ++ codes ",\"handler\":" ++ compact_text (text (handler_name app p.service p.handler)) = c.in_ok-add_handler.ensures in
+    let name : c.add_mark.new.out ≡ c.add_handler.new.out ++ codes ",\"name\":" ++ compact_text (text (mark_text app p.birth.object p.birth.place)) = search rules in
+    let service : c.add_service.new.out ≡ c.add_mark.new.out ++ codes ",\"service\":" ++ compact_text (text (service_name app p.service)) = c.in_ok-add_service.ensures in
     let all =
     service ∙ ap (λ t. t ++ codes ",\"service\":" ++ compact_text (text (service_name app p.service)))
     (name ∙ ap (λ t. t ++ codes ",\"name\":" ++ compact_text (text (mark_text app p.birth.object p.birth.place)))

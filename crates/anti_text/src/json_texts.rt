@@ -1,0 +1,167 @@
+ghost use Rattle.std.specs.Prelude.{◌≡◌, ◌++◌, OnOk, decimal};
+ghost use Rattle.serde_json.specs.Written.{compact_text};
+ghost use Rattle.anti_text.specs.Calls.{call_text, reply_text};
+ghost use Rattle.anti_text.specs.Entries.{actor_name};
+ghost use Rattle.anti_text.specs.Json.{text};
+ghost use Rattle.anti_text.specs.Processes.{end_text};
+ghost use Rattle.anti_text.specs.Words.{handler_name, mark_text, object_name, service_name};
+
+use crate::call_words::call_text;
+use crate::entry_lines::actor_name;
+use crate::output::Output;
+use crate::printer::Printer;
+use crate::process_lines::end_text;
+use crate::reply_words::reply_text;
+use crate::words::{handler_name, mark_text, object_name, service_name};
+use anti_ids::NoMemory;
+use anti_kind::{Actor, Call, Reply};
+use anti_proc::End;
+use serde_json::Value;
+
+/// Adds some text, and what was printed as a JSON string.
+#[tactic(auto, unfolding(crate::specs::Json::text))]
+pub fn add_string(
+    out: &mut Output,
+    printer: &Printer,
+    before: &[u8],
+    printed: &Output,
+) -> Result<(), NoMemory>
+    ensures { OnOk result
+        (out.new ≡ out.old ++ before.now ++ compact_text (text printed.now)) }
+{
+    let value = Value::from(String::from_utf8_lossy(printer.alloc, printed.bytes())?);
+    let quoted = value.to_string(printer.alloc)?;
+    out.put(before)?;
+    out.put(quoted.as_bytes())
+}
+
+/// Adds some text and a number.
+pub fn add_number(out: &mut Output, before: &[u8], number: u64) -> Result<(), NoMemory>
+    ensures { OnOk result (out.new ≡ out.old ++ before.now ++ decimal number) }
+{
+    out.put(before)?;
+    out.number(number)
+}
+
+/// Adds some text and who made an entry.
+pub fn add_actor(
+    out: &mut Output,
+    printer: &Printer,
+    before: &[u8],
+    actor: Actor,
+) -> Result<(), NoMemory>
+    ensures { OnOk result
+        (out.new ≡ out.old ++ before.now ++ compact_text (text (actor_name printer.now.app.now actor))) }
+{
+    let mut name = Output::new(printer.alloc);
+    actor_name(&mut name, printer.app, actor)?;
+    add_string(out, printer, before, &name)
+}
+
+/// Adds some text and the words of a call on an object.
+pub fn add_call(
+    out: &mut Output,
+    printer: &Printer,
+    before: &[u8],
+    object: u32,
+    call: &Call,
+) -> Result<(), NoMemory>
+    ensures { OnOk result
+        (out.new ≡ out.old ++ before.now ++ compact_text (text (call_text printer.now.app.now object call.now))) }
+{
+    let mut words = Output::new(printer.alloc);
+    call_text(&mut words, printer, object, call)?;
+    add_string(out, printer, before, &words)
+}
+
+/// Adds some text and the name of an object.
+pub fn add_object(
+    out: &mut Output,
+    printer: &Printer,
+    before: &[u8],
+    object: u32,
+) -> Result<(), NoMemory>
+    ensures { OnOk result
+        (out.new ≡ out.old ++ before.now ++ compact_text (text (object_name printer.now.app.now object))) }
+{
+    let mut name = Output::new(printer.alloc);
+    object_name(&mut name, printer.app, object)?;
+    add_string(out, printer, before, &name)
+}
+
+/// Adds some text and the words of a reply.
+pub fn add_reply(
+    out: &mut Output,
+    printer: &Printer,
+    before: &[u8],
+    reply: &Reply,
+) -> Result<(), NoMemory>
+    ensures { OnOk result
+        (out.new ≡ out.old ++ before.now ++ compact_text (text (reply_text printer.now.app.now reply.now))) }
+{
+    let mut words = Output::new(printer.alloc);
+    reply_text(&mut words, printer, reply)?;
+    add_string(out, printer, before, &words)
+}
+
+/// Adds some text and how a process ended.
+pub fn add_end(
+    out: &mut Output,
+    printer: &Printer,
+    before: &[u8],
+    end: Option<End>,
+) -> Result<(), NoMemory>
+    ensures { OnOk result
+        (out.new ≡ out.old ++ before.now ++ compact_text (text (end_text printer.now.app.now end))) }
+{
+    let mut words = Output::new(printer.alloc);
+    end_text(&mut words, printer.app, end)?;
+    add_string(out, printer, before, &words)
+}
+
+/// Adds some text and the name of a handler of a service.
+pub fn add_handler(
+    out: &mut Output,
+    printer: &Printer,
+    before: &[u8],
+    service: usize,
+    handler: usize,
+) -> Result<(), NoMemory>
+    ensures { OnOk result
+        (out.new ≡ out.old ++ before.now ++ compact_text (text (handler_name printer.now.app.now service handler))) }
+{
+    let mut name = Output::new(printer.alloc);
+    handler_name(&mut name, printer.app, service, handler)?;
+    add_string(out, printer, before, &name)
+}
+
+/// Adds some text and a place on an object.
+pub fn add_mark(
+    out: &mut Output,
+    printer: &Printer,
+    before: &[u8],
+    object: u32,
+    place: u32,
+) -> Result<(), NoMemory>
+    ensures { OnOk result
+        (out.new ≡ out.old ++ before.now ++ compact_text (text (mark_text printer.now.app.now object place))) }
+{
+    let mut mark = Output::new(printer.alloc);
+    mark_text(&mut mark, printer.app, object, place)?;
+    add_string(out, printer, before, &mark)
+}
+
+/// Adds some text and the name of a service.
+pub fn add_service(
+    out: &mut Output,
+    printer: &Printer,
+    before: &[u8],
+    service: usize,
+) -> Result<(), NoMemory>
+    ensures { OnOk result
+        (out.new ≡ out.old ++ before.now ++ compact_text (text (service_name printer.now.app.now service))) }
+{
+    let mut name = Output::new(printer.alloc);
+    service_name(&mut name, printer.app, service)?;
+    add_string(out, printer, before, &name)
+}
