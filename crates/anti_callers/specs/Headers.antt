@@ -46,3 +46,15 @@ pub record Joins (stores : List (List ℕ)) (text : List ℕ) (old new : List Wr
   pub ids : List WriteId
   pub stated : read_lineage stores text ≡ Ok ids
   pub joined : new ≡ with_ids ids old
+
+-- The text states a lineage that is too much for those that were carried.
+pub record IsTooMuch (stores : List (List ℕ)) (text : List ℕ) (carried : List WriteId) : Type 0 where
+  pub ids : List WriteId
+  pub stated : read_lineage stores text ≡ Ok ids
+  pub many : MOST_IDS < length (with_ids ids carried)
+
+-- Each fault has its cause in the text and in what was carried; want of memory is free.
+abbrev pub IsJoinCause : List (List ℕ) → List ℕ → List WriteId → HeaderFault → Type 0
+IsJoinCause stores text carried (Unread fault) = read_lineage stores text ≡ Err fault
+IsJoinCause stores text carried Full = IsTooMuch stores text carried
+IsJoinCause stores text carried NoMemory = Unit {0}

@@ -3,8 +3,11 @@ use Rattle.std.specs.Prelude.{◌≡◌, ℕ, ◌<◌, ◌≤◌, true, false, L
 use Rattle.anti_kind.specs.declared.call.Call.{Call}
 use Rattle.anti_kind.specs.declared.call.Call.TheVariants.{Ship}
 use Rattle.anti_kind.specs.declared.entry.Entry.{Entry}
+use Rattle.anti_kind.specs.declared.asking.Asking.{Asking}
+use Rattle.anti_kind.specs.declared.recorded.Refusal.{Refusal}
+use Rattle.anti_kind.specs.declared.recorded.Refusal.TheVariants.{NotYet, Full, Spent}
 use Rattle.anti_kind.specs.Objects.{Start, ready}
-use Rattle.anti_kind.specs.Ports.{View}
+use Rattle.anti_kind.specs.Ports.{View, IsFull, IsSpent}
 use Rattle.anti_kind.specs.Stored.{is_shipped}
 
 -- the port has no such object, or the call is not ready after the history that was seen
@@ -19,3 +22,16 @@ AreBrought seen region first left = (v : ℕ) → first ≤ v → v < left → i
 -- a version before the end is left only where its first part can't be shipped
 abbrev pub IsLeft : Option Start → View → ℕ → ℕ → ℕ → Type 0
 IsLeft start view region end left = left < end → IsUnready start view (Ship region left 1)
+
+-- a call with this first part was asked for, and no stamp was left for it
+pub record IsLate (start : Start) (seen : List Entry) (region version clock : ℕ) : Type 0 where
+  pub asked : Asking
+  pub ships : asked.call ≡ Ship region version 1
+  pub spent : IsSpent start seen asked clock
+
+-- After what was seen the first part of a version could be shipped, but for want of room, or of a stamp.
+abbrev pub IsRefusal : Option Start → View → ℕ → ℕ → Refusal → Type 0
+IsRefusal None view region version refusal = ⊥
+IsRefusal (Some start) view region version NotYet = ⊥
+IsRefusal (Some start) view region version (Full held owed need) = IsFull start view.seen (Ship region version 1) held owed need
+IsRefusal (Some start) view region version (Spent clock) = IsLate start view.seen region version clock

@@ -1,5 +1,5 @@
 ghost use Rattle.std.specs.Prelude.{◌≡◌, ◌≤◌, ◌^◌, length, IfOk, IfErr, OnOk, OnErr};
-ghost use Rattle.anti_callers.specs.Headers.{HasWrite, IsCause, Joins, of_adding, of_reading};
+ghost use Rattle.anti_callers.specs.Headers.{HasWrite, IsCause, IsJoinCause, Joins, of_adding, of_reading};
 
 use anti_baggage::{Baggage, BaggageFault, decode, encode};
 use anti_ids::{Bytes, Copies, Lineage, LineageRefused, Name, NoMemory, WriteId};
@@ -79,6 +79,7 @@ pub fn join(
 ) -> Result<(), HeaderFault>
     requires { length stores.now ≤ 2 ^ 32 }
     ensures joined { OnOk result (Joins stores.now came.now.items carried.old carried.new) }
+    ensures cause { IfErr result (λ fault. IsJoinCause stores.now came.now.items carried.old fault) }
     ensures kept { OnErr result (carried.new ≡ carried.old) }
 {
     let lineage = came.lineage(alloc, stores)?;

@@ -1,4 +1,4 @@
-ghost use Rattle.std.specs.Prelude.{◌≡◌, ◌⊎◌, ℕ, is_some, true, Ok, IfOk, IfErr, OnErr};
+ghost use Rattle.std.specs.Prelude.{◌≡◌, ◌⊎◌, ℕ, is_some, true, List, Ok, Err, IfOk, IfErr, OnErr};
 ghost use Rattle.anti_ids.specs.declared.id.WriteId.{WriteId as Id};
 ghost use Rattle.anti_ids.specs.Ids.{with_id};
 ghost use Rattle.anti_shim.specs.Barriers.{BarrierGives};
@@ -33,6 +33,11 @@ pub fn post_and_note<P: Port>(
         IfOk result (λ ids. let kept = with_id ids.0 lineage.old in
         Then step (λ s. Writes s posts.now.store post.0 post.1 lineage.old kept (Ok ids.0))
         (λ s. Writes s notes.now.store note.0 note.1 kept lineage.new (Ok ids.1))) }
+    ensures cause { let step = between P.Port port.old port.new who.old who.new in
+        IfErr result (λ fault. Writes step posts.now.store post.0 post.1 lineage.old lineage.new (Err fault)
+        ⊎ ((id : Id) × (let kept = with_id id lineage.old in
+        Then step (λ s. Writes s posts.now.store post.0 post.1 lineage.old kept (Ok id))
+        (λ s. Writes s notes.now.store note.0 note.1 kept lineage.new (Err fault))))) }
     ensures err { OnErr result ((lineage.new ≡ lineage.old)
         ⊎ ((id : Id) × (id.store ≡ posts.now.store) × (lineage.new ≡ with_id id lineage.old))) }
     ensures fixed { (o : ℕ) → P.start port.new o ≡ P.start port.old o }
@@ -88,6 +93,10 @@ pub fn read_anyway<P: Port>(
     ensures read { let step = between P.Port port.old port.new who.old who.new in
         IfOk result (λ read. Then step (λ s. DryRunGives s store.now.region (plan here.now lineage.now) (Ok read.1))
         (λ s. Reads s store.now.store store.now.region key (Ok read.0))) }
+    ensures cause { let step = between P.Port port.old port.new who.old who.new in let planned = plan here.now lineage.now in
+        IfErr result (λ fault. DryRunGives step store.now.region planned (Err fault)
+        ⊎ ((named : List Id) × Then step (λ s. DryRunGives s store.now.region planned (Ok named))
+        (λ s. Reads s store.now.store store.now.region key (Err fault)))) }
     ensures fixed { (o : ℕ) → P.start port.new o ≡ P.start port.old o }
 {
     let missing = dry_run(alloc, port, who, store.region, here, lineage)?;
