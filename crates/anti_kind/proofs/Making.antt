@@ -1,7 +1,6 @@
 -- A port over one object: when a call is made, what it adds to the history, and what it answers.
 use Rattle.std.proofs.Common.{◌≡◌, ℕ, ◌+◌, ◌-◌, ◌^◌, ◌<◌, ◌≤◌, max, min, true, List, [], ◌∷◌, ◌++◌, length, refl, sym, ap, subst, ◌∙◌, append-nil, eq-eqb, arith}
 use Rattle.std.proofs.lemmas.Bool.{le-leb}
-use Rattle.std.proofs.lemmas.List.Elements.{All-push}
 use Rattle.anti_ids.specs.List.{Listed, pushed, reserved}
 use Rattle.anti_ids.specs.declared.limits.TheConstants.{MOST_UNITS}
 use Rattle.anti_kind.specs.declared.call.Reply.{Reply}
@@ -12,8 +11,8 @@ use Rattle.anti_kind.specs.Objects.{Start, ready, due, need, held, owed, fits, l
 use Rattle.anti_kind.specs.Ports.{View, entry_of, IsFront, IsRefused, IsSpent, Answers, Answered}
 use Rattle.anti_kind.specs.declared.asking.Asking.{Asking}
 use Rattle.anti_ids.specs.Counts.{Rose}
-use Rattle.anti_kind.specs.Records.{IsRecorded, Goes}
-use Rattle.anti_kind.specs.Lones.{Alone, AreOwn, Gives, lone_start, lone_view}
+use Rattle.anti_kind.specs.Records.{IsRecorded, Gives, Goes}
+use Rattle.anti_kind.specs.Lones.{Alone, lone_start, lone_view}
 use Rattle.anti_kind.proofs.Histories.{below_last, held_more, weighs, last_of_follows, legal_more}
 use Rattle.anti_kind.proofs.Bounds.{units}
 
@@ -72,10 +71,6 @@ recorded_more start stands next last room old new e recorded f state room_is new
       room = omega (arith, ap (owed start) items_are);
     }
 
--- the histories of a port over one object are its own
-pub own_more : (object : ℕ) (h : List Entry) (e : Entry) → AreOwn object h → e.object ≡ object → e.seat ≡ 0 → AreOwn object (h ++ e ∷ [])
-own_more object h e own here seat = All-push (λ (d : Entry). (d.object ≡ object) × (d.seat ≡ 0)) h e own (here, seat)
-
 -- What is answered.
 
 -- all of the object is seen, and all that is seen was made
@@ -93,7 +88,7 @@ module _ (start : Start) (h : List Entry) (q : Asking) (before now : ℕ) (in_ra
   pub refused : IsRefused (sight h before) (sight h now)
   refused = record { front = whole_front h; made = refl; visits = rises before now in_range is }
 
-  pub given_answers : (new : List Entry) (answer : Answer) → Gives start h q new answer → Answers start q (sight h before) (sight new now) answer
+  pub given_answers : (new : List Entry) (answer : Answer) → Gives start h 0 q new answer → Answers start q (sight h before) (sight new now) answer
   given_answers new (Made place stamp reply) makes = (
     h,
     (

@@ -1,7 +1,7 @@
 ghost use Rattle.std.specs.Prelude.{◌≡◌, ℕ, ◌+◌, ◌-◌, ◌^◌, min, [], IfErr, IfOk, Some};
 ghost use Rattle.anti_kind.specs.Objects.{IsLegal, IsShip, StandsFor};
 ghost use Rattle.anti_kind.specs.Ports.{Answered};
-ghost use Rattle.anti_kind.specs.Lones.{AreOwn, Gives, IsNumbered, answer_of, lone_start, lone_view};
+ghost use Rattle.anti_kind.specs.Lones.{AreOwn, IsNumbered, lone_start, lone_view};
 
 use crate::actor::Actor;
 use crate::asking::Asking;
@@ -9,7 +9,7 @@ use crate::call::Call;
 use crate::entry::History;
 use crate::machine::Machine;
 use crate::port::{Answer, Port};
-use crate::recorded::{Recorded, Refusal};
+use crate::recorded::Recorded;
 use anti_ids::NoMemory;
 use std::alloc::Global;
 use std::marker::Model;
@@ -62,51 +62,6 @@ impl<M: Machine> Lone<M> {
     {
         self.recorded.history()
     }
-
-    // Makes what is asked of the object, or says why it does not. Of a `Ship` it takes no memory.
-    fn ask(&mut self, asking: Asking) -> Answer
-        requires { asking.object ≡ self.old.object }
-        ensures gives { Gives (M.start self.old.machine) self.old.history asking self.new.history result }
-        ensures object { self.new.object ≡ self.old.object }
-        ensures visits { self.new.visits ≡ self.old.visits }
-        ensures start { M.start self.new.machine ≡ M.start self.old.machine }
-        ensures before { IsLegal (M.start self.old.machine) self.old.history }
-        ensures after { IsLegal (M.start self.old.machine) self.new.history }
-        ensures ship { IsShip asking.call → result ≡ Answer.NoMemory → ⊥ }
-    {
-        if let Err(refusal) = self.recorded.judge(&asking) {
-            return refused(refusal);
-        }
-        // one for the entry, one for the caller
-        let Ok(due) = self.recorded.due(&asking.call) else {
-            return Answer::NoMemory;
-        };
-        let Ok(reply) = self.recorded.due(&asking.call) else {
-            return Answer::NoMemory;
-        };
-        let entry = self.recorded.entry(0, asking, due);
-        let place = entry.place;
-        let stamp = entry.stamp;
-        let Ok(()) = self.recorded.make(entry) else {
-            return Answer::NoMemory;
-        };
-        Answer::Made {
-            place,
-            stamp,
-            reply,
-        }
-    }
-}
-
-// The answer of a refusal.
-fn refused(refusal: Refusal) -> Answer
-    ensures { result ≡ answer_of refusal }
-{
-    match refusal {
-        Refusal::NotYet => Answer::NotYet,
-        Refusal::Full { held, owed, need } => Answer::Full { held, owed, need },
-        Refusal::Spent { clock } => Answer::Spent { clock },
-    }
 }
 
 impl<M: Machine> Port for Lone<M> {
@@ -130,12 +85,13 @@ impl<M: Machine> Port for Lone<M> {
             return Answer::NotYet;
         }
         self.visits = self.visits.saturating_add(1);
-        self.ask(Asking {
+        let asking = Asking {
             object,
             actor,
             span,
             clock,
             call: c,
-        })
+        };
+        self.recorded.ask(0, asking)
     }
 }

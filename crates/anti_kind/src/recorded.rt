@@ -1,13 +1,14 @@
-ghost use Rattle.std.specs.Prelude.{◌≡◌, ◌+◌, ◌-◌, ◌^◌, ◌<◌, max, true, [], ◌∷◌, ◌++◌, length, IfErr, IfOk, OnOk, OnErr, IsOk};
+ghost use Rattle.std.specs.Prelude.{◌≡◌, ◌+◌, ◌-◌, ◌^◌, ◌<◌, max, true, false, [], ◌∷◌, ◌++◌, length, IfErr, IfOk, OnOk, OnErr, IsOk};
 ghost use Rattle.anti_kind.specs.Objects.{Follows, IsLegal, IsShip, StandsFor, due, fits, last_stamp, ready};
 ghost use Rattle.anti_kind.specs.Ports.{entry_of};
-ghost use Rattle.anti_kind.specs.Records.{Goes, IsRefusal};
+ghost use Rattle.anti_kind.specs.Records.{Gives, Goes, IsRefusal};
 
 use crate::actor::Birth;
 use crate::asking::Asking;
 use crate::call::{Call, Reply};
 use crate::entry::{Entry, History};
 use crate::machine::Machine;
+use crate::port::Answer;
 use anti_ids::{List, MOST_UNITS, NoMemory};
 use std::alloc::Global;
 use std::marker::Model;
@@ -159,5 +160,71 @@ impl<M: Machine> Recorded<M> {
         self.last = entry.stamp;
         self.history.put(entry);
         Ok(())
+    }
+
+    // Makes what is asked and goes, or finds no memory.
+    fn go(&mut self, seat: u32, asking: Asking) -> Answer
+        requires goes { Goes (M.start self.old.machine) self.old.history asking }
+        requires legal { IsLegal (M.start self.old.machine) self.old.history }
+        ensures gives { Gives (M.start self.old.machine) self.old.history seat asking self.new.history result }
+        ensures start { M.start self.new.machine ≡ M.start self.old.machine }
+        ensures legal { IsLegal (M.start self.old.machine) self.new.history }
+        ensures waits { result ≡ Answer.NotYet → ⊥ }
+        ensures ship { IsShip asking.call → result ≡ Answer.NoMemory → ⊥ }
+    {
+        // one for the entry, one for the caller
+        let Ok(due) = self.due(&asking.call) else {
+            return Answer::NoMemory;
+        };
+        let Ok(reply) = self.due(&asking.call) else {
+            return Answer::NoMemory;
+        };
+        let entry = self.entry(seat, asking, due);
+        let place = entry.place;
+        let stamp = entry.stamp;
+        let Ok(()) = self.make(entry) else {
+            return Answer::NoMemory;
+        };
+        Answer::Made {
+            place,
+            stamp,
+            reply,
+        }
+    }
+
+    /// Makes what is asked of the object, under the number of the pass that asks (0 for none), or says why it does not. What is not
+    /// ready is given back. Of a `Ship` it takes no memory.
+    pub fn offer(&mut self, seat: u32, asking: Asking) -> Result<Answer, Asking>
+        ensures gives { IfOk result (λ answer. Gives (M.start self.old.machine) self.old.history seat asking self.new.history answer) }
+        ensures waits { IfOk result (λ answer. answer ≡ Answer.NotYet → ⊥) }
+        ensures back { IfErr result (λ back. back ≡ asking) }
+        ensures not_yet { OnErr result (ready (M.start self.old.machine) self.old.history asking.call ≡ false) }
+        ensures same { OnErr result (self.new.history ≡ self.old.history) }
+        ensures start { M.start self.new.machine ≡ M.start self.old.machine }
+        ensures before { IsLegal (M.start self.old.machine) self.old.history }
+        ensures after { IsLegal (M.start self.old.machine) self.new.history }
+        ensures ship { IsShip asking.call → IfOk result (λ answer. answer ≡ Answer.NoMemory → ⊥) }
+    {
+        match self.judge(&asking) {
+            Ok(()) => Ok(self.go(seat, asking)),
+            Err(Refusal::NotYet) => Err(asking),
+            Err(Refusal::Full { held, owed, need }) => Ok(Answer::Full { held, owed, need }),
+            Err(Refusal::Spent { clock }) => Ok(Answer::Spent { clock }),
+        }
+    }
+
+    /// Makes what is asked of the object, under the number of the pass that asks (0 for none), or says why it does not. Of a `Ship` it
+    /// takes no memory.
+    pub fn ask(&mut self, seat: u32, asking: Asking) -> Answer
+        ensures gives { Gives (M.start self.old.machine) self.old.history seat asking self.new.history result }
+        ensures start { M.start self.new.machine ≡ M.start self.old.machine }
+        ensures before { IsLegal (M.start self.old.machine) self.old.history }
+        ensures after { IsLegal (M.start self.old.machine) self.new.history }
+        ensures ship { IsShip asking.call → result ≡ Answer.NoMemory → ⊥ }
+    {
+        match self.offer(seat, asking) {
+            Ok(answer) => answer,
+            Err(_) => Answer::NotYet,
+        }
     }
 }

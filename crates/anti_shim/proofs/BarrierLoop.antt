@@ -18,18 +18,19 @@ use Rattle.anti_shim.specs.declared.barrier_answer.BarrierAnswer.{BarrierAnswer}
 use Rattle.anti_shim.specs.declared.caller.Caller.{Caller}
 use Rattle.anti_shim.specs.declared.caller.Made.{Made}
 use Rattle.anti_shim.specs.declared.fault.ShimFault.{ShimFault}
-use Rattle.anti_shim.specs.declared.fault.ShimFault.TheVariants.{Unwritten, NoMemory}
+use Rattle.anti_shim.specs.declared.fault.ShimFault.TheVariants.{NotYet, Full, Spent, Unwritten, LineageFull, NoMemory}
+use Rattle.anti_shim.specs.declared.barrier_answer.BarrierAnswer.TheVariants as answers
 use Rattle.anti_shim.specs.declared.looks.PlannedLook.{PlannedLook}
 use Rattle.anti_shim.specs.declared.sight.Sight.{Sight}
 use Rattle.anti_shim.specs.Steps.{Step, asking, IsAsked, MayAsk, IsAdded, CallerAfter}
 use Rattle.anti_shim.specs.Shims.{SeeGives, Sees}
 use Rattle.anti_shim.specs.Sights.{has_sight, unseen, HasSights}
 use Rattle.anti_shim.specs.Looks.{IsLookedAt, SomeLook, AtMostOneLook, idle}
-use Rattle.anti_shim.specs.Barriers.{sights_after, sight_of, KeepsSights, BarrierGives}
+use Rattle.anti_shim.specs.Barriers.{sights_after, sight_of, KeepsSights, BarrierGives, BarrierDoes}
 use Rattle.anti_shim.specs.inner.Looks.{Keeps, LooksOnce, IsRefusal}
 use Rattle.anti_shim.proofs.NextCall.{Entered, entered, answered_made, none_added, last, whole, idle_more, caller_more}
-use Rattle.anti_shim.proofs.LookLemmas.{IsRight, misses, looked_whole, looks_more, Refuses, refuses, not_yet, full, spent, no_memory}
-use Rattle.anti_shim.proofs.SightLemmas.{has_still, has_last, none_before, none_last, sights_stay, sights_more}
+use Rattle.anti_shim.proofs.LookLemmas.{IsRight, misses, looked_whole, looks_more, made_bound, Refuses, refuses, not_yet, full, spent, no_memory}
+use Rattle.anti_shim.proofs.SightLemmas.{has_still, has_last, none_before, none_last, sights_stay, sights_more, sights_of}
 
 -- What holds after some looks, also after one that was refused.
 pub record Went (s : Step) (region : ℕ) (planned : List PlannedLook) (given sights : List Sight) : Type 0 where
@@ -37,6 +38,19 @@ pub record Went (s : Step) (region : ℕ) (planned : List PlannedLook) (given si
   pub seen : HasSights s.new s.before region planned sights
   pub kept : KeepsSights s given sights
   pub caller : CallerAfter s
+
+-- what a barrier has done that answers so after these looks
+pub done : (s : Step) (region : ℕ) (planned : List PlannedLook) (given sights left : List Sight) (answer : BarrierAnswer) → Went s region planned given sights
+    → sights_after answer left ≡ sights → BarrierGives s region planned (unseen given planned) left answer → BarrierDoes s region planned given left answer
+done s region planned given sights left answer w are gives =
+    record {
+      gives = gives;
+      sights = subst (λ (xs : List Sight). HasSights s.new s.after region planned xs) (sym are) (sights_of s.new s.before s.after region planned sights w.caller.actor w.caller.span w.seen);
+      kept = subst (λ (xs : List Sight). KeepsSights s given xs) (sym are) w.kept;
+      looks = w.looked;
+      made = λ o. made_bound s region false (unseen given planned) o (w.looked o);
+      caller = w.caller;
+    }
 
 -- A store of which there is no sight was not asked, but the last one.
 abbrev pub Unasked : Step → List Sight → Type 0
@@ -105,7 +119,7 @@ module _ {s : Step} {region : ℕ} {planned : List PlannedLook} {given sights : 
       let none : has_sight (given ++ t.went.kept.more) look.store ≡ false = ap (λ (xs : List Sight). has_sight xs look.store) (sym t.went.kept.front) ∙ t.fresh in
       contains_at (λ (l : PlannedLook). not (has_sight given l.store)) planned look is_planned.0 is_planned.1 is_planned.2 (ap not (none_before given t.went.kept.more look.store none))
 
-  is_right : IsRight s.starts region look
+  pub is_right : IsRight s.starts region look
   is_right = All-contains (IsRight s.starts region) planned look t.right is_planned
 
   same : s.new look.store ≡ s.old look.store
@@ -276,3 +290,12 @@ module _ {s : Step} {region : ℕ} {planned : List PlannedLook} {given sights : 
   turn_gives new next after (unwritten {id} clock place missing further at) answer is =
       let named = the_look new next clock (port.Made place next.clock (Missing missing (id ∷ further))) at in
       subst (Tells new next after) (sym is) (record { clock = clock; place = place; missing = missing; further = further; look = named }, refl)
+
+-- only a fault that says so is answered as not ready
+pub not_refused_so : (fault : ShimFault) (answer : BarrierAnswer) → IsRefusal fault answer → (fault ≡ NotYet → ⊥) → answer ≡ answers.NotYet → ⊥
+not_refused_so NotYet answer is other said = other refl
+not_refused_so (Full held owed need) answer is other said = let no : answers.Full held owed need ≡ answers.NotYet = sym is ∙ said in absurd (cc)
+not_refused_so (Spent clock) answer is other said = let no : answers.Spent clock ≡ answers.NotYet = sym is ∙ said in absurd (cc)
+not_refused_so (Unwritten id) answer is other said = let no : answers.Unwritten id ≡ answers.NotYet = sym is ∙ said in absurd (cc)
+not_refused_so (LineageFull id) answer is other said = is
+not_refused_so NoMemory answer is other said = let no : answers.NoMemory ≡ answers.NotYet = sym is ∙ said in absurd (cc)

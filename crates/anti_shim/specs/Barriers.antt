@@ -11,9 +11,9 @@ use Rattle.anti_shim.specs.declared.barrier_answer.BarrierAnswer.{BarrierAnswer}
 use Rattle.anti_shim.specs.declared.barrier_answer.BarrierAnswer.TheVariants.{Clear, NotYet, Unwritten, Full, Spent, NoMemory}
 use Rattle.anti_shim.specs.declared.looks.PlannedLook.{PlannedLook}
 use Rattle.anti_shim.specs.declared.sight.Sight.{Sight}
-use Rattle.anti_shim.specs.Steps.{Step, IsAdded}
-use Rattle.anti_shim.specs.Sights.{has_sight}
-use Rattle.anti_shim.specs.Looks.{SomeLook, LastLook}
+use Rattle.anti_shim.specs.Steps.{Step, IsAdded, CallerAfter}
+use Rattle.anti_shim.specs.Sights.{has_sight, unseen, HasSights}
+use Rattle.anti_shim.specs.Looks.{SomeLook, LastLook, AddsAtMost, AtMostOneLook, looks_at}
 
 -- the sights that there are after a call: those that it hands out, else the cursor's
 abbrev pub sights_after : BarrierAnswer → List Sight → List Sight
@@ -65,3 +65,14 @@ module _ (step : Step) (region : ℕ) (planned looks : List PlannedLook) (cursor
       LastLook step region false looks (port.Full held owed need)
   BarrierGives (Spent clock) = LastLook step region false looks (port.Spent clock)
   BarrierGives NoMemory = Unit {0}
+
+-- What a barrier does and answers, where `planned` are the planned looks, `before` the sights that
+-- were left in the cursor and `after` what is left there.
+pub record BarrierDoes (step : Step) (region : ℕ) (planned : List PlannedLook)
+    (before after : List Sight) (answer : BarrierAnswer) : Type 0 where
+  pub gives : BarrierGives step region planned (unseen before planned) after answer
+  pub sights : HasSights step.new step.after region planned (sights_after answer after)
+  pub kept : KeepsSights step before (sights_after answer after)
+  pub looks : (o : ℕ) → AtMostOneLook step region false (unseen before planned) o
+  pub made : (o : ℕ) → AddsAtMost step o (looks_at o (unseen before planned))
+  pub caller : CallerAfter step

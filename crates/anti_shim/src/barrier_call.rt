@@ -1,16 +1,16 @@
-ghost use Rattle.std.specs.Prelude.{◌≡◌, ℕ, false};
+ghost use Rattle.std.specs.Prelude.{◌≡◌, ℕ, true};
 ghost use Rattle.anti_shim.specs.Plans.{plan};
-ghost use Rattle.anti_shim.specs.Steps.{between, CallerAfter};
-ghost use Rattle.anti_shim.specs.Sights.{IsHere, unseen, HasSights};
-ghost use Rattle.anti_shim.specs.Looks.{AddsAtMost, AtMostOneLook, looks_at};
-ghost use Rattle.anti_shim.specs.Barriers.{sights_after, KeepsSights, BarrierGives};
+ghost use Rattle.anti_shim.specs.Steps.{between};
+ghost use Rattle.anti_shim.specs.Sights.{IsHere, HasSights};
+ghost use Rattle.anti_shim.specs.Barriers.{BarrierDoes};
 
+use crate::asks::{Asks, Once, UntilReady};
 use crate::barrier_answer::BarrierAnswer;
 use crate::barrier_cursor::Barrier;
 use crate::caller::Caller;
 use crate::looks::plan;
 use anti_ids::Lineage;
-use anti_kind::Port;
+use anti_kind::{Port, WaitPort};
 use std::alloc::Global;
 
 /// Looks at each store of `here` of which the lineage has ids and of which the cursor has no sight,
@@ -27,22 +27,50 @@ pub fn barrier<P: Port>(
     cursor: &mut Barrier,
 ) -> BarrierAnswer
     requires here { IsHere (P.start port.old) region here.now }
-    requires sights { let planned = plan here.now lineage.now in
-        HasSights (P.view port.old) who.old region planned cursor.old }
+    requires sights { HasSights (P.view port.old) who.old region (plan here.now lineage.now) cursor.old }
     ensures answer { let step = between P.Port port.old port.new who.old who.new in
-        let planned = plan here.now lineage.now in
-        BarrierGives step region planned (unseen cursor.old planned) cursor.new result }
-    ensures sights { let planned = plan here.now lineage.now in
-        HasSights (P.view port.new) who.new region planned (sights_after result cursor.new) }
-    ensures kept { let step = between P.Port port.old port.new who.old who.new in
-        KeepsSights step cursor.old (sights_after result cursor.new) }
-    ensures looks { let step = between P.Port port.old port.new who.old who.new in
-        let looks = unseen cursor.old (plan here.now lineage.now) in
-        (o : ℕ) → AtMostOneLook step region false looks o }
-    ensures made { let step = between P.Port port.old port.new who.old who.new in
-        let looks = unseen cursor.old (plan here.now lineage.now) in
-        (o : ℕ) → AddsAtMost step o (looks_at o looks) }
-    ensures caller { CallerAfter (between P.Port port.old port.new who.old who.new) }
+        BarrierDoes step region (plan here.now lineage.now) cursor.old cursor.new result }
+    ensures fixed { (o : ℕ) → P.start port.new o ≡ P.start port.old o }
+{
+    go_over::<P, Once>(alloc, port, who, region, here, lineage, cursor)
+}
+
+/// As `barrier`, over a port whose calls may wait: each look is made once it is ready. It may wait,
+/// and never answers `NotYet`.
+pub fn barrier_wait<P: WaitPort>(
+    alloc: Global,
+    port: &mut P,
+    who: &mut Caller,
+    region: u32,
+    here: &[u32],
+    lineage: &Lineage,
+    cursor: &mut Barrier,
+) -> BarrierAnswer
+    requires here { IsHere (P.start port.old) region here.now }
+    requires sights { HasSights (P.view port.old) who.old region (plan here.now lineage.now) cursor.old }
+    ensures answer { let step = between P.Port port.old port.new who.old who.new in
+        BarrierDoes step region (plan here.now lineage.now) cursor.old cursor.new result }
+    ensures waits { result ≡ BarrierAnswer.NotYet → ⊥ }
+    ensures fixed { (o : ℕ) → P.start port.new o ≡ P.start port.old o }
+{
+    go_over::<P, UntilReady>(alloc, port, who, region, here, lineage, cursor)
+}
+
+// A barrier over a port that is asked so.
+fn go_over<P: Port, A: Asks<P>>(
+    alloc: Global,
+    port: &mut P,
+    who: &mut Caller,
+    region: u32,
+    here: &[u32],
+    lineage: &Lineage,
+    cursor: &mut Barrier,
+) -> BarrierAnswer
+    requires here { IsHere (P.start port.old) region here.now }
+    requires sights { HasSights (P.view port.old) who.old region (plan here.now lineage.now) cursor.old }
+    ensures answer { let step = between P.Port port.old port.new who.old who.new in
+        BarrierDoes step region (plan here.now lineage.now) cursor.old cursor.new result }
+    ensures waits { A.waits ≡ true → result ≡ BarrierAnswer.NotYet → ⊥ }
     ensures fixed { (o : ℕ) → P.start port.new o ≡ P.start port.old o }
 {
     let Ok(looks) = plan(alloc, here, lineage) else {
@@ -52,7 +80,7 @@ pub fn barrier<P: Port>(
         if cursor.has(look.store) {
             continue;
         }
-        if let Err(fault) = cursor.look(port, who, region, look) {
+        if let Err(fault) = cursor.look::<P, A>(port, who, region, look) {
             return BarrierAnswer::refused(fault);
         }
     }

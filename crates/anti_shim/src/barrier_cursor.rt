@@ -1,8 +1,9 @@
-ghost use Rattle.std.specs.Prelude.{◌≡◌, ℕ, []};
+ghost use Rattle.std.specs.Prelude.{◌≡◌, ℕ, [], Err, is_some, true};
 ghost use Rattle.anti_shim.specs.Steps.{between};
 ghost use Rattle.anti_shim.specs.Sights.{has_sight};
 ghost use Rattle.anti_shim.specs.inner.Looks.{LooksOnce};
 
+use crate::asks::Asks;
 use crate::caller::Caller;
 use crate::fault::ShimFault;
 use crate::looks::PlannedLook;
@@ -56,8 +57,8 @@ impl Barrier {
         std::mem::replace(&mut self.seen, List::new(alloc))
     }
 
-    // Makes a planned look, and keeps its sight.
-    pub(crate) fn look<P: Port>(
+    // Makes a planned look at a port that is asked so, and keeps its sight.
+    pub(crate) fn look<P: Port, A: Asks<P>>(
         &mut self,
         port: &mut P,
         who: &mut Caller,
@@ -67,10 +68,11 @@ impl Barrier {
         ensures answer { let step = between P.Port port.old port.new who.old who.new in
             LooksOnce step region look.now self.old self.new result }
         ensures fixed { (o : ℕ) → P.start port.new o ≡ P.start port.old o }
+        ensures waits { A.waits ≡ true → is_some (P.start port.old look.now.store) ≡ true → result ≡ Err ShimFault.NotYet → ⊥ }
     {
         let ids = look.ids.share()?;
         self.seen.reserve(1)?;
-        let sight = see(port, who, look.store, region, ids)?;
+        let sight = see::<P, A>(port, who, look.store, region, ids)?;
         self.seen.put(sight);
         Ok(())
     }

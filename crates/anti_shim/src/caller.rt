@@ -1,6 +1,7 @@
-ghost use Rattle.std.specs.Prelude.{◌≡◌, ℕ};
+ghost use Rattle.std.specs.Prelude.{◌≡◌, ℕ, Err, is_some, true};
 ghost use Rattle.anti_shim.specs.Steps.{between, IsAsked};
 
+use crate::asks::{Asks, Once};
 use crate::fault::ShimFault;
 use anti_kind::{Actor, Answer, Call, Port, Reply};
 
@@ -33,7 +34,22 @@ impl Caller {
             IsAsked step object call result }
         ensures fixed { (o : ℕ) → P.start port.new o ≡ P.start port.old o }
     {
-        match port.call(object, self.actor, self.span, self.clock, call) {
+        self.ask_by::<P, Once>(port, object, call)
+    }
+
+    // Makes one call on an object of a port that is asked so.
+    pub(crate) fn ask_by<P: Port, A: Asks<P>>(
+        &mut self,
+        port: &mut P,
+        object: u32,
+        call: Call,
+    ) -> Result<Made, ShimFault>
+        ensures answer { let step = between P.Port port.old port.new self.old self.new in
+            IsAsked step object call result }
+        ensures fixed { (o : ℕ) → P.start port.new o ≡ P.start port.old o }
+        ensures waits { A.waits ≡ true → is_some (P.start port.old object) ≡ true → result ≡ Err ShimFault.NotYet → ⊥ }
+    {
+        match A::ask(port, object, self.actor, self.span, self.clock, call) {
             Answer::Made {
                 place,
                 stamp,

@@ -3,11 +3,12 @@
 //!
 //! A `Caller` makes the calls. A `StoreShim`, which is a `KvShim`, a `TableShim`, a `BlobShim`, a
 //! `QueueShim` or a `TopicShim`, makes those of one store. `barrier` waits for the writes of a
-//! lineage at all stores of a region, and `dry_run` names those that are not visible there: both
-//! make the looks of `plan`. A `Sight` tells where a look found nothing missing, and a `Barrier`
+//! lineage at all stores of a region, `barrier_wait` does so where the port's calls may wait, and
+//! `dry_run` names those that are not visible there: all make the looks of `plan`. A `Sight` tells where a look found nothing missing, and a `Barrier`
 //! keeps the sights.
 #![tactic(auto)]
 
+mod asks;
 mod barrier_answer;
 mod barrier_call;
 mod barrier_cursor;
@@ -20,7 +21,7 @@ mod sight;
 mod store_shim;
 
 pub use barrier_answer::BarrierAnswer;
-pub use barrier_call::barrier;
+pub use barrier_call::{barrier, barrier_wait};
 pub use barrier_cursor::Barrier;
 pub use caller::Caller;
 pub use dry_run_call::dry_run;

@@ -1,7 +1,8 @@
-ghost use Rattle.std.specs.Prelude.{◌≡◌, ℕ};
+ghost use Rattle.std.specs.Prelude.{◌≡◌, ℕ, Err, is_some, true};
 ghost use Rattle.anti_shim.specs.Steps.{between};
 ghost use Rattle.anti_shim.specs.Shims.{Sees};
 
+use crate::asks::Asks;
 use crate::caller::{Caller, Made};
 use crate::fault::ShimFault;
 use anti_ids::{Copies, Lineage, List, NoMemory};
@@ -26,8 +27,8 @@ impl Copies for Sight {
 /// A list of sights.
 pub type Sights = List<Sight>;
 
-// Makes one look that is not dry, and gives its sight.
-pub(crate) fn see<P: Port>(
+// Makes one look that is not dry at a port that is asked so, and gives its sight.
+pub(crate) fn see<P: Port, A: Asks<P>>(
     port: &mut P,
     who: &mut Caller,
     store: u32,
@@ -37,6 +38,7 @@ pub(crate) fn see<P: Port>(
     ensures answer { let step = between P.Port port.old port.new who.old who.new in
         Sees step store region ids result }
     ensures fixed { (o : ℕ) → P.start port.new o ≡ P.start port.old o }
+    ensures waits { A.waits ≡ true → is_some (P.start port.old store) ≡ true → result ≡ Err ShimFault.NotYet → ⊥ }
 {
     let look = Call::Look {
         region,
@@ -47,7 +49,7 @@ pub(crate) fn see<P: Port>(
         place,
         stamp,
         reply,
-    } = who.ask(port, store, look)?;
+    } = who.ask_by::<P, A>(port, store, look)?;
     let Reply::Missing { unwritten, .. } = reply else {
         unreachable!()
     };

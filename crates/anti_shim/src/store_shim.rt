@@ -4,6 +4,7 @@ ghost use Rattle.anti_shim.specs.Steps.{between};
 ghost use Rattle.anti_shim.specs.Shims.{Appends, IsShown, Polls, Reads, Scans, Sees, Writes};
 ghost use Rattle.anti_shim.specs.inner.Writes.{Puts};
 
+use crate::asks::Once;
 use crate::caller::Caller;
 use crate::fault::ShimFault;
 use crate::kinds::{ReadByKey, TableStore, TopicStore};
@@ -117,7 +118,7 @@ impl<K> StoreShim<K> {
         ensures fixed { (o : ℕ) → P.start port.new o ≡ P.start port.old o }
     {
         let ids = ids_at(alloc, self.store, ids)?;
-        see(port, who, self.store, self.region, ids)
+        see::<P, Once>(port, who, self.store, self.region, ids)
     }
 }
 

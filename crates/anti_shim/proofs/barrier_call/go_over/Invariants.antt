@@ -3,7 +3,7 @@ use Rattle.anti_shim.specs.Plans.{plan}
 use Rattle.anti_shim.specs.Steps.{between}
 use Rattle.anti_shim.specs.Sights.{has_sight}
 use Rattle.anti_shim.proofs.BarrierLoop.{Went, Unasked}
-use Rattle.anti_shim.proofs.barrier_call.barrier.Given as goal
+use Rattle.anti_shim.proofs.barrier_call.go_over.Given as goal
 
 abbrev pub invariant-loop-look : goal.invariant-loop-look
 invariant-loop-look g l =

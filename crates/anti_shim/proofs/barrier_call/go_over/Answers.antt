@@ -1,24 +1,24 @@
-use Rattle.std.proofs.Common.{◌≡◌, ◌<◌, ◌≤◌, List, false, length, get_or, All, true, refl, ap, sym, ◌∙◌, subst}
-use Rattle.std.specs.Prelude.{Result, Ok, Err}
+use Rattle.std.proofs.Common.{◌≡◌, ◌<◌, ◌≤◌, List, length, get_or, All, true, refl, ap, sym, ◌∙◌, subst}
+use Rattle.std.specs.Prelude.{Option, Some, Result, Ok, Err, is_some}
 use Rattle.std.proofs.lemmas.List.{take_all}
 use Rattle.std.proofs.lemmas.List.Elements.{All-nil, All-more}
 use Rattle.anti_shim.specs.declared.barrier_answer.BarrierAnswer.{BarrierAnswer}
+use Rattle.anti_shim.specs.declared.barrier_answer.BarrierAnswer.TheVariants.{Clear, NoMemory}
 use Rattle.anti_shim.specs.declared.fault.ShimFault.{ShimFault}
+use Rattle.anti_kind.specs.Objects.{Start, store}
 use Rattle.anti_shim.specs.declared.looks.PlannedLook.{PlannedLook}
 use Rattle.anti_shim.specs.declared.sight.Sight.{Sight}
 use Rattle.anti_shim.specs.Plans.{plan}
 use Rattle.anti_shim.specs.Steps.{between}
-use Rattle.anti_shim.specs.Sights.{has_sight, unseen, HasSights}
-use Rattle.anti_shim.specs.Barriers.{sights_after, KeepsSights, BarrierGives}
+use Rattle.anti_shim.specs.Sights.{has_sight, unseen}
+use Rattle.anti_shim.specs.Barriers.{sights_after, BarrierGives}
 use Rattle.anti_shim.specs.inner.Looks.{LooksOnce, IsRefusal}
-use Rattle.anti_shim.proofs.LookLemmas.{made_bound}
 use Rattle.anti_shim.proofs.PlanLemmas.{plan_right}
-use Rattle.anti_shim.proofs.SightLemmas.{sights_of}
-use Rattle.anti_shim.proofs.BarrierLoop.{Went, Turn, went_start, turn_went, turn_seen, turn_gives, fails}
+use Rattle.anti_shim.proofs.BarrierLoop.{Went, done, Turn, is_right, went_start, turn_went, turn_seen, turn_gives, fails, not_refused_so}
 use Rattle.anti_shim.proofs.NextCall.{last}
-use Rattle.anti_shim.proofs.barrier_call.barrier.Given as given
-use Rattle.anti_shim.proofs.barrier_call.barrier.Goals as goal
-use Rattle.anti_shim.proofs.barrier_call.barrier.Goals.{After-look, After-as_slice-look-items}
+use Rattle.anti_shim.proofs.barrier_call.go_over.Given as given
+use Rattle.anti_shim.proofs.barrier_call.go_over.Goals as goal
+use Rattle.anti_shim.proofs.barrier_call.go_over.Goals.{After-look, After-as_slice-look-items}
 
 pub loop-look-init : goal.loop-look-init
 loop-look-init g c =
@@ -29,6 +29,14 @@ loop-look-init g c =
       covered = All-nil (λ (l : PlannedLook). has_sight c.args.cursor.now l.store ≡ true);
       fixed = λ o. refl;
     }
+
+-- without memory for the plan nothing was looked at
+pub returns-in_default-clause-answer : goal.returns-in_default-clause-answer
+returns-in_default-clause-answer g c =
+    let planned = plan c.args.here.now c.args.lineage.now in
+    let views = g.P.Port.view c.args.port.now in
+    done (between g.P.Port c.args.port.now c.args.port.now c.args.who.now c.args.who.now) c.args.region planned c.args.cursor.now c.args.cursor.now c.args.cursor.now NoMemory
+    (went_start (g.P.Port.start c.args.port.now) views c.args.who.now c.args.region planned c.args.cursor.now c.requires.sights) refl tt
 
 -- the looks that are gone over are the planned ones
 pub loop-look-preserved-then-has : goal.loop-look-preserved-then-has
@@ -91,32 +99,20 @@ refused : (g : given.Over) (c : After-look g) (fault : ShimFault) → c.look.res
 refused g c fault gave answer is = turn_gives (turn g c) (g.P.Port.view c.look.new.port) c.look.new.who c.look.new.self (fails (looked g c (Err fault) gave)) answer is
 
 pub returns-in-Err-clause-answer : goal.returns-in-Err-clause-answer
-returns-in-Err-clause-answer g c = (refused g (goal.at.returns-in-Err-clause-answer g c).After-look c.in-Err.fault c.in-Err.is c.refused.result c.refused.ensures).0
+returns-in-Err-clause-answer g c =
+    let a = (goal.at.returns-in-Err-clause-answer g c).After-look in
+    let gave = refused g a c.in-Err.fault c.in-Err.is c.refused.result c.refused.ensures in
+    done (between g.P.Port c.args.port.now c.look.new.port c.args.who.now c.look.new.who) c.args.region (plan c.args.here.now c.args.lineage.now) c.args.cursor.now c.look.new.self c.look.new.self c.refused.result
+    (went g a) gave.1 gave.0
 
-pub returns-in-Err-clause-sights : goal.returns-in-Err-clause-sights
-returns-in-Err-clause-sights g c =
-    let a = (goal.at.returns-in-Err-clause-sights g c).After-look in
-    let w = went g a in
-    let seen = sights_of (g.P.Port.view c.look.new.port) c.args.who.now c.look.new.who c.args.region (plan c.args.here.now c.args.lineage.now) c.look.new.self w.caller.actor w.caller.span w.seen in
-    subst (λ (xs : List Sight). HasSights (g.P.Port.view c.look.new.port) c.look.new.who c.args.region (plan c.args.here.now c.args.lineage.now) xs)
-    (sym (refused g a c.in-Err.fault c.in-Err.is c.refused.result c.refused.ensures).1) seen
-
-pub returns-in-Err-clause-kept : goal.returns-in-Err-clause-kept
-returns-in-Err-clause-kept g c =
-    let a = (goal.at.returns-in-Err-clause-kept g c).After-look in
-    subst (λ (xs : List Sight). KeepsSights (between g.P.Port c.args.port.now c.look.new.port c.args.who.now c.look.new.who) c.args.cursor.now xs)
-    (sym (refused g a c.in-Err.fault c.in-Err.is c.refused.result c.refused.ensures).1) (went g a).kept
-
-pub returns-in-Err-clause-looks : goal.returns-in-Err-clause-looks
-returns-in-Err-clause-looks g c = (went g (goal.at.returns-in-Err-clause-looks g c).After-look).looked
-
-pub returns-in-Err-clause-made : goal.returns-in-Err-clause-made
-returns-in-Err-clause-made g c o =
-    let s = between g.P.Port c.args.port.now c.look.new.port c.args.who.now c.look.new.who in
-    made_bound s c.args.region false (unseen c.args.cursor.now (plan c.args.here.now c.args.lineage.now)) o ((went g (goal.at.returns-in-Err-clause-made g c).After-look).looked o)
-
-pub returns-in-Err-clause-caller : goal.returns-in-Err-clause-caller
-returns-in-Err-clause-caller g c = (went g (goal.at.returns-in-Err-clause-caller g c).After-look).caller
+-- a port that waits gave no fault that says that the look is not ready
+pub returns-in-Err-clause-waits : goal.returns-in-Err-clause-waits
+returns-in-Err-clause-waits g c waits =
+    let a = (goal.at.returns-in-Err-clause-waits g c).After-look in
+    let right = is_right (turn g a) in
+    let start : g.P.Port.start c.loop-look.port c.look-item.result.store ≡ Some (store right.start) = c.loop-look.invariant.fixed c.look-item.result.store ∙ right.is_start in
+    not_refused_so c.in-Err.fault c.refused.result c.refused.ensures
+    (λ is. c.look.ensures.waits waits (ap (λ (s : Option Start). is_some s) start) (c.in-Err.is ∙ ap Err is))
 
 -- all planned looks were gone over
 pub returns-clause-answer : goal.returns-clause-answer
@@ -126,10 +122,6 @@ returns-clause-answer g c =
     let past : length planned ≤ c.loop-look.look-index = subst (λ (xs : List PlannedLook). length xs ≤ c.loop-look.look-index) items c.loop-look-test.false in
     let covered : All (λ l. has_sight c.loop-look.cursor l.store ≡ true) planned =
     subst (λ (xs : List PlannedLook). All (λ l. has_sight c.loop-look.cursor l.store ≡ true) xs) (take_all c.loop-look.look-index planned past) c.loop-look.invariant.covered in
+    done (between g.P.Port c.args.port.now c.loop-look.port c.args.who.now c.loop-look.who) c.args.region planned c.args.cursor.now c.loop-look.cursor c.take.new.self (Clear c.take.result)
+    c.loop-look.invariant.went c.take.ensures.sights
     (subst (λ (xs : List Sight). All (λ l. has_sight xs l.store ≡ true) planned) (sym c.take.ensures.sights) covered, c.take.ensures.none)
-
-pub returns-clause-sights : goal.returns-clause-sights
-returns-clause-sights g c =
-    let w = c.loop-look.invariant.went in
-    let seen = sights_of (g.P.Port.view c.loop-look.port) c.args.who.now c.loop-look.who c.args.region (plan c.args.here.now c.args.lineage.now) c.loop-look.cursor w.caller.actor w.caller.span w.seen in
-    subst (λ (xs : List Sight). HasSights (g.P.Port.view c.loop-look.port) c.loop-look.who c.args.region (plan c.args.here.now c.args.lineage.now) xs) (sym c.take.ensures.sights) seen

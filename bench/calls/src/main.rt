@@ -1,0 +1,204 @@
+//! Makes calls on shared key-value stores, by so many threads: a benchmark. `calls 4 100` has four threads make 4,000 calls together on
+//! one store, a hundred times, each time on a new store.
+#![tactic(auto)]
+
+ghost use Rattle.std.specs.Prelude.{◌≡◌, IfSome};
+
+use anti_ids::{Lineage, Name, Value};
+use anti_kind::{Actor, Answer, Call, Handle, Machine, Reply};
+use anti_kv::Kv;
+use anti_shared::{Pass, Shared};
+use std::alloc::Global;
+use std::env;
+use std::process::ExitCode;
+use std::sync::Wait;
+use std::thread::{Threads, join};
+
+// How many calls are made on one store.
+const CALLS: u32 = 4000;
+
+// The version that a write made, which is then shipped.
+fn version_of(answer: &Answer) -> u64 {
+    match answer {
+        Answer::Made {
+            reply: Reply::Written { version, .. },
+            ..
+        } => *version,
+        _ => 0,
+    }
+}
+
+// Writes, ships what was written, and reads twice, so often.
+fn work<M: Machine, R: Wait + AllocGlobal>(
+    rt: &R,
+    shared: &Shared<M>,
+    mut pass: Pass<M>,
+    key: Name,
+    turns: u32,
+) -> Pass<M>
+    requires { pass.id ≡ shared.now.id }
+    ensures { result.id ≡ pass.id }
+{
+    for turn in 0..turns {
+        let Some(call) = write_of(rt.alloc(), key) else {
+            return pass;
+        };
+        let answer = shared.call(rt, &mut pass, Actor::Carrier(0), turn, 0, call);
+        let ship = Call::Ship {
+            region: 0,
+            version: version_of(&answer),
+            part: 1,
+        };
+        let _ = shared.call(rt, &mut pass, Actor::Carrier(0), turn, 0, ship);
+        for _ in 0..2 {
+            let read = Call::Read { region: 0, key };
+            let _ = shared.call(rt, &mut pass, Actor::Carrier(0), turn, 0, read);
+        }
+    }
+    pass
+}
+
+// A write of the value `v` to a key, with the empty lineage.
+fn write_of(alloc: Global, key: Name) -> Option<Call> {
+    let value = Value::new(alloc, b"v").ok()?;
+    let key = Handle::new(alloc, key).ok()?;
+    let lineage = Handle::new(alloc, Lineage::root(alloc)).ok()?;
+    Some(Call::Write {
+        key,
+        value,
+        lineage,
+    })
+}
+
+// Two threads work.
+fn work_two<M: Machine + Send, R: Threads + Wait + Sync + AllocGlobal>(
+    rt: &R,
+    shared: &Shared<M>,
+    first: Pass<M>,
+    second: Pass<M>,
+    key: Name,
+    turns: u32,
+) -> (Pass<M>, Pass<M>)
+    requires first { first.id ≡ shared.now.id }
+    requires second { second.id ≡ shared.now.id }
+    ensures first { result.0.id ≡ shared.now.id }
+    ensures second { result.1.id ≡ shared.now.id }
+{
+    join(
+        rt,
+        || work(rt, shared, first, key, turns),
+        || work(rt, shared, second, key, turns),
+    )
+}
+
+// Four threads work.
+fn work_four<M: Machine + Send, R: Threads + Wait + Sync + AllocGlobal>(
+    rt: &R,
+    shared: &Shared<M>,
+    first: Pass<M>,
+    second: Pass<M>,
+    third: Pass<M>,
+    fourth: Pass<M>,
+    key: Name,
+    turns: u32,
+) -> ((Pass<M>, Pass<M>), (Pass<M>, Pass<M>))
+    requires first { first.id ≡ shared.now.id }
+    requires second { second.id ≡ shared.now.id }
+    requires third { third.id ≡ shared.now.id }
+    requires fourth { fourth.id ≡ shared.now.id }
+    ensures first { result.0.0.id ≡ shared.now.id }
+    ensures second { result.0.1.id ≡ shared.now.id }
+    ensures third { result.1.0.id ≡ shared.now.id }
+    ensures fourth { result.1.1.id ≡ shared.now.id }
+{
+    join(
+        rt,
+        ||
+            requires { (first.id ≡ shared.now.id) × (second.id ≡ shared.now.id) }
+        { work_two(rt, shared, first, second, key, turns) },
+        ||
+            requires { (third.id ≡ shared.now.id) × (fourth.id ≡ shared.now.id) }
+        { work_two(rt, shared, third, fourth, key, turns) },
+    )
+}
+
+// A further pass, where there is room for one.
+fn split<M: Machine>(shared: &Shared<M>, pass: &mut Pass<M>) -> Option<Pass<M>>
+    requires { pass.old.id ≡ shared.now.id }
+    ensures rest { pass.new.id ≡ shared.now.id }
+    ensures new { IfSome result (λ pass. pass.id ≡ shared.now.id) }
+{
+    if pass.room() == 0 {
+        return None;
+    }
+    shared.split(pass).ok()
+}
+
+// So many threads, which are one, two or four, make all calls on a new store. It gives how many were made.
+fn round<R: Threads + Wait + Sync + AllocGlobal>(
+    rt: &R,
+    threads: u32,
+    key: Name,
+) -> Option<usize> {
+    let store = Kv::new(rt.alloc(), 0, &[0]).ok()?;
+    let (shared, mut first) = Shared::new(rt.alloc(), 0, store).ok()?;
+    let pass = match threads {
+        1 => work(rt, &shared, first, key, CALLS / 4),
+        2 => {
+            let second = split(&shared, &mut first)?;
+            let (mut first, second) = work_two(rt, &shared, first, second, key, CALLS / 8);
+            shared.join(&mut first, second);
+            first
+        }
+        _ => {
+            let second = split(&shared, &mut first)?;
+            let third = split(&shared, &mut first)?;
+            let fourth = split(&shared, &mut first)?;
+            let ((mut first, second), (third, fourth)) =
+                work_four(rt, &shared, first, second, third, fourth, key, CALLS / 16);
+            shared.join(&mut first, second);
+            shared.join(&mut first, third);
+            shared.join(&mut first, fourth);
+            first
+        }
+    };
+    let kept = shared.close(pass).ok()?;
+    Some(kept.history().len())
+}
+
+// The number that digits state.
+fn number(digits: &[u8]) -> u32 {
+    let mut value: u32 = 0;
+    for digit in digits {
+        value = value.wrapping_mul(10).wrapping_add((*digit as u32).wrapping_sub(48));
+    }
+    value
+}
+
+fn main(rt: HostRuntime) -> ExitCode {
+    let Ok(arguments) = env::args(&rt) else {
+        return ExitCode::FAILURE;
+    };
+    let mut threads = 1;
+    let mut rounds = 1;
+    for (place, argument) in arguments.enumerate() {
+        if place == 1 {
+            threads = number(argument.as_bytes());
+        }
+        if place == 2 {
+            rounds = number(argument.as_bytes());
+        }
+    }
+    let Ok(key) = Name::new(b"k") else {
+        return ExitCode::FAILURE;
+    };
+    let mut made: usize = 0;
+    for _ in 0..rounds {
+        match round(&rt, threads, key) {
+            Some(calls) => made = made.wrapping_add(calls),
+            None => return ExitCode::FAILURE,
+        }
+    }
+    let _ = println!(rt; "{made}");
+    ExitCode::SUCCESS
+}

@@ -1,0 +1,6 @@
+mod Numbered
+mod Seated
+mod Answering
+mod Waiting
+pub mod Crossing
+mod Here

@@ -1,0 +1,10 @@
+use denote.Param.Send.{sendable}
+use Rattle.std.proofs.Crossing.{crosses}
+use Rattle.anti_shared.proofs.Crossing.{pass_send, shared_sync}
+use Rattle.anti_shared.proofs.tests.write_and_ship.Goals as goal
+
+pub join-requires-send-F : goal.join-requires-send-F
+join-requires-send-F g c κs within = search (pass_send, shared_sync, crosses, sendable) depth 20
+
+pub join-requires-send-A : goal.join-requires-send-A
+join-requires-send-A g c κs within = search (pass_send, sendable) depth 20

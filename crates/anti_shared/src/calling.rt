@@ -1,0 +1,94 @@
+ghost use Rattle.std.specs.Prelude.{◌≡◌, All, IfOk, IfErr};
+ghost use Rattle.anti_kind.specs.Objects.{IsShip};
+ghost use Rattle.anti_kind.specs.Ports.{Answered};
+ghost use Rattle.anti_shared.specs.Passes.{after_call, after_calls, start_of, view_of};
+ghost use Rattle.anti_shared.specs.inner.Offers.{answer_of};
+
+use crate::pass::Pass;
+use crate::shared::Shared;
+use anti_kind::{Actor, Answer, Asking, Call, Machine};
+use std::sync::Wait;
+use std::thread;
+
+impl<M: Machine> Shared<M> {
+    // Takes the turn, offers what is asked, and gives the turn back. What is not ready comes back.
+    fn visit<R: Wait>(&self, rt: &R, pass: &mut Pass<M>, asking: Asking) -> Result<Answer, Asking>
+        requires of { pass.old.id ≡ self.now.id }
+        requires object { asking.object ≡ self.now.id.object }
+        ensures answered { Answered (start_of M.start pass.old.id) asking (view_of pass.old) (view_of pass.new) (answer_of result) }
+        ensures waits { IfOk result (λ answer. answer ≡ Answer.NotYet → ⊥) }
+        ensures back { IfErr result (λ back. back ≡ asking) }
+        ensures pass { pass.new ≡ after_call pass.old pass.new.seen pass.new.mine }
+        ensures own { All (λ e. e.seat ≡ pass.old.number) pass.new.mine }
+        ensures ship { IsShip asking.call → IfOk result (λ answer. answer ≡ Answer.NoMemory → ⊥) }
+    {
+        let number = pass.seat.number();
+        let mut held = self.turn.enter(rt, &mut pass.seat);
+        let answer = held.value.offer(number, asking);
+        self.turn.leave(&mut pass.seat, held);
+        answer
+    }
+
+    /// Makes a call on the object, for an actor whose last stamp is `clock`. It may wait for the turn. Of a `Ship` it takes no memory.
+    pub fn call<R: Wait>(
+        &self,
+        rt: &R,
+        pass: &mut Pass<M>,
+        actor: Actor,
+        span: u32,
+        clock: u64,
+        c: Call,
+    ) -> Answer
+        requires { pass.old.id ≡ self.now.id }
+        ensures answer { Answered (start_of M.start pass.old.id) (record { object = pass.old.id.object; actor = actor; span = span; clock = clock; call = c }) (view_of pass.old) (view_of pass.new) result }
+        ensures pass { pass.new ≡ after_call pass.old pass.new.seen pass.new.mine }
+        ensures own { All (λ e. e.seat ≡ pass.old.number) pass.new.mine }
+        ensures ship { IsShip c → result ≡ Answer.NoMemory → ⊥ }
+    {
+        let asking = Asking {
+            object: self.object,
+            actor,
+            span,
+            clock,
+            call: c,
+        };
+        match self.visit(rt, pass, asking) {
+            Ok(answer) => answer,
+            Err(_) => Answer::NotYet,
+        }
+    }
+
+    /// Makes a call on the object once it is ready: it tries until then, and never answers `NotYet`. Of a `Ship` it takes no memory.
+    pub fn call_wait<R: Wait>(
+        &self,
+        rt: &R,
+        pass: &mut Pass<M>,
+        actor: Actor,
+        span: u32,
+        clock: u64,
+        c: Call,
+    ) -> Answer
+        requires { pass.old.id ≡ self.now.id }
+        ensures answer { Answered (start_of M.start pass.old.id) (record { object = pass.old.id.object; actor = actor; span = span; clock = clock; call = c }) (view_of pass.old) (view_of pass.new) result }
+        ensures waits { result ≡ Answer.NotYet → ⊥ }
+        ensures pass { pass.new ≡ after_calls pass.old pass.new.seen pass.new.mine pass.new.visits }
+        ensures own { All (λ e. e.seat ≡ pass.old.number) pass.new.mine }
+        ensures ship { IsShip c → result ≡ Answer.NoMemory → ⊥ }
+    {
+        let mut asking = Asking {
+            object: self.object,
+            actor,
+            span,
+            clock,
+            call: c,
+        };
+        for _ in rt.forever() {
+            match self.visit(rt, pass, asking) {
+                Ok(answer) => return answer,
+                Err(back) => asking = back,
+            }
+            thread::yield_now();
+        }
+        unreachable!()
+    }
+}

@@ -1,0 +1,112 @@
+ghost use Rattle.std.specs.Prelude.{◌≡◌, [], false, IfOk, IfErr, OnErr};
+ghost use Rattle.anti_kind.specs.Objects.{IsLegal, IsShip, StandsFor, ready};
+ghost use Rattle.anti_kind.specs.Lones.{IsNumbered};
+ghost use Rattle.anti_kind.specs.Records.{Gives};
+ghost use Rattle.anti_shared.specs.inner.Keeping.{AreOf};
+
+use anti_ids::NoMemory;
+use anti_kind::{Answer, Asking, Entry, History, Machine, Recorded};
+use anti_turn::Listed;
+use std::alloc::Global;
+use std::marker::Model;
+use std::snapshot::Snapshot;
+
+/// An object that was shared: its state, and the history of the calls that were made on it.
+#[derive(Drop)]
+pub struct Kept<M: Machine> {
+    object: u32,
+    recorded: Recorded<M>,
+    first: Snapshot<M>,
+}
+
+impl<M: Machine> Model for Kept<M> {
+    ghost use Rattle.anti_shared.specs.Passes.{KeptView};
+    ghost use Rattle.anti_shared.specs.inner.Keeping.{IsKept};
+
+    ghost Value = { KeptView M };
+
+    ghost view = { λ k. record {
+      object = k.object;
+      first = k.first.value;
+      state = k.recorded.machine;
+      history = k.recorded.history;
+    } };
+
+    ghost invariant = { λ k. IsKept (M.start k.recorded.machine) (M.start k.first.value) k.object k.recorded.history };
+}
+
+impl<M: Machine> Listed for Kept<M> {
+    type Entry = Entry;
+
+    type Fixed = (u32, M);
+
+    ghost list = { λ kept. kept.history };
+
+    ghost by = { λ entry. entry.seat };
+
+    ghost fixed = { λ kept. (kept.object, kept.first) };
+}
+
+impl<M: Machine> Kept<M> {
+    // The object of this number, at its start. The start is given back where there is no memory.
+    pub(crate) fn new(alloc: Global, object: u32, start: M) -> Result<Kept<M>, (M, NoMemory)>
+        requires fresh { StandsFor (M.start start) (M.Stands start) [] }
+        requires numbered { IsNumbered (M.start start) object }
+        ensures ok { IfOk result (λ k. k ≡ record { object = object; first = start; state = start; history = [] }) }
+        ensures err { IfErr result (λ e. e.0 ≡ start) }
+    {
+        let first = Snapshot::of(&start);
+        match Recorded::new(alloc, start) {
+            Ok(recorded) => Ok(Kept {
+                object,
+                recorded,
+                first,
+            }),
+            Err(refused) => Err(refused),
+        }
+    }
+
+    /// The state, which stands for the history. It takes no memory.
+    pub fn state(&self) -> &M
+        ensures state { result.now ≡ self.now.state }
+        ensures stands { StandsFor (M.start self.now.state) (M.Stands self.now.state) self.now.history }
+        ensures start { M.start self.now.state ≡ M.start self.now.first }
+    {
+        self.recorded.machine()
+    }
+
+    /// The calls that were made on the object. It takes no memory.
+    pub fn history(&self) -> &History
+        ensures items { result.now.items ≡ self.now.history }
+        ensures legal { IsLegal (M.start self.now.first) self.now.history }
+        ensures own { AreOf self.now.object self.now.history }
+        ensures numbered { IsNumbered (M.start self.now.first) self.now.object }
+    {
+        self.recorded.history()
+    }
+
+    /// The state and the calls that were made. It takes no memory.
+    pub fn into_parts(self) -> (M, History)
+        ensures state { result.0 ≡ self.state }
+        ensures history { result.1.items ≡ self.history }
+    {
+        self.recorded.into_parts()
+    }
+
+    // Makes what is asked of the object, under the number of the pass that asks, or says why it does not. What is not ready is given back.
+    pub(crate) fn offer(&mut self, seat: u32, asking: Asking) -> Result<Answer, Asking>
+        requires { asking.object ≡ self.old.object }
+        ensures gives { IfOk result (λ answer. Gives (M.start self.old.first) self.old.history seat asking self.new.history answer) }
+        ensures waits { IfOk result (λ answer. answer ≡ Answer.NotYet → ⊥) }
+        ensures back { IfErr result (λ back. back ≡ asking) }
+        ensures not_yet { OnErr result (ready (M.start self.old.first) self.old.history asking.call ≡ false) }
+        ensures same { OnErr result (self.new.history ≡ self.old.history) }
+        ensures object { self.new.object ≡ self.old.object }
+        ensures first { self.new.first ≡ self.old.first }
+        ensures before { IsLegal (M.start self.old.first) self.old.history }
+        ensures after { IsLegal (M.start self.old.first) self.new.history }
+        ensures ship { IsShip asking.call → IfOk result (λ answer. answer ≡ Answer.NoMemory → ⊥) }
+    {
+        self.recorded.offer(seat, asking)
+    }
+}

@@ -1,0 +1,299 @@
+-- Each step of a turn keeps its rule, and tells what it is to tell.
+use Rattle.std.proofs.Common.{◌≡◌, ◌==◌, ℕ, ◌+◌, ◌-◌, ◌*◌, ◌/◌, ◌%◌, ◌^◌, ◌<◌, ◌≤◌, true, false, List, [], ◌∷◌, set, get_or, Option, Some, All, sym, refl, ap, ◌∙◌, subst, arith}
+use mathlib.Core.Option as home
+use lib.ListN.{get_elem?}
+use prog.Atomic.{either}
+use Rattle.atomic_table.specs.Table.{State, Act, keeps, takes, gives, Valid, step, stepped, carried_after, Allows, Splits, Joins, opening, Final, Seen}
+use Rattle.atomic_table.proofs.Lists.{exchanged, set_again}
+use Rattle.anti_turn.specs.declared.view.View.{View}
+use Rattle.anti_turn.specs.Lists.{times, entries_of, GoesOn, Adds}
+use Rattle.anti_turn.specs.inner.Views.{first_view, spent_view, view_numbers, drawn_of, times_claimed, weight, room_of, IsAtRest}
+use Rattle.anti_turn.specs.inner.Rules.{Fits, IsKept}
+use Rattle.anti_turn.specs.inner.Steps.{Hand, taken_view, freed_view, raised_view, rest_view, split_view, joined_view, lowered_view, asked_view, Tries, Frees, Raises, Lowers, Counts}
+use Rattle.anti_turn.proofs.Totals.{term_le}
+use Rattle.anti_turn.proofs.Counting.{live_weight, never_claimed}
+use Rattle.anti_turn.proofs.Fronts.{all_claimed, none_in_front}
+use Rattle.anti_turn.proofs.Fitting.{begin, take, free_turn, raise, split, join, lower, ask, alone_count, ends}
+
+-- ---- the word of the seats, and its halves
+
+quotient : (made out : ℕ) → out < 4294967296 → (made * 4294967296 + out) / 4294967296 ≡ made
+quotient made out small = omega arith
+
+remainder : (made out : ℕ) → out < 4294967296 → (made * 4294967296 + out) % 4294967296 ≡ out
+remainder made out small = omega arith
+
+one_more : (made out : ℕ) → made + 1 < 4294967296 → out ≤ made → (made * 4294967296 + out + 4294967297) % 2 ^ 64 ≡ (made + 1) * 4294967296 + (out + 1)
+one_more made out fits few = omega arith
+
+one_less : (made out : ℕ) → made < 4294967296 → out ≤ made → 0 < out → (made * 4294967296 + out + (2 ^ 64 - 1)) % 2 ^ 64 ≡ made * 4294967296 + (out - 1)
+one_less made out fits few some = omega arith
+
+module _ {T E F : Type 0} (list : T → List E) (by : E → ℕ) (fixed : T → F) (part : F) where
+  pub opens : (x : T) → list x ≡ [] → fixed x ≡ part → IsKept list by fixed part (opening (0 ∷ 4294967297 ∷ []) (Some x ∷ []) (first_view part))
+  opens x empty same = record {
+    turn = 0;
+    holder = 0;
+    made = 1;
+    out = 1;
+    slot = home.some (Some x);
+    all = [];
+    words = refl;
+    homes = refl;
+    fits = begin list by fixed part x empty same;
+  }
+
+  module _ (s : State (Option T) (View E F)) (r : IsKept list by fixed part s) where
+    turn_found : get_or s.words 0 0 ≡ r.turn
+    turn_found = ap (λ (ws : List ℕ). get_or ws 0 0) r.words
+
+    seats_found : get_or s.words 1 0 ≡ r.made * 4294967296 + r.out
+    seats_found = ap (λ (ws : List ℕ). get_or ws 1 0) r.words
+
+    -- neither half of the word overflows
+    few_made : r.made < 4294967296
+    few_made = let c = r.fits.counts.rooms in omega arith
+
+    few_out : r.out < 4294967296
+    few_out = let c = r.fits.counts.few in let m = few_made in omega arith
+
+    -- a step that changes nothing
+    unmoved : (id : ℕ) (m : Hand T E F) → get_elem? s.views id ≡ home.some m.0 → IsKept list by fixed part (stepped s 0 (get_or s.words 0 0) id m.1 m.0 keeps)
+    unmoved id m at = record {
+      turn = r.turn;
+      holder = r.holder;
+      made = r.made;
+      out = r.out;
+      slot = r.slot;
+      all = r.all;
+      words = ap (λ (ws : List ℕ). set ws 0 (get_or ws 0 0)) r.words;
+      homes = r.homes;
+      fits = subst (λ (vs : List (View E F)). Fits list by fixed part r.turn r.holder r.made r.out r.slot r.all vs) (sym (set_again s.views id m.0 at)) r.fits;
+    }
+
+  pub takes_turn : (slots id : ℕ) (m : Hand T E F) → IsAtRest m.0
+      → Allows (IsKept list by fixed part) slots id m 0 (λ n. either (n == 0) 1 n) (Tries list by fixed (step slots 0 0 1 home.none) m)
+  takes_turn slots id m rest s r _ at _ =
+      let n : ℕ = get_or s.words 0 0 in
+      let Goal : ℕ → Type 0 = λ k. (w : View E F) × (a : Act (Option T)) × Valid s.homes m.1 a × IsKept list by fixed part (stepped s 0 k id m.1 w a)
+      × Tries list by fixed (step slots 0 0 1 home.none) m n (w, carried_after m.1 a) in
+      exchanged n 0 1 Goal
+      (λ hit.
+      let free : r.turn ≡ 0 = sym (turn_found s r) ∙ hit in
+      let value = r.fits.free free in
+      let x = value.0 in
+      let known = r.fits.knows id m.0 at in
+      let w = taken_view m.0 (list x) in
+      let theirs : m.0.fixed ≡ Some part = known.part_is rest.live in (
+        w,
+        takes 0 (Some x),
+        ap (λ (hs : List (home.Option (Option T))). get_elem? hs 0) r.homes ∙ ap (λ (h : home.Option (Option T)). home.some h) value.1,
+        record {
+          turn = 1;
+          holder = id;
+          made = r.made;
+          out = r.out;
+          slot = home.none;
+          all = r.all;
+          words = ap (λ (ws : List ℕ). set ws 0 1) r.words;
+          homes = ap (λ (hs : List (home.Option (Option T))). set hs 0 home.none) r.homes;
+          fits = take list by fixed part r.turn r.holder r.made r.out r.slot r.all s.views r.fits id m.0 at rest.live x free value.2 rest.host rest.guest;
+        },
+        (
+          (λ now. (x, refl, subst (λ (xs : List E). GoesOn by (view_numbers m.0) m.0.seen xs) (sym value.2) known.seen, theirs ∙ ap Some (sym value.3))),
+          (λ busy. absurd (busy hit)),
+        ),
+      ))
+      (λ miss. (m.0, keeps, tt, unmoved s r id m at, ((λ now. absurd (miss now)), (λ busy. refl))))
+
+  same_value : (x y : T) → (let one : List (ℕ × Option T) = (0, Some x) ∷ [] in let two : List (ℕ × Option T) = (0, Some y) ∷ [] in one ≡ two) → x ≡ y
+  same_value x y p =
+      let one : ℕ × Option T = (0, Some x) in
+      let two : ℕ × Option T = (0, Some y) in
+      let q : one ≡ two = cc in
+      let values : Some x ≡ Some y = ap (λ (z : ℕ × Option T). z.1) q in cc
+
+  module _ (slots id : ℕ) (v : View E F) (x : T) (rest : IsAtRest v) (holds : v.holds ≡ true) (adds : Adds by v.number v.seen (list x)) (same : v.fixed ≡ Some (fixed x)) where
+    frees : Allows (IsKept list by fixed part) slots id (v, (0, Some x) ∷ []) 0 (λ _. 0) (λ _. Frees list (step slots 0 0 0 home.none) (v, (0, Some x) ∷ []) 0)
+    frees s r _ at _ = (
+      freed_view v (list x),
+      gives,
+      tt,
+      record {
+        turn = 0;
+        holder = r.holder;
+        made = r.made;
+        out = r.out;
+        slot = home.some (Some x);
+        all = list x;
+        words = ap (λ (ws : List ℕ). set ws 0 0) r.words;
+        homes = ap (λ (hs : List (home.Option (Option T))). set hs 0 (home.some (Some x))) r.homes;
+        fits = free_turn list by fixed part r.turn r.holder r.made r.out r.slot r.all s.views r.fits id v at rest.live x rest holds adds same;
+      },
+      (λ y p. ap (λ (z : T). let z' : Hand T E F = (freed_view v (list z), []) in z') (same_value x y p)),
+    )
+
+    pub frees_turn : (m : Hand T E F) → m ≡ (v, (0, Some x) ∷ []) → Allows (IsKept list by fixed part) slots id m 0 (λ _. 0) (λ _. Frees list (step slots 0 0 0 home.none) m 0)
+    frees_turn m is = subst (λ (z : Hand T E F). Allows (IsKept list by fixed part) slots id z 0 (λ _. 0) (λ _. Frees list (step slots 0 0 0 home.none) z 0)) (sym is) frees
+
+  pub raises : (slots id : ℕ) (m : Hand T E F) → IsAtRest m.0 → 0 < m.0.room
+      → Allows (IsKept list by fixed part) slots id m 1 (λ n. (n + 4294967297) % 2 ^ 64) (Raises by (step slots 1 4294967297 0 home.none) m)
+  raises slots id m rest room s r _ at _ =
+      let n : ℕ = get_or s.words 1 0 in
+      let found : n ≡ r.made * 4294967296 + r.out = seats_found s r in
+      let mine = term_le room_of s.views id m.0 at in
+      let had : room_of m.0 ≡ m.0.room = refl in
+      let rooms = r.fits.counts.rooms in
+      let few = r.fits.counts.few in
+      let fits_made : r.made + 1 < 4294967296 = omega arith in
+      let number : n / 4294967296 ≡ r.made = ap (λ (k : ℕ). k / 4294967296) found ∙ quotient r.made r.out (few_out s r) in
+      let next : (n + 4294967297) % 2 ^ 64 ≡ (r.made + 1) * 4294967296 + (r.out + 1) = ap (λ (k : ℕ). (k + 4294967297) % 2 ^ 64) found ∙ one_more r.made r.out fits_made few in
+      let w = raised_view m.0 (r.made + 1) in
+      let same : r.made + 1 ≡ n / 4294967296 + 1 = ap (λ (k : ℕ). k + 1) (sym number) in
+      let new = r.fits.counts.below (r.made + 1) (omega arith) in
+      let claimed = term_le (times_claimed (r.made + 1)) s.views id m.0 at in
+      let owned : times_claimed (r.made + 1) m.0 ≡ times (r.made + 1) (view_numbers m.0) + times (r.made + 1) (drawn_of m.0) = refl in
+      let apart : times (r.made + 1) (view_numbers m.0) ≡ 0 = omega arith in
+      let none = never_claimed by r.made r.out r.all s.views (r.made + 1) new r.fits.counts in (
+        w,
+        keeps,
+        tt,
+        record {
+          turn = r.turn;
+          holder = r.holder;
+          made = r.made + 1;
+          out = r.out + 1;
+          slot = r.slot;
+          all = r.all;
+          words = ap (λ (ws : List ℕ). set ws 1 ((n + 4294967297) % 2 ^ 64)) r.words ∙ ap (λ (k : ℕ). r.turn ∷ k ∷ []) next;
+          homes = r.homes;
+          fits = raise list by fixed part r.turn r.holder r.made r.out r.slot r.all s.views r.fits id m.0 at rest.live rest.drawn room;
+        },
+        (
+          ap (λ (k : ℕ). let z : Hand T E F = (raised_view m.0 k, m.1) in z) same,
+          (omega arith),
+          subst (λ (k : ℕ). times k (view_numbers m.0) ≡ 0) same apart,
+          subst (λ (k : ℕ). entries_of by k m.0.seen ≡ []) same (none_in_front by (r.made + 1) m.0.seen r.all (r.fits.knows id m.0 at).seen.front none),
+        ),
+      )
+
+  split_keeps : (id : ℕ) (v : View E F) (n : ℕ) → v.live ≡ true → v.drawn ≡ Some n → Splits (IsKept list by fixed part) id v (rest_view v) (split_view v)
+  split_keeps id v n live drawn s r at = record {
+    turn = r.turn;
+    holder = r.holder;
+    made = r.made;
+    out = r.out;
+    slot = r.slot;
+    all = r.all;
+    words = r.words;
+    homes = r.homes;
+    fits = split list by fixed part r.turn r.holder r.made r.out r.slot r.all s.views r.fits id v at live n drawn;
+  }
+
+  -- a seat is split that has drawn a number just now
+  pub splits : (id : ℕ) (m : Hand T E F) (v : View E F) (n : ℕ) (slots : List (ℕ × Option T)) → m ≡ (raised_view v n, slots) → v.live ≡ true
+      → Splits (IsKept list by fixed part) id m.0 (rest_view m.0) (split_view m.0)
+  splits id m v n slots is live =
+      subst (λ (z : Hand T E F). Splits (IsKept list by fixed part) id z.0 (rest_view z.0) (split_view z.0)) (sym is) (split_keeps id (raised_view v n) n live refl)
+
+  pub joins : (id : ℕ) (v : View E F) (other : ℕ) (u : View E F) → v.live ≡ true → v.holds ≡ false → IsAtRest u → u.holds ≡ false
+      → Joins (IsKept list by fixed part) id v other u (joined_view v u) spent_view
+  joins id v other u live free rest also_free s r at apart there = record {
+    turn = r.turn;
+    holder = r.holder;
+    made = r.made;
+    out = r.out;
+    slot = r.slot;
+    all = r.all;
+    words = r.words;
+    homes = r.homes;
+    fits = join list by fixed part r.turn r.holder r.made r.out r.slot r.all s.views r.fits id v at live free other u apart there rest also_free;
+  }
+
+  lower_allows : (slots id : ℕ) (m : Hand T E F) → m.0.live ≡ true → 0 < m.0.owed
+      → Allows (IsKept list by fixed part) slots id m 1 (λ n. (n + (2 ^ 64 - 1)) % 2 ^ 64) (Lowers by (step slots 1 1 0 home.none) m)
+  lower_allows slots id m live some s r _ at _ =
+      let n : ℕ = get_or s.words 1 0 in
+      let found : n ≡ r.made * 4294967296 + r.out = seats_found s r in
+      let counts = r.fits.counts in
+      let known = r.fits.knows id m.0 at in
+      let few = counts.few in
+      let heavy = live_weight m.0 live in
+      let mine = term_le weight s.views id m.0 at in
+      let sum = counts.seats in
+      let out_some : 0 < r.out = omega arith in
+      let next : (n + (2 ^ 64 - 1)) % 2 ^ 64 ≡ r.made * 4294967296 + (r.out - 1) =
+      ap (λ (k : ℕ). (k + (2 ^ 64 - 1)) % 2 ^ 64) found ∙ one_less r.made r.out (few_made s r) few out_some in
+      let room = term_le room_of s.views id m.0 at in
+      let had : room_of m.0 ≡ m.0.room = refl in
+      let rooms = counts.rooms in (
+        lowered_view m.0,
+        keeps,
+        tt,
+        record {
+          turn = r.turn;
+          holder = r.holder;
+          made = r.made;
+          out = r.out - 1;
+          slot = r.slot;
+          all = r.all;
+          words = ap (λ (ws : List ℕ). set ws 1 ((n + (2 ^ 64 - 1)) % 2 ^ 64)) r.words ∙ ap (λ (k : ℕ). r.turn ∷ k ∷ []) next;
+          homes = r.homes;
+          fits = lower list by fixed part r.turn r.holder r.made r.out r.slot r.all s.views r.fits id m.0 at live some;
+        },
+        (
+          refl,
+          (omega arith),
+          known.host,
+          known.guest,
+          (λ k. let once = counts.once k in let claimed = term_le (times_claimed k) s.views id m.0 at in
+              let owned : times_claimed k m.0 ≡ times k (view_numbers m.0) + times k (drawn_of m.0) = refl in omega arith),
+        ),
+      )
+
+  -- the count is lowered for a seat that was joined just now
+  pub lowers : (slots id : ℕ) (m : Hand T E F) (v u : View E F) (held : List (ℕ × Option T)) → m ≡ (joined_view v u, held) → v.live ≡ true
+      → Allows (IsKept list by fixed part) slots id m 1 (λ n. (n + (2 ^ 64 - 1)) % 2 ^ 64) (Lowers by (step slots 1 1 0 home.none) m)
+  lowers slots id m v u held is live =
+      subst (λ (z : Hand T E F). Allows (IsKept list by fixed part) slots id z 1 (λ n. (n + (2 ^ 64 - 1)) % 2 ^ 64) (Lowers by (step slots 1 1 0 home.none) z)) (sym is)
+      (lower_allows slots id (joined_view v u, held) live (omega arith))
+
+  pub counts : (slots id : ℕ) (m : Hand T E F) → m.0.live ≡ true
+      → Allows (IsKept list by fixed part) slots id m 1 (λ n. n) (Counts (step slots 1 0 0 home.none) m)
+  counts slots id m live s r _ at _ =
+      let n : ℕ = get_or s.words 1 0 in
+      let found : n ≡ r.made * 4294967296 + r.out = seats_found s r in
+      let out_is : r.out ≡ n % 4294967296 = sym (ap (λ (k : ℕ). k % 4294967296) found ∙ remainder r.made r.out (few_out s r)) in
+      let heavy = live_weight m.0 live in
+      let mine = term_le weight s.views id m.0 at in
+      let sum = r.fits.counts.seats in (
+        asked_view m.0 (n % 4294967296),
+        keeps,
+        tt,
+        record {
+          turn = r.turn;
+          holder = r.holder;
+          made = r.made;
+          out = r.out;
+          slot = r.slot;
+          all = r.all;
+          words = ap (λ (ws : List ℕ). set ws 1 (get_or ws 1 0)) r.words;
+          homes = r.homes;
+          fits = subst (λ (k : ℕ). Fits list by fixed part r.turn r.holder r.made r.out r.slot r.all (set s.views id (asked_view m.0 k))) out_is
+              (ask list by fixed part r.turn r.holder r.made r.out r.slot r.all s.views r.fits id m.0 at live);
+        },
+        (
+          refl,
+          (omega arith),
+          (λ a light. sym out_is ∙ (alone_count list by fixed part r.turn r.holder r.made r.out r.slot r.all s.views r.fits id m.0 at live a ∙ light)),
+        ),
+      )
+
+  -- what comes out of a turn that a lone seat closes
+  pub closes : (id : ℕ) (v : View E F) (ws : List ℕ) (xs : List (Option T)) → Final (Seen (IsKept list by fixed part) id v) ws xs → v.live ≡ true → v.holds ≡ false → v.alone ≡ true
+      → (x : T) × (get_elem? xs 0 ≡ home.some (Some x)) × (list x ≡ v.seen) × (v.fixed ≡ Some (fixed x)) × All (λ e. 0 < times (by e) (v.number ∷ v.ended)) (list x)
+  closes id v ws xs (s, (r, at), words, long, values) live free alone =
+      let e = ends list by fixed part r.turn r.holder r.made r.out r.slot r.all s.views r.fits id v at live free alone in
+      let there : get_elem? s.homes 0 ≡ home.some (home.some (Some e.0)) =
+      ap (λ (hs : List (home.Option (Option T))). get_elem? hs 0) r.homes ∙ ap (λ (h : home.Option (Option T)). home.some h) e.1 in
+      (e.0, values 0 (Some e.0) there, e.2, e.3, all_claimed by (v.number ∷ v.ended) (list e.0) e.4)

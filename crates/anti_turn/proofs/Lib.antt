@@ -1,0 +1,7 @@
+pub mod Fronts
+pub mod Times
+mod Totals
+mod Counting
+mod Fitting
+mod Keeps
+mod Shown

@@ -1,0 +1,49 @@
+ghost use Rattle.std.specs.Prelude.{◌≡◌, true, false, Some};
+ghost use Rattle.anti_turn.specs.Lists.{Adds, GoesOn};
+ghost use Rattle.anti_turn.specs.Places.{numbers_of, with_turn, without_turn};
+
+use crate::listed::Listed;
+use crate::plays::{Free, Take};
+use crate::seat::Seat;
+use crate::turn::{FREE, Held, TAKEN, TURN, Turn, VALUE};
+use std::sync::Wait;
+
+impl<T: Listed> Turn<T> {
+    /// Waits for the turn, and takes it with the value. The list of the value goes on from what the seat had seen, with no further entry
+    /// of the seat's own. It takes no memory.
+    pub fn enter<R: Wait>(&self, rt: &R, seat: &mut Seat<T>) -> Held<T>
+        requires turn { seat.old.id ≡ self.now.id }
+        requires free { seat.old.holds ≡ false }
+        ensures seat { seat.new ≡ with_turn seat.old (T.list result.value) }
+        ensures list { GoesOn T.by (numbers_of seat.old) seat.old.seen (T.list result.value) }
+        ensures fixed { seat.old.fixed ≡ Some (T.fixed result.value) }
+    {
+        let shared = &self.table.shared;
+        for _ in rt.forever() {
+            let found = shared.compare_exchange::<Take<T>>(&mut seat.seat, TURN, FREE, TAKEN);
+            if found == FREE {
+                let slot = shared.exchange(&mut seat.seat, VALUE, None);
+                let Some(value) = slot else { unreachable!() };
+                return Held { value };
+            }
+            shared.park(rt, TURN, TAKEN as u32);
+        }
+        unreachable!()
+    }
+
+    /// Gives the value and the turn back. The list may have further entries, all of the seat's number. It takes no memory.
+    pub fn leave(&self, seat: &mut Seat<T>, held: Held<T>)
+        requires turn { seat.old.id ≡ self.now.id }
+        requires holds { seat.old.holds ≡ true }
+        requires list { Adds T.by seat.old.number seat.old.seen (T.list held.value) }
+        requires fixed { seat.old.fixed ≡ Some (T.fixed held.value) }
+        ensures { seat.new ≡ without_turn seat.old (T.list held.value) }
+    {
+        let Held { value } = held;
+        let shared = &self.table.shared;
+        let nothing = shared.exchange(&mut seat.seat, VALUE, Some(value));
+        let None = nothing else { unreachable!() };
+        shared.store::<Free<T>>(&mut seat.seat, TURN, FREE);
+        shared.wake_one(TURN);
+    }
+}
