@@ -1,4 +1,4 @@
-//! Makes calls on shared key-value stores, by so many threads: a benchmark. `calls 4 100` has four threads make 4,000 calls together on
+//! Makes calls on shared key-value stores, by so many threads: a benchmark. `anti_calls 4 100` has four threads make 4,000 calls together on
 //! one store, a hundred times, each time on a new store.
 #![tactic(auto)]
 
@@ -135,11 +135,7 @@ fn split<M: Machine>(shared: &Shared<M>, pass: &mut Pass<M>) -> Option<Pass<M>>
 }
 
 // So many threads, which are one, two or four, make all calls on a new store. It gives how many were made.
-fn round<R: Threads + Wait + Sync + AllocGlobal>(
-    rt: &R,
-    threads: u32,
-    key: Name,
-) -> Option<usize> {
+fn round<R: Threads + Wait + Sync + AllocGlobal>(rt: &R, threads: u32, key: Name) -> Option<usize> {
     let store = Kv::new(rt.alloc(), 0, &[0]).ok()?;
     let (shared, mut first) = Shared::new(rt.alloc(), 0, store).ok()?;
     let pass = match threads {
@@ -154,8 +150,16 @@ fn round<R: Threads + Wait + Sync + AllocGlobal>(
             let second = split(&shared, &mut first)?;
             let third = split(&shared, &mut first)?;
             let fourth = split(&shared, &mut first)?;
-            let ((mut first, second), (third, fourth)) =
-                work_four(rt, &shared, first, second, third, fourth, key, CALLS / 16);
+            let ((mut first, second), (third, fourth)) = work_four(
+                rt,
+                &shared,
+                first,
+                second,
+                third,
+                fourth,
+                key,
+                CALLS / 16,
+            );
             shared.join(&mut first, second);
             shared.join(&mut first, third);
             shared.join(&mut first, fourth);
@@ -170,7 +174,9 @@ fn round<R: Threads + Wait + Sync + AllocGlobal>(
 fn number(digits: &[u8]) -> u32 {
     let mut value: u32 = 0;
     for digit in digits {
-        value = value.wrapping_mul(10).wrapping_add((*digit as u32).wrapping_sub(48));
+        value = value
+            .wrapping_mul(10)
+            .wrapping_add((*digit as u32).wrapping_sub(48));
     }
     value
 }

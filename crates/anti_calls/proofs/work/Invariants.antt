@@ -1,5 +1,5 @@
 use Rattle.std.proofs.Common.{◌≡◌}
-use Rattle.calls.proofs.work.Given as goal
+use Rattle.anti_calls.proofs.work.Given as goal
 
 -- the pass is of the object
 abbrev pub invariant-loop-turn : goal.invariant-loop-turn
