@@ -29,9 +29,13 @@ pub record IsLate (start : Start) (seen : List Entry) (region version clock : �
   pub ships : asked.call ≡ Ship region version 1
   pub spent : IsSpent start seen asked clock
 
--- After what was seen the first part of a version could be shipped, but for want of room, or of a stamp.
-abbrev pub IsRefusal : Option Start → View → ℕ → ℕ → Refusal → Type 0
-IsRefusal None view region version refusal = ⊥
-IsRefusal (Some start) view region version NotYet = ⊥
-IsRefusal (Some start) view region version (Full held owed need) = IsFull start view.seen (Ship region version 1) held owed need
-IsRefusal (Some start) view region version (Spent clock) = IsLate start view.seen region version clock
+-- After what was seen the first part of this version could be shipped, but for want of room, or of a stamp.
+abbrev pub IsRefusedAt : Option Start → View → ℕ → ℕ → Refusal → Type 0
+IsRefusedAt None view region version refusal = ⊥
+IsRefusedAt (Some start) view region version NotYet = ⊥
+IsRefusedAt (Some start) view region version (Full held owed need) = IsFull start view.seen (Ship region version 1) held owed need
+IsRefusedAt (Some start) view region version (Spent clock) = IsLate start view.seen region version clock
+
+-- It was so with some version.
+abbrev pub IsRefused : Option Start → View → ℕ → Refusal → Type 0
+IsRefused start view region refusal = (version : ℕ) × IsRefusedAt start view region version refusal

@@ -2,7 +2,7 @@ ghost use Rattle.std.specs.Prelude.{◌≡◌, ℕ, ◌+◌, ◌<◌, ◌≤◌,
 ghost use Rattle.anti_kind.specs.Lones.{lone_start, lone_view};
 ghost use Rattle.anti_kind.specs.Objects.{IsStart, ready};
 ghost use Rattle.anti_kv.specs.KvStates.{its_start, kv_start};
-ghost use Rattle.anti_callers.specs.Shipments.{AreBrought, IsLeft, IsRefusal};
+ghost use Rattle.anti_callers.specs.Shipments.{AreBrought, IsLeft, IsRefused};
 
 use anti_ids::{MOST_UNITS, NoMemory};
 use anti_kind::{Actor, Answer, Call, Lone, Port, Refusal};
@@ -34,7 +34,7 @@ pub fn bring_from<P: Port>(
     requires { first + most < 2 ^ 64 }
     ensures brought { IfOk result (AreBrought (P.view port.new store).seen region first) }
     ensures left { IfOk result (IsLeft (P.start port.old store) (P.view port.new store) region (first + most)) }
-    ensures cause { IfErr result (λ refusal. (version : ℕ) × IsRefusal (P.start port.old store) (P.view port.new store) region version refusal) }
+    ensures cause { IfErr result (IsRefused (P.start port.old store) (P.view port.new store) region) }
     ensures others { (o : ℕ) → (o ≡ store → ⊥) → P.view port.new o ≡ P.view port.old o }
     ensures fixed { (o : ℕ) → P.start port.new o ≡ P.start port.old o }
 {
@@ -63,7 +63,7 @@ pub fn bring_all(port: &mut Lone<Kv>, store: u32, region: u32) -> Result<u64, Re
     ensures brought { IfOk result (AreBrought port.new.history region 1) }
     ensures left { IfOk result (λ left. left ≤ MOST_UNITS
         → ready (its_start port.new.machine) port.new.history (Call.Ship region left 1) ≡ false) }
-    ensures cause { IfErr result (λ refusal. (version : ℕ) × IsRefusal (lone_start its_start port.old store) (lone_view port.new store) region version refusal) }
+    ensures cause { IfErr result (IsRefused (lone_start its_start port.old store) (lone_view port.new store) region) }
 {
     bring_from(port, store, region, 1, MOST_UNITS)
 }

@@ -1,5 +1,5 @@
-//! Makes calls on shared key-value stores, by so many threads: a benchmark. `anti_calls 4 100` has four threads make 4,000 calls together on
-//! one store, a hundred times, each time on a new store.
+//! Makes calls on shared key-value stores, by so many threads: a benchmark. `anti_calls 4 100` has four threads make 4,000 calls together
+//! on one store, a hundred times, each time on a new store. It tells how many calls were made.
 #![tactic(auto)]
 
 ghost use Rattle.std.specs.Prelude.{◌≡◌, IfSome};
@@ -9,10 +9,11 @@ use anti_kind::{Actor, Answer, Call, Handle, Machine, Reply};
 use anti_kv::Kv;
 use anti_shared::{Pass, Shared};
 use std::alloc::Global;
-use std::env;
 use std::process::ExitCode;
+use std::rt::Env;
 use std::sync::Wait;
 use std::thread::{Threads, join};
+use std::{env, str};
 
 // How many calls are made on one store.
 const CALLS: u32 = 4000;
@@ -170,31 +171,28 @@ fn round<R: Threads + Wait + Sync + AllocGlobal>(rt: &R, threads: u32, key: Name
     Some(kept.history().len())
 }
 
-// The number that digits state.
-fn number(digits: &[u8]) -> u32 {
-    let mut value: u32 = 0;
-    for digit in digits {
-        value = value
-            .wrapping_mul(10)
-            .wrapping_add((*digit as u32).wrapping_sub(48));
+// The number of threads and that of rounds, each 1 where it is not told.
+fn words_of<R: Env + AllocGlobal>(rt: &R) -> Option<(u32, u32)> {
+    let mut words = (1, 1);
+    for (place, argument) in env::args(rt).ok()?.skip(1).enumerate() {
+        let number = str::from_utf8(argument.as_bytes())
+            .ok()?
+            .parse::<u32>()
+            .ok()?;
+        match place {
+            0 => words.0 = number,
+            1 => words.1 = number,
+            _ => return None,
+        }
     }
-    value
+    matches!(words.0, 1 | 2 | 4).then_some(words)
 }
 
 fn main(rt: HostRuntime) -> ExitCode {
-    let Ok(arguments) = env::args(&rt) else {
+    let Some((threads, rounds)) = words_of(&rt) else {
+        let _ = eprintln!(rt; "anti_calls THREADS ROUNDS: the threads are 1, 2 or 4");
         return ExitCode::FAILURE;
     };
-    let mut threads = 1;
-    let mut rounds = 1;
-    for (place, argument) in arguments.enumerate() {
-        if place == 1 {
-            threads = number(argument.as_bytes());
-        }
-        if place == 2 {
-            rounds = number(argument.as_bytes());
-        }
-    }
     let Ok(key) = Name::new(b"k") else {
         return ExitCode::FAILURE;
     };
