@@ -1,13 +1,11 @@
 ghost use Rattle.anti_text.specs.Json.{entry_data, process_data, span_data, wait_data};
 
 use crate::json_texts::{
-    add_actor, add_call, add_end, add_handler, add_mark, add_number, add_object, add_reply,
-    add_service, add_string,
+    add_actor, add_answer, add_call, add_choice, add_end, add_handler, add_mark, add_number,
+    add_object, add_reply, add_service, add_span,
 };
 use crate::output::Output;
 use crate::printer::Printer;
-use crate::span_lines::{answer_text, span_name};
-use crate::wait_lines::choice_numbered;
 use anti_ids::NoMemory;
 use anti_kind::Entry;
 use anti_order::SpanAnswer;
@@ -68,12 +66,8 @@ impl Item for SpanAnswer {
 
     #[tactic(auto, using(crate::proofs::Shapes::span_added))]
     fn print(&self, out: &mut Output, printer: &Printer) -> Result<(), NoMemory> {
-        let mut answer = Output::new(printer.alloc);
-        answer_text(&mut answer, printer, &self.answer)?;
-        add_string(out, printer, b"{\"answer\":", &answer)?;
-        let mut name = Output::new(printer.alloc);
-        span_name(&mut name, printer.app, self.span)?;
-        add_string(out, printer, b",\"name\":", &name)?;
+        add_answer(out, printer, b"{\"answer\":", &self.answer)?;
+        add_span(out, printer, b",\"name\":", self.span)?;
         out.put(b"}")
     }
 }
@@ -84,9 +78,7 @@ impl Item for u32 {
 
     #[tactic(auto, using(crate::proofs::Shapes::wait_added))]
     fn print(&self, out: &mut Output, printer: &Printer) -> Result<(), NoMemory> {
-        let mut choice = Output::new(printer.alloc);
-        choice_numbered(&mut choice, printer.app, *self)?;
-        add_string(out, printer, b"{\"choice\":", &choice)?;
+        add_choice(out, printer, b"{\"choice\":", *self)?;
         add_number(out, b",\"number\":", u64::from(*self))?;
         out.put(b"}")
     }

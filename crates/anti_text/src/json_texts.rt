@@ -1,9 +1,10 @@
 ghost use Rattle.std.specs.Prelude.{◌≡◌, ◌++◌, OnOk, decimal};
 ghost use Rattle.serde_json.specs.Written.{compact_text};
 ghost use Rattle.anti_text.specs.Calls.{call_text, reply_text};
-ghost use Rattle.anti_text.specs.Entries.{actor_name};
+ghost use Rattle.anti_text.specs.Entries.{actor_name, choice_numbered};
 ghost use Rattle.anti_text.specs.Json.{text};
 ghost use Rattle.anti_text.specs.Processes.{end_text};
+ghost use Rattle.anti_text.specs.Spans.{answer_text, span_name};
 ghost use Rattle.anti_text.specs.Words.{handler_name, mark_text, object_name, service_name};
 
 use crate::call_words::call_text;
@@ -12,9 +13,13 @@ use crate::output::Output;
 use crate::printer::Printer;
 use crate::process_lines::end_text;
 use crate::reply_words::reply_text;
+use crate::span_lines::{answer_text, span_name};
+use crate::wait_lines::choice_numbered;
 use crate::words::{handler_name, mark_text, object_name, service_name};
 use anti_ids::NoMemory;
 use anti_kind::{Actor, Call, Reply};
+use anti_order::OrderAnswer;
+use anti_past::Span;
 use anti_proc::End;
 use serde_json::Value;
 
@@ -164,4 +169,49 @@ pub fn add_service(
     let mut name = Output::new(printer.alloc);
     service_name(&mut name, printer.app, service)?;
     add_string(out, printer, before, &name)
+}
+
+/// Adds some text and what is answered of the reads of a span.
+pub fn add_answer(
+    out: &mut Output,
+    printer: &Printer,
+    before: &[u8],
+    answer: &OrderAnswer,
+) -> Result<(), NoMemory>
+    ensures { OnOk result
+        (out.new ≡ out.old ++ before.now ++ compact_text (text (answer_text printer.now.app.now answer.now))) }
+{
+    let mut words = Output::new(printer.alloc);
+    answer_text(&mut words, printer, answer)?;
+    add_string(out, printer, before, &words)
+}
+
+/// Adds some text and a span.
+pub fn add_span(
+    out: &mut Output,
+    printer: &Printer,
+    before: &[u8],
+    span: Span,
+) -> Result<(), NoMemory>
+    ensures { OnOk result
+        (out.new ≡ out.old ++ before.now ++ compact_text (text (span_name printer.now.app.now span))) }
+{
+    let mut name = Output::new(printer.alloc);
+    span_name(&mut name, printer.app, span)?;
+    add_string(out, printer, before, &name)
+}
+
+/// Adds some text and a choice, by its number.
+pub fn add_choice(
+    out: &mut Output,
+    printer: &Printer,
+    before: &[u8],
+    number: u32,
+) -> Result<(), NoMemory>
+    ensures { OnOk result
+        (out.new ≡ out.old ++ before.now ++ compact_text (text (choice_numbered printer.now.app.now number))) }
+{
+    let mut words = Output::new(printer.alloc);
+    choice_numbered(&mut words, printer.app, number)?;
+    add_string(out, printer, before, &words)
 }

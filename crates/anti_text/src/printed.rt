@@ -35,21 +35,23 @@ fn entry_lines(out: &mut Output, printer: &Printer, trace: &[Entry]) -> Result<(
 }
 
 // Writes the lines of the choices that made no entry.
-fn wait_lines(out: &mut Output, app: &App, waits: &[u32]) -> Result<(), NoMemory>
-    ensures { OnOk result (out.new ≡ out.old ++ flat_map (wait_line app.now) waits.now) }
+fn wait_lines(out: &mut Output, printer: &Printer, waits: &[u32]) -> Result<(), NoMemory>
+    ensures { OnOk result
+        (out.new ≡ out.old ++ flat_map (wait_line printer.now.app.now) waits.now) }
 {
     for number in waits {
-        wait_line(out, app, *number)?;
+        wait_line(out, printer.app, *number)?;
     }
     Ok(())
 }
 
 // Writes the lines of the processes.
-fn process_lines(out: &mut Output, app: &App, ends: &[ProcessEnd]) -> Result<(), NoMemory>
-    ensures { OnOk result (out.new ≡ out.old ++ flat_map (process_line app.now) ends.now) }
+fn process_lines(out: &mut Output, printer: &Printer, ends: &[ProcessEnd]) -> Result<(), NoMemory>
+    ensures { OnOk result
+        (out.new ≡ out.old ++ flat_map (process_line printer.now.app.now) ends.now) }
 {
     for process in ends {
-        process_line(out, app, process)?;
+        process_line(out, printer.app, process)?;
     }
     Ok(())
 }
@@ -65,6 +67,31 @@ fn span_lines(out: &mut Output, printer: &Printer, spans: &[SpanAnswer]) -> Resu
     Ok(())
 }
 
+// Writes the lines of all that a report tells.
+fn all_lines(out: &mut Output, printer: &Printer, report: &Report) -> Result<(), NoMemory>
+    ensures { OnOk result (out.new ≡ out.old
+        ++ flat_map (entry_line printer.now.app.now) report.now.entries
+        ++ flat_map (wait_line printer.now.app.now) report.now.waits
+        ++ flat_map (process_line printer.now.app.now) report.now.ends
+        ++ flat_map (span_line printer.now.app.now) report.now.spans) }
+{
+    entry_lines(out, printer, report.trace.as_slice())?;
+    wait_lines(out, printer, report.waits.as_slice())?;
+    process_lines(out, printer, report.ends.as_slice())?;
+    span_lines(out, printer, report.spans.as_slice())
+}
+
+// Writes the record of what a report tells, as text.
+fn add_text(out: &mut Output, printer: &Printer, report: &Report) -> Result<(), NoMemory>
+    ensures { OnOk result (out.new ≡ out.old ++ text_of printer.now.app.now report.now) }
+{
+    out.put(b"record 1\n")?;
+    all_lines(out, printer, report)?;
+    out.put(b"end ")?;
+    out.number(report.trace.len() as u64)?;
+    out.put(b"\n")
+}
+
 /// The record of what a report tells, as text: a line for each entry in the order of the trace, for each choice that made no entry, for each
 /// process, and for each span with a read. The only error is want of memory.
 pub fn print(alloc: Global, app: &App, report: &Report) -> Result<Bytes, NoMemory>
@@ -72,15 +99,7 @@ pub fn print(alloc: Global, app: &App, report: &Report) -> Result<Bytes, NoMemor
 {
     let printer = Printer::new(alloc, app, report)?;
     let mut out = Output::new(alloc);
-    let entries = report.trace.as_slice();
-    out.put(b"record 1\n")?;
-    entry_lines(&mut out, &printer, entries)?;
-    wait_lines(&mut out, app, report.waits.as_slice())?;
-    process_lines(&mut out, app, report.ends.as_slice())?;
-    span_lines(&mut out, &printer, report.spans.as_slice())?;
-    out.put(b"end ")?;
-    out.number(entries.len() as u64)?;
-    out.put(b"\n")?;
+    add_text(&mut out, &printer, report)?;
     Ok(out.into_bytes())
 }
 

@@ -1,5 +1,6 @@
-ghost use Rattle.std.specs.Prelude.{◌≡◌, ◌++◌, OnOk};
+ghost use Rattle.std.specs.Prelude.{◌≡◌, ◌++◌, OnOk, codes, decimal};
 ghost use Rattle.anti_text.specs.Entries.{part_text, shipment_text, choice_text, choice_numbered, wait_line};
+ghost use Rattle.anti_text.specs.Words.{service_name, sub_name};
 
 use crate::output::Output;
 use crate::words::{mark_text, region_name, service_name, store_name, sub_name};
@@ -38,22 +39,41 @@ fn shipment_text(
     part_text(out, part)
 }
 
+// Writes a word, a service and the number of a delivery or a message.
+fn delivery_text(
+    out: &mut Output,
+    app: &App,
+    word: &[u8],
+    service: u32,
+    number: u32,
+) -> Result<(), NoMemory>
+    ensures { OnOk result (out.new ≡ out.old ++ word.now
+        ++ service_name app.now service ++ codes " " ++ decimal number) }
+{
+    out.put(word)?;
+    service_name(out, app, service as usize)?;
+    out.put(b" ")?;
+    out.number(u64::from(number))
+}
+
+// Writes a subscription and a version.
+fn message_text(out: &mut Output, app: &App, sub: u32, version: u64) -> Result<(), NoMemory>
+    ensures { OnOk result
+        (out.new ≡ out.old ++ sub_name app.now sub ++ codes " " ++ decimal version) }
+{
+    sub_name(out, app, sub as usize)?;
+    out.put(b" ")?;
+    out.number(version)
+}
+
 // Writes a choice.
 fn choice_text(out: &mut Output, app: &App, choice: &Choice) -> Result<(), NoMemory>
     ensures { OnOk result (out.new ≡ out.old ++ choice_text app.now choice.now) }
 {
     match choice {
-        Choice::Take { service, nth } => {
-            out.put(b"take ")?;
-            service_name(out, app, *service as usize)?;
-            out.put(b" ")?;
-            out.number(u64::from(*nth))
-        }
+        Choice::Take { service, nth } => delivery_text(out, app, b"take ", *service, *nth),
         Choice::Repost { service, number } => {
-            out.put(b"repost ")?;
-            service_name(out, app, *service as usize)?;
-            out.put(b" ")?;
-            out.number(u64::from(*number))
+            delivery_text(out, app, b"repost ", *service, *number)
         }
         Choice::Pull { sub } => {
             out.put(b"pull ")?;
@@ -61,9 +81,7 @@ fn choice_text(out: &mut Output, app: &App, choice: &Choice) -> Result<(), NoMem
         }
         Choice::Repull { sub, version } => {
             out.put(b"repull ")?;
-            sub_name(out, app, *sub as usize)?;
-            out.put(b" ")?;
-            out.number(*version)
+            message_text(out, app, *sub, *version)
         }
         Choice::Ship {
             store,

@@ -5,4 +5,4 @@ use Rattle.anti_text.proofs.printed.process_lines.Given as goal
 
 -- the processes so far are written
 abbrev pub invariant-loop-process : goal.invariant-loop-process
-invariant-loop-process l = l.out ≡ l.initial.out ++ flat_map (process_line l.app) (take l.process-index l.ends)
+invariant-loop-process l = l.out ≡ l.initial.out ++ flat_map (process_line l.printer.app.now) (take l.process-index l.ends)
