@@ -71,58 +71,6 @@ fn write_of(alloc: Global, key: Name) -> Option<Call> {
     })
 }
 
-// Two threads work.
-fn work_two<M: Machine + Send, R: Threads + Wait + Sync + AllocGlobal>(
-    rt: &R,
-    shared: &Shared<M>,
-    first: Pass<M>,
-    second: Pass<M>,
-    key: Name,
-    turns: u32,
-) -> (Pass<M>, Pass<M>)
-    requires first { first.id ≡ shared.now.id }
-    requires second { second.id ≡ shared.now.id }
-    ensures first { result.0.id ≡ shared.now.id }
-    ensures second { result.1.id ≡ shared.now.id }
-{
-    join(
-        rt,
-        || work(rt, shared, first, key, turns),
-        || work(rt, shared, second, key, turns),
-    )
-}
-
-// Four threads work.
-fn work_four<M: Machine + Send, R: Threads + Wait + Sync + AllocGlobal>(
-    rt: &R,
-    shared: &Shared<M>,
-    first: Pass<M>,
-    second: Pass<M>,
-    third: Pass<M>,
-    fourth: Pass<M>,
-    key: Name,
-    turns: u32,
-) -> ((Pass<M>, Pass<M>), (Pass<M>, Pass<M>))
-    requires first { first.id ≡ shared.now.id }
-    requires second { second.id ≡ shared.now.id }
-    requires third { third.id ≡ shared.now.id }
-    requires fourth { fourth.id ≡ shared.now.id }
-    ensures first { result.0.0.id ≡ shared.now.id }
-    ensures second { result.0.1.id ≡ shared.now.id }
-    ensures third { result.1.0.id ≡ shared.now.id }
-    ensures fourth { result.1.1.id ≡ shared.now.id }
-{
-    join(
-        rt,
-        ||
-            requires { (first.id ≡ shared.now.id) × (second.id ≡ shared.now.id) }
-        { work_two(rt, shared, first, second, key, turns) },
-        ||
-            requires { (third.id ≡ shared.now.id) × (fourth.id ≡ shared.now.id) }
-        { work_two(rt, shared, third, fourth, key, turns) },
-    )
-}
-
 // A further pass, where there is room for one.
 fn split<M: Machine>(shared: &Shared<M>, pass: &mut Pass<M>) -> Option<Pass<M>>
     requires { pass.old.id ≡ shared.now.id }
@@ -135,37 +83,61 @@ fn split<M: Machine>(shared: &Shared<M>, pass: &mut Pass<M>) -> Option<Pass<M>>
     shared.split(pass).ok()
 }
 
+// Two threads work. `None` where there is no room for a second pass.
+fn work_two<M: Machine + Send, R: Threads + Wait + Sync + AllocGlobal>(
+    rt: &R,
+    shared: &Shared<M>,
+    mut first: Pass<M>,
+    key: Name,
+    turns: u32,
+) -> Option<Pass<M>>
+    requires { first.id ≡ shared.now.id }
+    ensures { IfSome result (λ pass. pass.id ≡ shared.now.id) }
+{
+    let second = split(shared, &mut first)?;
+    let (mut first, second) = join(
+        rt,
+        || work(rt, shared, first, key, turns),
+        || work(rt, shared, second, key, turns),
+    );
+    shared.join(&mut first, second);
+    Some(first)
+}
+
+// Twice two threads work.
+fn work_four<M: Machine + Send, R: Threads + Wait + Sync + AllocGlobal>(
+    rt: &R,
+    shared: &Shared<M>,
+    mut first: Pass<M>,
+    key: Name,
+    turns: u32,
+) -> Option<Pass<M>>
+    requires { first.id ≡ shared.now.id }
+    ensures { IfSome result (λ pass. pass.id ≡ shared.now.id) }
+{
+    let second = split(shared, &mut first)?;
+    let (first, second) = join(
+        rt,
+        ||
+            requires { first.id ≡ shared.now.id }
+        { work_two(rt, shared, first, key, turns) },
+        ||
+            requires { second.id ≡ shared.now.id }
+        { work_two(rt, shared, second, key, turns) },
+    );
+    let mut first = first?;
+    shared.join(&mut first, second?);
+    Some(first)
+}
+
 // So many threads, which are one, two or four, make all calls on a new store. It gives how many were made.
 fn round<R: Threads + Wait + Sync + AllocGlobal>(rt: &R, threads: u32, key: Name) -> Option<usize> {
     let store = Kv::new(rt.alloc(), 0, &[0]).ok()?;
-    let (shared, mut first) = Shared::new(rt.alloc(), 0, store).ok()?;
+    let (shared, first) = Shared::new(rt.alloc(), 0, store).ok()?;
     let pass = match threads {
         1 => work(rt, &shared, first, key, CALLS / 4),
-        2 => {
-            let second = split(&shared, &mut first)?;
-            let (mut first, second) = work_two(rt, &shared, first, second, key, CALLS / 8);
-            shared.join(&mut first, second);
-            first
-        }
-        _ => {
-            let second = split(&shared, &mut first)?;
-            let third = split(&shared, &mut first)?;
-            let fourth = split(&shared, &mut first)?;
-            let ((mut first, second), (third, fourth)) = work_four(
-                rt,
-                &shared,
-                first,
-                second,
-                third,
-                fourth,
-                key,
-                CALLS / 16,
-            );
-            shared.join(&mut first, second);
-            shared.join(&mut first, third);
-            shared.join(&mut first, fourth);
-            first
-        }
+        2 => work_two(rt, &shared, first, key, CALLS / 8)?,
+        _ => work_four(rt, &shared, first, key, CALLS / 16)?,
     };
     let kept = shared.close(pass).ok()?;
     Some(kept.history().len())

@@ -3,4 +3,3 @@ mod Seated
 mod Answering
 mod Waiting
 pub mod Crossing
-mod Here

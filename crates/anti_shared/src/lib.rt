@@ -10,8 +10,6 @@ mod kept;
 mod pass;
 mod port;
 mod shared;
-#[cfg(test)]
-mod tests;
 
 pub use kept::Kept;
 pub use pass::Pass;

@@ -27,6 +27,8 @@ mod queue;
 #[cfg(test)]
 mod sending;
 #[cfg(test)]
+mod shared;
+#[cfg(test)]
 mod shim;
 #[cfg(test)]
 mod steps;
@@ -36,3 +38,5 @@ mod table;
 mod topic;
 #[cfg(test)]
 mod trace;
+#[cfg(test)]
+mod turn;

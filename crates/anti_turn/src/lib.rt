@@ -14,8 +14,6 @@ mod rule;
 mod seat;
 mod splitting;
 mod tally;
-#[cfg(test)]
-mod tests;
 mod turn;
 mod view;
 

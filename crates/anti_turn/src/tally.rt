@@ -1,5 +1,5 @@
-// The least value that a turn can go round: its entries are the numbers of the seats that added them. The tests use it, and `add` shows what
-// a caller can say of its own entries. It is no test itself, so that edits which must be refused can change how it is used.
+// The least value that a turn can go round: its entries are the numbers of the seats that added them. `add` shows what a caller can say of
+// its own entries, and edits which must be refused change how it is used.
 ghost use Rattle.std.specs.Prelude.{◌≡◌, ◌+◌, false, [], ◌∷◌, ◌++◌, OnOk, OnErr};
 ghost use Rattle.anti_turn.specs.inner.Tallies.{own_entries};
 

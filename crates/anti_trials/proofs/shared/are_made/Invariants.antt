@@ -1,5 +1,5 @@
 use Rattle.std.proofs.Common.{◌≡◌}
-use Rattle.anti_shared.proofs.tests.read_some.Given as goal
+use Rattle.anti_trials.proofs.shared.are_made.Given as goal
 
 -- the pass is of the object
 abbrev pub invariant-loop-span : goal.invariant-loop-span

@@ -1,5 +1,5 @@
 use Rattle.std.proofs.Common.{◌≡◌, false}
-use Rattle.anti_turn.proofs.tests.add_some.Given as goal
+use Rattle.anti_trials.proofs.turn.work.Given as goal
 
 -- the seat is of the turn, and free
 abbrev pub invariant-loop : goal.invariant-loop

@@ -1,0 +1,772 @@
+ghost use Rattle.std.specs.Prelude.{◌≡◌, ℕ, ◌<◌, ◌∷◌, [], Some, IfSome};
+ghost use Rattle.anti_kv.specs.KvStates.{its_start, kv_start};
+ghost use Rattle.anti_shared.specs.Passes.{first_pass, port_start};
+ghost use Rattle.anti_shim.specs.Sights.{IsHere};
+
+use crate::made::{lineage, versions};
+use anti_ids::{Lineage, Name, Value, WriteId};
+use anti_kind::{Actor, Answer, Call, Entry, Handle, Machine, Port, Reply, WaitPort};
+use anti_kv::Kv;
+use anti_shared::{Kept, Pass, Shared, SharedPort};
+use anti_shim::{
+    Barrier, BarrierAnswer, Caller, KvStore, ShimFault, StoreShim, barrier, barrier_wait, dry_run,
+};
+use std::alloc::Global;
+use std::sync::Wait;
+use std::thread::{Threads, join};
+
+// What a store is asked of the key `k`.
+#[derive(Clone, Copy)]
+enum Asked {
+    // To read it, in region 0.
+    Read,
+    // To write the value `v` to it, with the empty lineage.
+    Write,
+    // To bring a version to region 0.
+    Ship,
+}
+
+// What is told.
+#[derive(Clone, Copy)]
+enum Told {
+    // That the call was made.
+    Made,
+    // That it was made, and the place of its entry.
+    MadeAt(u32),
+    // That it is not ready.
+    NotYet,
+    // The units that the store holds, those that it owes, and those that the call needs, which are together more than it has.
+    Full(u32, u32, u32),
+    // That no stamp is left behind this one.
+    Spent(u64),
+    // That this version was written, but is not in the lineage, which is full.
+    LineageFull(u64),
+    // That nobody wrote this version.
+    Unwritten(u64),
+    // How many sights a barrier has.
+    Sights(usize),
+    // That of a lineage this version alone is missing.
+    Missing(u64),
+}
+
+// The write that is asked. `None` where memory runs out.
+fn write(alloc: Global) -> Option<Call> {
+    let Ok(key) = Name::new(b"k") else {
+        return None;
+    };
+    let Ok(key) = Handle::new(alloc, key) else {
+        return None;
+    };
+    let Ok(value) = Value::new(alloc, b"v") else {
+        return None;
+    };
+    match Handle::new(alloc, Lineage::root(alloc)) {
+        Ok(lineage) => Some(Call::Write {
+            key,
+            value,
+            lineage,
+        }),
+        Err(_) => None,
+    }
+}
+
+// The call that is asked, of a version where it brings one. `None` where memory runs out.
+fn call_of(alloc: Global, asked: Asked, version: u64) -> Option<Call> {
+    match asked {
+        Asked::Read => match Name::new(b"k") {
+            Ok(key) => Some(Call::Read { region: 0, key }),
+            Err(_) => None,
+        },
+        Asked::Write => write(alloc),
+        Asked::Ship => Some(Call::Ship {
+            region: 0,
+            version,
+            part: 1,
+        }),
+    }
+}
+
+// Whether an answer tells this.
+fn is_told(answer: &Answer, told: Told) -> bool {
+    match answer {
+        Answer::Made { place, .. } => match told {
+            Told::Made => true,
+            Told::MadeAt(wanted) => *place == wanted,
+            _ => false,
+        },
+        Answer::NotYet => matches!(told, Told::NotYet),
+        Answer::Full { held, owed, need } =>
+            matches!(told, Told::Full(a, b, c) if *held == a && *owed == b && *need == c),
+        Answer::Spent { clock } => matches!(told, Told::Spent(last) if *clock == last),
+        Answer::NoMemory => false,
+    }
+}
+
+// The store 0, of which the only replica is in region 0, shared, and its first pass. `None` where memory runs out.
+fn shared_store(alloc: Global) -> Option<(Shared<Kv>, Pass<Kv>)>
+    ensures of { IfSome result (λ made. made.1.id ≡ made.0.id) }
+    ensures room { IfSome result (λ made. 0 < made.1.room) }
+    ensures start { IfSome result (λ made. port_start its_start (first_pass made.0.id) 0 ≡ Some (kv_start 0 (0 ∷ []))) }
+{
+    let Ok(store) = Kv::new(alloc, 0, &[0]) else {
+        return None;
+    };
+    match Shared::new(alloc, 0, store) {
+        Ok(made) => Some(made),
+        Err(_) => None,
+    }
+}
+
+// Whether the entries of a pass have the spans 0, 1, 2 and so on, one for each of so many calls of a thread.
+fn are_in_order(history: &[Entry], number: u32, calls: u32) -> bool {
+    let mut next: u32 = 0;
+    for entry in history {
+        if entry.seat == number {
+            if entry.span != next {
+                return false;
+            }
+            next = next.saturating_add(1);
+        }
+    }
+    next == calls
+}
+
+// The history that is wanted at the end.
+#[derive(Clone, Copy)]
+enum Wanted {
+    // Each of the passes up to this number has made so many calls, which stand in their order.
+    InOrder(u32, u32),
+    // Two calls, of the passes with these numbers.
+    Two(u32, u32),
+    // So many calls.
+    Calls(usize),
+    // None, since a pass is still out.
+    StillOut,
+}
+
+// Whether there are so many calls of each of the passes up to a number, in their order, and no others.
+fn are_all_in_order(history: &[Entry], passes: u32, calls: u32) -> bool {
+    for before in 0..passes {
+        if !are_in_order(history, before + 1, calls) {
+            return false;
+        }
+    }
+    history.len() as u64 == passes as u64 * calls as u64
+}
+
+// Whether a history is the one that is wanted.
+fn is_wanted(history: &[Entry], wanted: Wanted) -> bool {
+    match wanted {
+        Wanted::InOrder(passes, calls) => are_all_in_order(history, passes, calls),
+        Wanted::Two(first, second) => match history {
+            [one, other] => one.seat == first && other.seat == second,
+            _ => false,
+        },
+        Wanted::Calls(count) => history.len() == count,
+        Wanted::StillOut => false,
+    }
+}
+
+// Whether the history is the one that is wanted, and the state holds a unit for each call.
+fn ends<M: Machine + Drop>(shared: Shared<M>, pass: Pass<M>, wanted: Wanted) -> bool
+    requires { pass.id ≡ shared.id }
+{
+    let Ok(kept) = shared.close(pass) else {
+        return matches!(wanted, Wanted::StillOut);
+    };
+    let is_so = is_wanted(kept.history().as_slice(), wanted);
+    let held = kept.state().held();
+    let (_state, history) = kept.into_parts();
+    is_so && history.len() == held as usize
+}
+
+// Whether a pass has this number and this room.
+fn has<M: Machine>(pass: &Pass<M>, number: u32, room: u64) -> bool {
+    pass.number() == number && pass.room() == room
+}
+
+// Whether a first pass is alone but while a second is out, and what numbers and room both have.
+fn is_alone_but_while_a_second_is_out<M: Machine + Drop>(
+    shared: Shared<M>,
+    mut first: Pass<M>,
+) -> bool
+    requires of { first.id ≡ shared.id }
+    requires room { 0 < first.room }
+{
+    let before = shared.alone(&mut first) && has(&first, 1, 4_294_967_294);
+    let Ok(second) = shared.split(&mut first) else {
+        unreachable!()
+    };
+    let between = !shared.alone(&mut first)
+        && has(&first, 1, 2_147_483_647)
+        && has(&second, 2, 2_147_483_646);
+    let Err((shared, mut first)) = shared.close(first) else {
+        return false;
+    };
+    shared.join(&mut first, second);
+    let behind = shared.alone(&mut first) && has(&first, 1, 4_294_967_293);
+    let ended = ends(shared, first, Wanted::Calls(0));
+    before && between && behind && ended
+}
+
+#[test]
+fn a_pass_is_alone_but_while_a_second_is_out(rt: HostRuntime) {
+    let Some((shared, first)) = shared_store(rt.alloc()) else {
+        panic!(rt; "no memory")
+    };
+    assert!(rt; is_alone_but_while_a_second_is_out(shared, first));
+}
+
+// What is asked, how often, and what is told each time. The nth call brings the version n, where it brings one.
+struct Row(Asked, u64, Told);
+
+// Whether what a row asks is told so.
+fn is_row_told<M: Machine, R: Wait + AllocGlobal>(
+    rt: &R,
+    shared: &Shared<M>,
+    pass: &mut Pass<M>,
+    row: &Row,
+) -> bool
+    requires { pass.old.id ≡ shared.now.id }
+    ensures { pass.new.id ≡ pass.old.id }
+{
+    for before in 0..row.1 {
+        let Some(call) = call_of(rt.alloc(), row.0, before + 1) else {
+            return false;
+        };
+        let told = is_told(&shared.call(rt, pass, Actor::Carrier(0), 0, 0, call), row.2);
+        if !told {
+            return false;
+        }
+    }
+    true
+}
+
+// Whether what these rows ask is told so.
+fn are_rows_told<M: Machine, R: Wait + AllocGlobal>(
+    rt: &R,
+    shared: &Shared<M>,
+    pass: &mut Pass<M>,
+    rows: &[Row],
+) -> bool
+    requires { pass.old.id ≡ shared.now.id }
+    ensures { pass.new.id ≡ pass.old.id }
+{
+    for row in rows {
+        if !is_row_told(rt, shared, pass, row) {
+            return false;
+        }
+    }
+    true
+}
+
+// So many calls, as a carrier, each in a span of its own. The first asks one thing, the next the other, and so on.
+struct Plan {
+    carrier: u32,
+    calls: u32,
+    asked: Asked,
+    other: Asked,
+}
+
+// The version that a call wrote, or the last one before it. `None` where the call was not made.
+fn written(answer: &Answer, last: u64) -> Option<u64> {
+    match answer {
+        Answer::Made {
+            reply: Reply::Written { version, .. },
+            ..
+        } => Some(*version),
+        Answer::Made { .. } => Some(last),
+        _ => None,
+    }
+}
+
+// Makes a call, and waits for it where it brings a version. It answers as `written`.
+fn make<M: Machine, R: Wait>(
+    rt: &R,
+    shared: &Shared<M>,
+    pass: &mut Pass<M>,
+    carrier: u32,
+    span: u32,
+    call: Call,
+    last: u64,
+) -> Option<u64>
+    requires { pass.old.id ≡ shared.now.id }
+    ensures { pass.new.id ≡ pass.old.id }
+{
+    let who = Actor::Carrier(carrier);
+    if matches!(call, Call::Ship { .. }) {
+        return written(&shared.call_wait(rt, pass, who, span, 0, call), last);
+    }
+    written(&shared.call(rt, pass, who, span, 0, call), last)
+}
+
+// Whether the calls of a plan are made. The version that was written last is brought, and else the first.
+fn are_made<M: Machine, R: Wait + AllocGlobal>(
+    rt: &R,
+    shared: &Shared<M>,
+    pass: &mut Pass<M>,
+    plan: &Plan,
+) -> bool
+    requires { pass.old.id ≡ shared.now.id }
+    ensures { pass.new.id ≡ pass.old.id }
+{
+    let mut version = 1;
+    for span in 0..plan.calls {
+        let asked = if span % 2 == 0 {
+            plan.asked
+        } else {
+            plan.other
+        };
+        let Some(call) = call_of(rt.alloc(), asked, version) else {
+            return false;
+        };
+        let Some(last) = make(rt, shared, pass, plan.carrier, span, call, version) else {
+            return false;
+        };
+        version = last;
+    }
+    true
+}
+
+// What a port over a shared store is asked, as the carrier 0 in the span 0.
+#[derive(Clone, Copy)]
+enum OfPort {
+    // To make a call, for an actor with this last stamp.
+    Call(Asked, u64),
+    // To make a call that may wait.
+    CallWait(Asked),
+    // To write with a lineage that is full.
+    WriteFull,
+    // A barrier on this version of the key, which begins now.
+    Barrier(u64),
+    // Such a barrier, which waits.
+    BarrierWait(u64),
+    // A dry run on this version of the key.
+    DryRun(u64),
+}
+
+// What is asked, and what is told.
+struct Step(OfPort, Told);
+
+// A caller that has made no call.
+fn caller() -> Caller {
+    Caller {
+        actor: Actor::Carrier(0),
+        span: 0,
+        clock: 0,
+    }
+}
+
+// Whether an id is this version of the key.
+fn is_version(id: &WriteId, version: u64) -> bool {
+    id.store == 0 && id.version == version && id.key.bytes() == b"k".as_slice()
+}
+
+// Whether a write tells this.
+fn is_written(answer: &Result<WriteId, ShimFault>, told: Told) -> bool {
+    match (answer, told) {
+        (Err(ShimFault::LineageFull(id)), Told::LineageFull(version)) => is_version(id, version),
+        _ => false,
+    }
+}
+
+// Whether a barrier tells this.
+fn is_seen(answer: &BarrierAnswer, told: Told) -> bool {
+    match (answer, told) {
+        (BarrierAnswer::Clear(sights), Told::Sights(count)) => sights.len() == count,
+        (BarrierAnswer::NotYet, Told::NotYet) => true,
+        (BarrierAnswer::Unwritten(id), Told::Unwritten(version)) => is_version(id, version),
+        _ => false,
+    }
+}
+
+// Whether a dry run tells this.
+fn is_missed(answer: &Result<Lineage, ShimFault>, told: Told) -> bool {
+    match (answer, told) {
+        (Ok(missing), Told::Missing(version)) => match missing.last() {
+            Some(id) => missing.len() == 1 && is_version(&id, version),
+            None => false,
+        },
+        _ => false,
+    }
+}
+
+// Whether a call goes as it says.
+fn call_goes<P: Port>(alloc: Global, port: &mut P, asked: Asked, clock: u64, told: Told) -> bool
+    ensures { (o : ℕ) → P.start port.new o ≡ P.start port.old o }
+{
+    let Some(call) = call_of(alloc, asked, 1) else {
+        return false;
+    };
+    is_told(&port.call(0, Actor::Carrier(0), 0, clock, call), told)
+}
+
+// Whether a call that may wait goes as it says.
+fn call_wait_goes<P: WaitPort>(alloc: Global, port: &mut P, asked: Asked, told: Told) -> bool
+    requires { IsHere (P.start port.old) 0 (0 ∷ []) }
+    ensures { (o : ℕ) → P.start port.new o ≡ P.start port.old o }
+{
+    let Some(call) = call_of(alloc, asked, 1) else {
+        return false;
+    };
+    is_told(&port.call_wait(0, Actor::Carrier(0), 0, 0, call), told)
+}
+
+// Whether a write with a lineage that is full goes as it says.
+fn full_write_goes<P: Port>(alloc: Global, port: &mut P, told: Told) -> bool
+    requires { IsHere (P.start port.old) 0 (0 ∷ []) }
+    ensures { (o : ℕ) → P.start port.new o ≡ P.start port.old o }
+{
+    let Ok(key) = Name::new(b"k") else {
+        return false;
+    };
+    let Ok(mut full) = versions(alloc, 1, b"k", 256) else {
+        return false;
+    };
+    let Ok(value) = Value::new(alloc, b"v") else {
+        return false;
+    };
+    let store: StoreShim<KvStore> = StoreShim::new(0, 0);
+    let mut who = caller();
+    let answer = store.write(alloc, port, &mut who, key, value, &mut full);
+    is_written(&answer, told)
+}
+
+// Whether a barrier goes as it says.
+fn barrier_goes<P: Port>(alloc: Global, port: &mut P, version: u64, told: Told) -> bool
+    requires { IsHere (P.start port.old) 0 (0 ∷ []) }
+    ensures { (o : ℕ) → P.start port.new o ≡ P.start port.old o }
+{
+    let Ok(ids) = lineage(alloc, &[(b"k", version)]) else {
+        return false;
+    };
+    let mut who = caller();
+    let mut cursor = Barrier::begin(alloc);
+    let answer = barrier(alloc, port, &mut who, 0, &[0], &ids, &mut cursor);
+    is_seen(&answer, told)
+}
+
+// Whether a barrier that waits goes as it says.
+fn barrier_wait_goes<P: WaitPort>(alloc: Global, port: &mut P, version: u64, told: Told) -> bool
+    requires { IsHere (P.start port.old) 0 (0 ∷ []) }
+    ensures { (o : ℕ) → P.start port.new o ≡ P.start port.old o }
+{
+    let Ok(ids) = lineage(alloc, &[(b"k", version)]) else {
+        return false;
+    };
+    let mut who = caller();
+    let mut cursor = Barrier::begin(alloc);
+    let answer = barrier_wait(alloc, port, &mut who, 0, &[0], &ids, &mut cursor);
+    is_seen(&answer, told)
+}
+
+// Whether a dry run goes as it says.
+fn dry_run_goes<P: Port>(alloc: Global, port: &mut P, version: u64, told: Told) -> bool
+    requires { IsHere (P.start port.old) 0 (0 ∷ []) }
+    ensures { (o : ℕ) → P.start port.new o ≡ P.start port.old o }
+{
+    let Ok(ids) = lineage(alloc, &[(b"k", version)]) else {
+        return false;
+    };
+    let mut who = caller();
+    let answer = dry_run(alloc, port, &mut who, 0, &[0], &ids);
+    is_missed(&answer, told)
+}
+
+// Whether a step goes as it says.
+fn goes<P: WaitPort>(alloc: Global, port: &mut P, step: &Step) -> bool
+    requires { IsHere (P.start port.old) 0 (0 ∷ []) }
+    ensures { (o : ℕ) → P.start port.new o ≡ P.start port.old o }
+{
+    match step.0 {
+        OfPort::Call(asked, clock) => call_goes(alloc, port, asked, clock, step.1),
+        OfPort::CallWait(asked) => call_wait_goes(alloc, port, asked, step.1),
+        OfPort::WriteFull => full_write_goes(alloc, port, step.1),
+        OfPort::Barrier(version) => barrier_goes(alloc, port, version, step.1),
+        OfPort::BarrierWait(version) => barrier_wait_goes(alloc, port, version, step.1),
+        OfPort::DryRun(version) => dry_run_goes(alloc, port, version, step.1),
+    }
+}
+
+// Whether each step goes as it says.
+fn all_go<P: WaitPort>(alloc: Global, port: &mut P, steps: &[Step]) -> bool
+    requires { IsHere (P.start port.old) 0 (0 ∷ []) }
+{
+    for step in steps {
+        if !goes(alloc, port, step) {
+            return false;
+        }
+    }
+    true
+}
+
+// Whether a port over a shared store has this store alone, and each step goes there as it says.
+fn all_go_at<M: Machine, R: Wait + AllocGlobal>(
+    rt: &R,
+    shared: &Shared<M>,
+    mut pass: Pass<M>,
+    steps: &[Step],
+) -> bool
+    requires of { pass.id ≡ shared.now.id }
+    requires here { IsHere (port_start M.start (first_pass shared.now.id)) 0 (0 ∷ []) }
+{
+    let mut port = SharedPort::new(rt, shared, &mut pass);
+    port.has(0) && !port.has(1) && all_go(rt.alloc(), &mut port, steps)
+}
+
+// A further pass, where there is room for one.
+fn split<M: Machine>(shared: &Shared<M>, pass: &mut Pass<M>) -> Option<Pass<M>>
+    requires { pass.old.id ≡ shared.now.id }
+    ensures rest { pass.new.id ≡ pass.old.id }
+    ensures new { IfSome result (λ new. new.id ≡ pass.old.id) }
+{
+    if pass.room() == 0 {
+        return None;
+    }
+    match shared.split(pass) {
+        Ok(new) => Some(new),
+        Err(_) => None,
+    }
+}
+
+// What a thread does with a pass.
+enum Job {
+    // It makes the calls of a plan.
+    Plan(Plan),
+    // It asks what these rows ask.
+    Rows(&'static [Row]),
+    // It goes these steps at a port, by a further pass, which then stays out.
+    Steps(&'static [Step]),
+}
+
+// Does a job, and says whether it goes as it should.
+fn work<M: Machine, R: Wait + AllocGlobal>(
+    rt: &R,
+    shared: &Shared<M>,
+    mut pass: Pass<M>,
+    job: &Job,
+) -> (Pass<M>, bool)
+    requires of { pass.id ≡ shared.now.id }
+    requires here { IsHere (port_start M.start (first_pass shared.now.id)) 0 (0 ∷ []) }
+    ensures { result.0.id ≡ shared.now.id }
+{
+    match job {
+        Job::Plan(plan) => {
+            let well = are_made(rt, shared, &mut pass, plan);
+            (pass, well)
+        }
+        Job::Rows(rows) => {
+            let well = are_rows_told(rt, shared, &mut pass, rows);
+            (pass, well)
+        }
+        Job::Steps(steps) => {
+            let Some(part) = split(shared, &mut pass) else {
+                return (pass, false);
+            };
+            (pass, all_go_at(rt, shared, part, steps))
+        }
+    }
+}
+
+// Two threads do a job each, by two parts of the pass.
+fn work_both<M: Machine + Send, R: Threads + Wait + Sync + AllocGlobal>(
+    rt: &R,
+    shared: &Shared<M>,
+    mut pass: Pass<M>,
+    job: &Job,
+    other: &Job,
+) -> (Pass<M>, bool)
+    requires of { pass.id ≡ shared.now.id }
+    requires here { IsHere (port_start M.start (first_pass shared.now.id)) 0 (0 ∷ []) }
+    ensures { result.0.id ≡ shared.now.id }
+{
+    let Some(part) = split(shared, &mut pass) else {
+        return (pass, false);
+    };
+    let ((mut pass, well), (part, as_well)) = join(
+        rt,
+        || work(rt, shared, pass, job),
+        || work(rt, shared, part, other),
+    );
+    shared.join(&mut pass, part);
+    (pass, well && as_well)
+}
+
+// Four threads do the same job.
+fn work_all<M: Machine + Send, R: Threads + Wait + Sync + AllocGlobal>(
+    rt: &R,
+    shared: &Shared<M>,
+    mut pass: Pass<M>,
+    job: &Job,
+) -> (Pass<M>, bool)
+    requires of { pass.id ≡ shared.now.id }
+    requires here { IsHere (port_start M.start (first_pass shared.now.id)) 0 (0 ∷ []) }
+    ensures { result.0.id ≡ shared.now.id }
+{
+    let Some(part) = split(shared, &mut pass) else {
+        return (pass, false);
+    };
+    let ((mut pass, well), (part, as_well)) = join(
+        rt,
+        ||
+            requires { (pass.id ≡ shared.now.id) × IsHere (port_start M.start (first_pass shared.now.id)) 0 (0 ∷ []) }
+        { work_both(rt, shared, pass, job, job) },
+        ||
+            requires { (part.id ≡ shared.now.id) × IsHere (port_start M.start (first_pass shared.now.id)) 0 (0 ∷ []) }
+        { work_both(rt, shared, part, job, job) },
+    );
+    shared.join(&mut pass, part);
+    (pass, well && as_well)
+}
+
+// Who does what.
+enum Stage {
+    // One thread.
+    Alone(Job),
+    // Two threads, each its own.
+    Both(Job, Job),
+    // Four threads, each the same.
+    All(Job),
+}
+
+// Goes through a stage, and says whether all goes as it should.
+fn passes<M: Machine + Send, R: Threads + Wait + Sync + AllocGlobal>(
+    rt: &R,
+    shared: &Shared<M>,
+    pass: Pass<M>,
+    stage: &Stage,
+) -> (Pass<M>, bool)
+    requires of { pass.id ≡ shared.now.id }
+    requires here { IsHere (port_start M.start (first_pass shared.now.id)) 0 (0 ∷ []) }
+    ensures { result.0.id ≡ shared.now.id }
+{
+    match stage {
+        Stage::Alone(job) => work(rt, shared, pass, job),
+        Stage::Both(job, other) => work_both(rt, shared, pass, job, other),
+        Stage::All(job) => work_all(rt, shared, pass, job),
+    }
+}
+
+const READS: Job = Job::Plan(Plan {
+    carrier: 0,
+    calls: 100,
+    asked: Asked::Read,
+    other: Asked::Read,
+});
+
+const ONE_SHIPMENT: Job = Job::Plan(Plan {
+    carrier: 0,
+    calls: 1,
+    asked: Asked::Ship,
+    other: Asked::Ship,
+});
+
+const ONE_WRITE: Job = Job::Plan(Plan {
+    carrier: 1,
+    calls: 1,
+    asked: Asked::Write,
+    other: Asked::Write,
+});
+
+const WRITES: Job = Job::Plan(Plan {
+    carrier: 0,
+    calls: 1000,
+    asked: Asked::Write,
+    other: Asked::Ship,
+});
+
+// Whether a new shared store goes through these stages as it should, and the history at the end is the one that is wanted.
+fn is_well<R: Threads + Wait + Sync + AllocGlobal>(
+    rt: &R,
+    stages: &[Stage],
+    wanted: Wanted,
+) -> bool {
+    let Some((shared, mut pass)) = shared_store(rt.alloc()) else {
+        return false;
+    };
+    for stage in stages {
+        let (next, well) = passes(rt, &shared, pass, stage);
+        pass = next;
+        if !well {
+            return false;
+        }
+    }
+    ends(shared, pass, wanted)
+}
+
+// Two threads read.
+static BOTH_READ: [Stage; 1] = [Stage::Both(READS, READS)];
+
+#[test]
+fn the_calls_of_each_thread_stand_in_order(rt: HostRuntime) {
+    assert!(rt; is_well(&rt, &BOTH_READ, Wanted::InOrder(2, 100)));
+}
+
+// One thread brings what another writes.
+static BROUGHT: [Stage; 1] = [Stage::Both(ONE_SHIPMENT, ONE_WRITE)];
+
+#[test]
+fn a_call_waits_until_it_is_ready(rt: HostRuntime) {
+    assert!(rt; is_well(&rt, &BROUGHT, Wanted::Two(2, 1)));
+}
+
+// A store is filled by writes, each of which owes a shipment, which is then made.
+static FILLED: [Stage; 1] = [Stage::Alone(Job::Rows(&[
+    Row(Asked::Write, 2048, Told::Made),
+    Row(Asked::Write, 1, Told::Full(2048, 2048, 2)),
+    Row(Asked::Ship, 2048, Told::Made),
+]))];
+
+#[test]
+fn a_full_object_still_makes_what_it_owes(rt: HostRuntime) {
+    assert!(rt; is_well(&rt, &FILLED, Wanted::Calls(4096)));
+}
+
+static REFUSED: [Stage; 1] = [Stage::Alone(Job::Steps(&[
+    Step(OfPort::Call(Asked::Read, u64::MAX), Told::Spent(u64::MAX)),
+    Step(OfPort::Call(Asked::Ship, 0), Told::NotYet),
+    Step(OfPort::WriteFull, Told::LineageFull(1)),
+    Step(OfPort::Call(Asked::Ship, 0), Told::Made),
+]))];
+
+#[test]
+fn a_port_over_a_shared_store_refuses_with_the_cause(rt: HostRuntime) {
+    assert!(rt; is_well(&rt, &REFUSED, Wanted::StillOut));
+}
+
+static HELD: [Stage; 1] = [Stage::Alone(Job::Steps(&[
+    Step(OfPort::Barrier(9), Told::Unwritten(9)),
+    Step(OfPort::CallWait(Asked::Write), Told::Made),
+    Step(OfPort::Barrier(1), Told::NotYet),
+    Step(OfPort::DryRun(1), Told::Missing(1)),
+    Step(OfPort::Call(Asked::Ship, 0), Told::Made),
+    Step(OfPort::Barrier(1), Told::Sights(1)),
+]))];
+
+#[test]
+fn a_barrier_at_a_shared_store_waits_for_the_shipment(rt: HostRuntime) {
+    assert!(rt; is_well(&rt, &HELD, Wanted::StillOut));
+}
+
+// Four threads write, and bring what they wrote.
+static ALL_WRITE: [Stage; 1] = [Stage::All(WRITES)];
+
+#[test]
+fn four_threads_write_and_ship(rt: HostRuntime) {
+    assert!(rt; is_well(&rt, &ALL_WRITE, Wanted::InOrder(4, 1000)));
+}
+
+// What was written is brought by one thread, while another waits for it at a barrier, whose look is then the third call.
+static HELD_AT_LAST: [Stage; 3] = [
+    Stage::Alone(Job::Rows(&[Row(Asked::Write, 1, Told::Made)])),
+    Stage::Both(
+        Job::Steps(&[Step(OfPort::BarrierWait(1), Told::Sights(1))]),
+        ONE_SHIPMENT,
+    ),
+    Stage::Alone(Job::Rows(&[Row(Asked::Read, 1, Told::MadeAt(4))])),
+];
+
+#[test]
+fn a_barrier_waits_while_another_thread_ships(rt: HostRuntime) {
+    assert!(rt; is_well(&rt, &HELD_AT_LAST, Wanted::StillOut));
+}
