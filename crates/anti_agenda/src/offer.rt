@@ -1,7 +1,7 @@
 use anti_kind::Awaited;
 
 /// What may be made next. Offers are tried in this order, and those of one kind in the order of their numbers.
-#[derive(Clone, Copy, Debug, PartialEq, Eq, PartialOrd, Ord)]
+#[derive(Clone, Copy, PartialEq, Eq, PartialOrd, Ord)]
 pub enum Offer {
     /// The next call of the process that stands at this place, counted from 0, among those that were born at an object.
     Go { object: u32, at: usize },
@@ -14,7 +14,7 @@ pub enum Offer {
 }
 
 /// An offer that waits for something at an object. Sleepers are in order by the object, by what is awaited, and by the offer.
-#[derive(Clone, Copy, Debug, PartialEq, Eq, PartialOrd, Ord)]
+#[derive(Clone, Copy, PartialEq, Eq, PartialOrd, Ord)]
 pub struct Sleeper {
     /// The number of the object.
     pub object: u32,

@@ -87,7 +87,7 @@ pub struct SubDef {
 pub type SubDefs = List<SubDef>;
 
 /// What happens next in a run. Each number of a choice that counts from 1 is at most 4,096.
-#[derive(Clone, Copy, Debug, PartialEq, Eq)]
+#[derive(Clone, Copy, PartialEq, Eq)]
 pub enum Choice {
     /// The delivery of this number, counted from 1 among the free ones of the service's inbox, is taken: a process is born.
     Take {

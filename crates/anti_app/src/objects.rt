@@ -12,7 +12,7 @@ use anti_lang::Statement;
 use std::alloc::Global;
 
 /// What the object of a number is.
-#[derive(Clone, Copy, Debug, PartialEq, Eq)]
+#[derive(Clone, Copy, PartialEq, Eq)]
 pub enum ObjectAt {
     /// The store of a number.
     Store(u32),

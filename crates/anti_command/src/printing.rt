@@ -10,7 +10,7 @@ use anti_trace::Ends;
 use std::alloc::Global;
 
 /// A form in which a run is printed.
-#[derive(Clone, Copy, Debug, PartialEq, Eq)]
+#[derive(Clone, Copy, PartialEq, Eq)]
 pub enum Form {
     /// The record, as text.
     Text,

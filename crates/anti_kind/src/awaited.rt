@@ -6,7 +6,7 @@ use crate::message::MessageKind;
 
 /// What a call that is not ready waits for at its object, and what a route of a store waits for on which nothing is left to be
 /// shipped. A message counts from 1, a subscription and a region from 0.
-#[derive(Clone, Copy, Debug, PartialEq, Eq, PartialOrd, Ord)]
+#[derive(Clone, Copy, PartialEq, Eq, PartialOrd, Ord)]
 pub enum Awaited {
     /// A free delivery of an inbox.
     Delivery,
@@ -21,7 +21,7 @@ pub enum Awaited {
 }
 
 /// What a call brings to those who wait at its object.
-#[derive(Clone, Copy, Debug, PartialEq, Eq)]
+#[derive(Clone, Copy, PartialEq, Eq)]
 pub enum Brought {
     /// Nothing that is awaited.
     Nothing,

@@ -9,7 +9,7 @@ use crate::statement::{KeyWord, Statement, ValueWord};
 use anti_ids::Name;
 
 /// What a variable holds.
-#[derive(Clone, Copy, Debug, PartialEq, Eq)]
+#[derive(Clone, Copy, PartialEq, Eq)]
 pub(crate) enum Holds {
     /// The write of a `write`.
     Write,
@@ -20,7 +20,7 @@ pub(crate) enum Holds {
 }
 
 /// A variable of a body.
-#[derive(Clone, Copy, Debug)]
+#[derive(Clone, Copy)]
 pub(crate) struct Variable {
     pub name: Name,
     pub kind: Holds,

@@ -9,7 +9,7 @@ use anti_ids::Name;
 use anti_lang::Statement;
 
 /// What may be amiss at a line. Each doubt is followed through a body alone.
-#[derive(Clone, Copy, Debug)]
+#[derive(Clone, Copy)]
 pub enum Doubt {
     /// That the line may stand nowhere: it is held at the start, and nothing clears it.
     Always,

@@ -13,7 +13,7 @@ use anti_ids::Name;
 use anti_lang::Statement;
 
 /// A handler, by its numbers.
-#[derive(Clone, Copy, Debug)]
+#[derive(Clone, Copy)]
 pub struct Target {
     /// The number of its service.
     pub service: usize,
@@ -22,7 +22,7 @@ pub struct Target {
 }
 
 /// How a line posts to a handler.
-#[derive(Clone, Copy, Debug)]
+#[derive(Clone, Copy)]
 pub enum Posting {
     /// It calls it.
     Calls,

@@ -1,3 +1,5 @@
+use Rattle.std.proofs.Common.{arith}
+use Rattle.std.proofs.lemmas.Grind.{common_steps}
 use Rattle.std.proofs.Common.{◌∙◌}
 use Rattle.anti_edge.proofs.Fronts.{HasRead-step, HasRead-front, HasRead-most}
 use Rattle.anti_edge.proofs.reading.read_all.Goals as goal
@@ -23,3 +25,12 @@ returns-then-count-limit-clause-front g c =
 pub returns-in_err-append-clause-front : goal.returns-in_err-append-clause-front
 returns-in_err-append-clause-front g c =
     HasRead-front _ _ _ (HasRead-step _ _ _ _ _ _ c.loop-bytes.invariant.read c.in_ok-count.ensures.given c.in_ok-count.ensures.rest)
+
+pub returns-then-count-limit-clause-too_long : goal.returns-then-count-limit-clause-too_long
+returns-then-count-limit-clause-too_long g c = grind (arith, common_steps)
+
+pub loop-bytes-preserved : goal.loop-bytes-preserved
+loop-bytes-preserved g c = grind (arith, common_steps)
+
+pub loop-bytes-smaller : goal.loop-bytes-smaller
+loop-bytes-smaller g c = grind (arith, common_steps)

@@ -1,3 +1,4 @@
+use Rattle.std.proofs.lemmas.Grind.{common_steps}
 use Rattle.std.proofs.Common.{arith}
 use Rattle.anti_edge.proofs.Fronts.{HasWritten-step, HasWritten-front}
 use Rattle.anti_edge.proofs.writing.write_all.Goals as goal
@@ -10,3 +11,9 @@ loop-rest-preserved g c = record {
   written = rw c.split_at.ensures.back (HasWritten-step _ _ _ _ _ _ c.loop-rest.invariant.written c.in_ok-count.ensures.taken);
   count = omega arith;
 }
+
+pub returns-clause-ok : goal.returns-clause-ok
+returns-clause-ok g c = grind (arith, common_steps)
+
+pub returns-clause-front : goal.returns-clause-front
+returns-clause-front g c = grind (arith, common_steps)

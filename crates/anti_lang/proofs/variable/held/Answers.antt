@@ -1,3 +1,4 @@
+use Rattle.std.proofs.lemmas.Grind.{common_steps}
 use Rattle.std.proofs.Common.{ap, arith}
 use Rattle.std.proofs.lemmas.List.{length-take}
 use Rattle.anti_lang.specs.Bodies.{step_of}
@@ -41,3 +42,15 @@ loop-above-preserved c =
 
 pub returns : goal.returns
 returns c = none_left c.loop-above.above.now c.loop-above.ended c.args.name.now _ c.in_default.len_below c.loop-above.invariant.left
+
+pub returns-then-begins_span : goal.returns-then-begins_span
+returns-then-begins_span c = grind (arith, common_steps)
+
+pub returns-in-Some : goal.returns-in-Some
+returns-in-Some c = grind (arith, common_steps)
+
+pub loop-above-preserved-in_default-held_by : goal.loop-above-preserved-in_default-held_by
+loop-above-preserved-in_default-held_by c = grind (arith, common_steps)
+
+pub loop-above-preserved-in-End : goal.loop-above-preserved-in-End
+loop-above-preserved-in-End c = grind (arith, common_steps)

@@ -1,3 +1,5 @@
+use Rattle.std.proofs.Common.{arith}
+use Rattle.std.proofs.lemmas.Grind.{common_steps}
 use Rattle.std.proofs.Common.{length, sym, ap, ◌∙◌, subst}
 use Rattle.anti_past.specs.Pasts.{ArePastsOf}
 use Rattle.anti_past.specs.inner.Walking.{IsCourseOf}
@@ -22,3 +24,9 @@ returns-in-NoLoss c =
     let course = subst (IsCourseOf app trace) c.in-NoLoss.is c.in_ok-of.ensures in
     none_lossy app trace c.as_slice.result.now course.0 (subst (ArePastsOf app trace) (sym c.as_slice.ensures.value) course.1)
     c.args.spans.now c.count_unsettled-unguarded.result c.requires.spans c.count_unsettled-unguarded.ensures
+
+pub overflow_sub-result : goal.overflow_sub-result
+overflow_sub-result c = grind (arith, common_steps)
+
+pub returns-then-is_empty : goal.returns-then-is_empty
+returns-then-is_empty c = grind (arith, common_steps)

@@ -1,3 +1,5 @@
+use Rattle.std.proofs.Common.{arith}
+use Rattle.std.proofs.lemmas.Grind.{common_steps}
 use Rattle.std.proofs.Common.{◌≡◌, ◌++◌, map, refl, sym, ap, ◌∙◌, subst}
 use Rattle.std.proofs.lemmas.List.{append-nil}
 use Rattle.anti_past.specs.Spans.{AreReadsBySpan}
@@ -17,3 +19,6 @@ returns c =
     ∙ c.loop-key.invariant
     ∙ ap (map reads_under) gives.0 in
     subst (AreReadsBySpan trace) (sym all) (are_reads_by_span trace _ noted refl gives.5 c.in_ok-items.ensures)
+
+pub loop-key-preserved : goal.loop-key-preserved
+loop-key-preserved c = grind (arith, common_steps)

@@ -1,3 +1,4 @@
+use Rattle.std.proofs.Common.{arith}
 use Rattle.anti_app.proofs.Runnable.{can_run}
 use Rattle.anti_past.proofs.Fronts.{followed, next_of}
 use Rattle.anti_past.proofs.walk.processes_before.Goals as goal
@@ -13,3 +14,6 @@ pub loop-at-preserved : goal.loop-at-preserved
 loop-at-preserved c =
     followed c.args.app.now c.args.trace.now c.requires.legal c.loop-at.at c.at.result.now c.at.ensures _ c.loop-at.invariant c.follow.new.self.at.items
     c.in_ok-follow.ensures
+
+pub returns : goal.returns
+returns c = grind arith

@@ -1,3 +1,4 @@
+use Rattle.std.proofs.lemmas.Grind.{common_steps}
 use Rattle.std.proofs.Common.{sym, ◌∙◌, arith}
 use Rattle.anti_place.proofs.Stepping.{lines_left, lines_more, fault_more}
 use Rattle.anti_place.proofs.body.+faults.Goals as goal
@@ -17,3 +18,12 @@ fault_in-loop-statement-preserved t c = record {
       lines_more c.args.statements.now c.loop-statement.statement-index c.statement-item.result c.loop-statement-test.true c.statement-item.is
       c.loop-statement.here c.height-here.result _ c.height-here.ensures c.loop-statement.invariant.lines;
 }
+
+pub fault_in-returns-then-stops : goal.fault_in-returns-then-stops
+fault_in-returns-then-stops t c = grind (arith, common_steps)
+
+pub fault_in-returns : goal.fault_in-returns
+fault_in-returns t c = grind (arith, common_steps)
+
+pub fault_in-overflow_add-here : goal.fault_in-overflow_add-here
+fault_in-overflow_add-here t c = grind (arith, common_steps)

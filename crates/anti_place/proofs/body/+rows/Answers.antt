@@ -1,3 +1,5 @@
+use Rattle.std.proofs.Common.{arith}
+use Rattle.std.proofs.lemmas.Grind.{common_steps}
 use Rattle.std.proofs.Common.{false}
 use Rattle.anti_lang.specs.Bodies.{block_from}
 use Rattle.anti_app.specs.Objects.{steps_of}
@@ -10,3 +12,6 @@ fault_of_reads-loop-statement-preserved t c =
     rows_more c.args.statements.now c.loop-statement.statement-index c.statement-item.result c.loop-statement-test.true c.statement-item.is
     (λ doubt. fault_of c.args.called doubt (block_from (steps_of c.args.body.now)) false) c.loop-statement.found c.fault_of_read.result c.earlier-found.result _
     c.fault_of_read.ensures c.earlier-found.ensures c.loop-statement.invariant
+
+pub fault_of_reads-returns : goal.fault_of_reads-returns
+fault_of_reads-returns t c = grind (arith, common_steps)

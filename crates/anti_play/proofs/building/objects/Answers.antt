@@ -1,3 +1,4 @@
+use Rattle.std.proofs.lemmas.Grind.{common_steps}
 use Rattle.std.proofs.Common.{arith}
 use Rattle.anti_play.proofs.NewWorld.{first_then, first_all}
 use Rattle.anti_play.proofs.building.objects.Goals as goal
@@ -12,3 +13,9 @@ pub returns : goal.returns
 returns c =
     first_all c.args.app.now c.loop-objects.objects.items c.loop-objects.invariant.first c.len.result (omega (arith, c.loop-objects.objects.ok.0)) c.in_ok-object.field-0 c.in_ok-object.ensures
     c.in_default.is c.loop-objects.invariant.few
+
+pub overflow_cast-len : goal.overflow_cast-len
+overflow_cast-len c = grind (arith, common_steps)
+
+pub loop-objects-smaller : goal.loop-objects-smaller
+loop-objects-smaller c = grind (arith, common_steps)

@@ -1,3 +1,4 @@
+use Rattle.std.proofs.lemmas.Grind.{common_steps}
 use Rattle.std.proofs.Common.{◌≡◌, ◌≤◌, IsTrue, arith, ◌<◌, ◌++◌, ◌∷◌, ◌+◌, [], ℕ, Bool, List, length, get_or, refl, ap, sym, ◌∙◌, subst}
 use Rattle.anti_ids.specs.declared.limits.TheConstants.{MOST_CHOICES}
 use Rattle.anti_ids.specs.List.{Listed, plain, pushed}
@@ -61,3 +62,9 @@ loop-before-preserved c =
           (played_made app i choice (Take 0 0) r.0 r.1 c.make.new.self c.loop-before.waits c.loop-before.invariant.waits_are
           (subst (λ (made : Bool). Steps app (run_until app i) (i + 1) choice made c.make.new.self) w.if-not-branch.false steps))
     ]
+
+pub returns-clause-waits : goal.returns-clause-waits
+returns-clause-waits c = grind (arith, common_steps)
+
+pub returns-clause-trace : goal.returns-clause-trace
+returns-clause-trace c = grind (arith, common_steps)

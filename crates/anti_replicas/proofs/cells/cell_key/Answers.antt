@@ -10,3 +10,6 @@ returns-in-Err c = λ plain small.
     let items : c.as_slice.result.now ≡ cell_key c.args.channel.now c.args.number = grind (arith, common_steps, append_assoc) in
     let bad = sym c.in-Err.is ∙ c.new.ensures ∙ ap name_of items ∙ named c.args.channel.now c.args.number plain small in
     absurd (cc)
+
+pub returns-in-Ok : goal.returns-in-Ok
+returns-in-Ok c = grind (arith, common_steps)

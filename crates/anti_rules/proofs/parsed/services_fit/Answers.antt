@@ -1,3 +1,5 @@
+use Rattle.std.proofs.Common.{arith}
+use Rattle.std.proofs.lemmas.Grind.{common_steps}
 use Rattle.std.proofs.Common.{Bool, ◌&&◌, ◌+◌, map, drop, sym, ap, ◌∙◌}
 use Rattle.std.specs.List.{list_all}
 use Rattle.toml.specs.View.{view, table_view}
@@ -24,3 +26,9 @@ loop-index-preserved c =
     (ap (λ (l : Listed (Listed (Listed Statement))). l.items) c.requires ∙ ap (map service_bodies) (sym c.services_in-services.ensures)) c.at.ensures c.text_at-home.ensures
     (c.bodies_fit.ensures ∙ ap (bodies_fit c.args.rule (table_view c.args.doc.now) c.text_at-home.result.now) c.as_slice.ensures) in
     ap (λ (b : Bool). b && rest) (sym c.if-not-bodies_fit.false) ∙ first ∙ c.loop-index.invariant
+
+pub at-requires : goal.at-requires
+at-requires c = grind (arith, common_steps)
+
+pub returns : goal.returns
+returns c = grind (arith, common_steps)

@@ -1,3 +1,4 @@
+use Rattle.std.proofs.lemmas.Grind.{common_steps}
 use Rattle.std.proofs.Common.{◌≡◌, ◌<◌, ◌≤◌, ◌+◌, ℕ, true, List, length, get_or, refl, ap, sym, ◌∙◌, subst, arith}
 use Rattle.std.specs.Prelude.{Result, Ok, Err}
 use Rattle.std.proofs.lemmas.Result.{err_from_is_err_and}
@@ -112,3 +113,21 @@ loop-look-preserved g c =
       caller = caller g a;
       fixed = λ o. c.see_dry.ensures.fixed o ∙ c.loop-look.invariant.fixed o;
     }
+
+pub returns-clause-answer : goal.returns-clause-answer
+returns-clause-answer g c = grind (arith, common_steps)
+
+pub returns-in_err-looks-clause-caller : goal.returns-in_err-looks-clause-caller
+returns-in_err-looks-clause-caller g c = grind (arith, common_steps)
+
+pub returns-in_err-ids-clause-made : goal.returns-in_err-ids-clause-made
+returns-in_err-ids-clause-made g c = grind (arith, common_steps)
+
+pub returns-clause-made : goal.returns-clause-made
+returns-clause-made g c = grind (arith, common_steps)
+
+pub loop-look-init : goal.loop-look-init
+loop-look-init g c = grind (arith, common_steps)
+
+pub returns-in_default-clause-caller : goal.returns-in_default-clause-caller
+returns-in_default-clause-caller g c = grind (arith, common_steps)

@@ -1,3 +1,5 @@
+use Rattle.std.proofs.Common.{arith}
+use Rattle.std.proofs.lemmas.Grind.{common_steps}
 use Rattle.std.proofs.Common.{◌≡◌, length, get_or, false, ◌==◌, rules}
 use Rattle.anti_ids.specs.List.{pushed}
 use Rattle.anti_shim.proofs.Planned.{planned_more}
@@ -9,3 +11,9 @@ loop-store-preserved c =
     let added : c.add.new.self ≡ pushed c.loop-store.looks (record { store = get_or c.args.here.now c.loop-store.store-index 0; ids = c.in_ok-ids.ids }) = search rules in
     let more = planned_more c.args.here.now c.args.lineage.now c.loop-store.store-index 0 c.in_ok-ids.ids c.loop-store.looks c.add.new.self (search rules) c.in_ok-ids.ensures.ok some c.loop-store.invariant.looks c.loop-store.invariant.room added in
     record { looks = more.0; room = more.1 }
+
+pub returns : goal.returns
+returns c = grind (arith, common_steps)
+
+pub loop-store-preserved-then-is_empty : goal.loop-store-preserved-then-is_empty
+loop-store-preserved-then-is_empty c = grind (arith, common_steps)

@@ -1,3 +1,5 @@
+use Rattle.std.proofs.Common.{arith}
+use Rattle.std.proofs.lemmas.Grind.{common_steps}
 use Rattle.std.proofs.Common.{◌+◌, take, drop, subst}
 use Rattle.anti_app.proofs.Runnable.{can_run}
 use Rattle.anti_trace.specs.Legal.{IsLegalTrace}
@@ -28,3 +30,6 @@ loop-entry-preserved c =
     subst (λ t. AreProcessesOf app c.follow.new.self.at.items t) (taken_more app trace c.requires.legal i e c.loop-entry-test.true c.entry-item.is)
     (c.in_ok-follow.ensures (take i trace) (drop (i + 1) trace)
     (subst (IsLegalTrace app) (cut_at app trace c.requires.legal i e c.loop-entry-test.true c.entry-item.is) c.requires.legal) c.loop-entry.invariant)
+
+pub returns : goal.returns
+returns c = grind (arith, common_steps)

@@ -1,3 +1,4 @@
+use Rattle.std.proofs.lemmas.Grind.{common_steps}
 use Rattle.std.proofs.Common.{ap, length, arith}
 use Rattle.anti_inbox.proofs.Reading.{reposting_within}
 use Rattle.anti_inbox.proofs.inbox.Inbox.repost.Goals as goal
@@ -9,3 +10,6 @@ index_mut-requires c =
     let turns = c.in_ok-deliver.ensures.ok c.requires.history at in
     let there = reposting_within m c.requires.history c.args.number at c.requires.is_ready in
     omega (arith, there, ap length turns.fates_are, c.deliver.new.self.fates.ok.0)
+
+pub returns-clause-ok : goal.returns-clause-ok
+returns-clause-ok c = grind (arith, common_steps)

@@ -1,3 +1,4 @@
+use Rattle.std.proofs.lemmas.Grind.{common_steps}
 use Rattle.std.proofs.Common.{refl, arith}
 use Rattle.anti_kind.specs.declared.asking.Asking.{Asking}
 use Rattle.anti_kind.proofs.Making.{given_answers, answered}
@@ -13,3 +14,6 @@ returns-clause-answer g c =
     (answered g.M.Machine.start (record { object = c.self.inside.object; machine = c.self.inside.recorded.machine; history = h; visits = c.self.inside.visits })
     (record { object = c.self.inside.object; machine = c.ask.new.self.machine; history = c.ask.new.self.history; visits = c.saturating_add-self-inside.result }) q
     c.if-object-self.false refl c.ask.result answers c.ask.ensures.before c.ask.ensures.after)
+
+pub invariant_of-self : goal.invariant_of-self
+invariant_of-self g c = grind (arith, common_steps)

@@ -105,3 +105,6 @@ returns-clause-attends c = λ app trace replica sound s a is to.
     c.in-Some.version c.in-Some.part (sym c.in-Some.is ∙ told at) c.carry.new.self
     (came ((goal.at.returns-clause-attends c).In_ok-carry) app trace sound s true c.if-not-branch.false)
     c.args.agenda.now c.stir.new.self a c.brought-brought.result c.brought-brought.ensures c.in_ok-stir.ensures
+
+pub returns-in_default-clause-chose : goal.returns-in_default-clause-chose
+returns-in_default-clause-chose c = grind arith

@@ -1,3 +1,5 @@
+use Rattle.std.proofs.Common.{arith}
+use Rattle.std.proofs.lemmas.Grind.{common_steps}
 use Rattle.std.proofs.Common.{◌≡◌, ◌++◌, ◌∷◌, [], List, Ok, Some, refl, subst}
 use Rattle.anti_kind.specs.declared.entry.Entry.{Entry}
 use Rattle.anti_proc.specs.declared.process.Process.{Process}
@@ -72,3 +74,9 @@ returns c = λ trace s.
       role = c.in_ok-process.ensures.role;
       full = c.in_ok-process.ensures.full;
     })
+
+pub returns-in_err-entry : goal.returns-in_err-entry
+returns-in_err-entry c = grind (arith, common_steps)
+
+pub put-requires-clause-object : goal.put-requires-clause-object
+put-requires-clause-object c = grind (arith, common_steps)

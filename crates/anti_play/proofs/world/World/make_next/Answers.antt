@@ -1,3 +1,5 @@
+use Rattle.std.proofs.Common.{arith}
+use Rattle.std.proofs.lemmas.Grind.{common_steps}
 use Rattle.std.proofs.Common.{List, ◌≡◌, Result, Ok, Err, refl, ap, sym, ◌∙◌, subst}
 use Rattle.std.specs.Prelude.{None}
 use Rattle.anti_kind.specs.declared.actor.Actor.TheVariants.{Process as Acting}
@@ -162,3 +164,27 @@ returns-in-Err-Full-clause-ended c = λ trace s.
     stops_ended c.args.app.now c.args.self.now trace c.args.birth c.args.at c.get-process.result.now s g
     c.in-Some.asked.object c.in-Some.asked.span c.in_ok-copy.field-0 c.in-Some.ensures.going (wants ((goal.at.returns-in-Err-Full-clause-ended c).In_ok-copy))
     _ c.end.ensures
+
+pub returns-in_err-entry-clause-chose : goal.returns-in_err-entry-clause-chose
+returns-in_err-entry-clause-chose c = grind arith
+
+pub returns-in_err-advance-in-Ok-clause-chose : goal.returns-in_err-advance-in-Ok-clause-chose
+returns-in_err-advance-in-Ok-clause-chose c = grind arith
+
+pub returns-in_err-copy-clause-chose : goal.returns-in_err-copy-clause-chose
+returns-in_err-copy-clause-chose c = grind arith
+
+pub get-requires-clause-at : goal.get-requires-clause-at
+get-requires-clause-at c = grind (arith, common_steps)
+
+pub take_over-requires-clause-at : goal.take_over-requires-clause-at
+take_over-requires-clause-at c = grind (arith, common_steps)
+
+pub make_room-requires-clause-at : goal.make_room-requires-clause-at
+make_room-requires-clause-at c = grind (arith, common_steps)
+
+pub end-requires-clause-at : goal.end-requires-clause-at
+end-requires-clause-at c = grind (arith, common_steps)
+
+pub get-process-requires-clause-at : goal.get-process-requires-clause-at
+get-process-requires-clause-at c = grind (arith, common_steps)

@@ -1,3 +1,4 @@
+use Rattle.std.proofs.lemmas.Grind.{common_steps}
 use Rattle.std.proofs.Common.{List, [], ◌∷◌, ◌++◌, map, take, sym, ap, subst, ◌∙◌, arith}
 use Rattle.std.proofs.lemmas.List.{map_push, take_more}
 use Rattle.anti_kind.specs.declared.store_kind.Sub.{Sub}
@@ -23,3 +24,6 @@ loop-sub-preserved c =
           subst (λ (ys : List Subscriber). HaveFree s [] ys) (sym c.in_ok-add.ensures)
           (free_push s [] xs x (c.loop-sub.invariant.free s) (record { items = c.in_ok-subscriber.ensures.items; room = omega (arith, c.in_ok-subscriber.ensures.room) }));
     }
+
+pub returns-clause-subs : goal.returns-clause-subs
+returns-clause-subs c = grind (arith, common_steps)

@@ -1,3 +1,5 @@
+use Rattle.std.proofs.Common.{arith}
+use Rattle.std.proofs.lemmas.Grind.{common_steps}
 use Rattle.std.proofs.Common.{map, ap, ◌∙◌}
 use Rattle.std.proofs.lemmas.List.{with_items_is}
 use Rattle.anti_queue.specs.declared.subscribers.Subscriber.{Subscriber}
@@ -12,3 +14,9 @@ returns-clause-subs c =
     ap (map (λ (x : Subscriber). x.sub)) (with_items_is c.args.self.now.list ys (c.loop-subscriber.invariant.many ∙ were.len))
     ∙ subs_kept xs ys c.loop-subscriber.invariant.many (λ i d short. c.loop-subscriber.invariant.subs i d)
     ∙ ap (map (λ (x : Subscriber). x.sub)) were.value
+
+pub loop-subscriber-preserved : goal.loop-subscriber-preserved
+loop-subscriber-preserved c = grind (arith, common_steps)
+
+pub returns-clause-sorted : goal.returns-clause-sorted
+returns-clause-sorted c = grind (arith, common_steps)

@@ -1,3 +1,5 @@
+use Rattle.std.proofs.Common.{arith}
+use Rattle.std.proofs.lemmas.Grind.{common_steps}
 use Rattle.std.proofs.Common.{take, subst}
 use Rattle.anti_trace.specs.inner.After.{AreAfter}
 use Rattle.anti_trace.proofs.GonePast.{before_next, taken_more}
@@ -18,3 +20,6 @@ loop-entry-preserved c =
     subst (λ t. AreAfter app t c.go_past.new.objects.items) (taken_more app trace c.requires.legal i c.entry-item.result c.loop-entry-test.true c.entry-item.is)
     (c.in_ok-go_past.ensures app (take i trace)
     (before_next app trace c.requires.legal i c.entry-item.result c.loop-entry-test.true c.entry-item.is c.loop-entry.objects.items c.loop-entry.invariant))
+
+pub returns : goal.returns
+returns c = grind (arith, common_steps)

@@ -1,3 +1,4 @@
+use Rattle.std.proofs.lemmas.Grind.{common_steps}
 use Rattle.std.proofs.Common.{◌≡◌, ◌<◌, length, arith}
 use Rattle.anti_trace.proofs.Followed.{fed, found_there, lost, next_reply, next_run, roomy_are}
 use Rattle.anti_trace.proofs.processes.Processes.feed.Goals as goal
@@ -31,3 +32,12 @@ returns c = λ before after legal are.
     fed c.args.app.now c.requires.sound c.args.self.now.at.items c.args.entry.now c.args.birth before after legal are c.requires.next.by
     c.args.at c.requires.found c.get.result.now c.get.ensures c.make_room.new.self.at.items c.take_over.new.self.at.items c.in_ok-advance.advance
     c.in_ok-advance.ensures.goes c.in_ok-advance.ensures.run c.in_ok-advance.ensures.full c.make_room.ensures.becomes c.take_over.ensures
+
+pub get-requires-clause-at : goal.get-requires-clause-at
+get-requires-clause-at c = grind (arith, common_steps)
+
+pub make_room-requires-clause-at : goal.make_room-requires-clause-at
+make_room-requires-clause-at c = grind (arith, common_steps)
+
+pub take_over-requires-clause-at : goal.take_over-requires-clause-at
+take_over-requires-clause-at c = grind (arith, common_steps)
