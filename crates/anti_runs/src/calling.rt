@@ -2,8 +2,9 @@
 
 use anti_command::antipode_plain;
 use anti_edge::{MemorySink, MemorySource};
-use anti_ids::Value;
+use anti_ids::{Bytes, List, Value};
 use std::alloc::Global;
+use std::process::Abort;
 
 /// A document with one store and nothing else.
 pub const STORE_ALONE: &[u8] =
@@ -55,7 +56,20 @@ pub const STEP: Row = Row {
     err: b"",
 };
 
-/// The same on a document, with what it has to come to.
+/// The same, for `assert_texts`: the text beside a document is its whole record.
+pub static PLAYED: Row = STEP;
+
+/// The same where the text is the end of a long record.
+pub static ENDED: Row = Row {
+    most: 5000,
+    more: true,
+    ..STEP
+};
+
+/// The same of documents that are refused: the text is the line that is told.
+pub static REFUSED: Row = Row { status: 5, ..STEP };
+
+/// A call with the word `step` on a document, with what it has to come to.
 pub fn step<'a>(document: &'a [u8], status: u8, out: &'a [u8], err: &'a [u8]) -> Row<'a> {
     Row {
         document,
@@ -66,29 +80,156 @@ pub fn step<'a>(document: &'a [u8], status: u8, out: &'a [u8], err: &'a [u8]) ->
     }
 }
 
-/// The same of a long record, which ends as given.
-pub fn step_to<'a>(document: &'a [u8], end: &'a [u8]) -> Row<'a> {
-    Row {
-        most: 5000,
-        more: true,
-        ..step(document, 0, end, b"")
+// The words as values. `None` where memory runs out.
+fn values(alloc: Global, words: &[&[u8]]) -> Option<List<Value>> {
+    let mut list = List::new(alloc);
+    for word in words {
+        let Ok(value) = Value::new(alloc, word) else {
+            return None;
+        };
+        let Ok(()) = list.add(value) else {
+            return None;
+        };
+    }
+    Some(list)
+}
+
+// Whether what was written is what the row wants.
+fn is_written(row: &Row, written: &[u8]) -> bool {
+    if row.more {
+        written.ends_with(row.out)
+    } else {
+        written == row.out
     }
 }
 
-/// Whether the call comes to what the row wants. `None` where memory runs out.
-pub fn ends_as(alloc: Global, row: &Row) -> Option<bool> {
-    let word = Value::new(alloc, row.word).ok()?;
-    let most = row.most.max(1);
-    let mut src = MemorySource::new(alloc, row.document, most, &[row.read_fails]).ok()?;
-    let mut out = MemorySink::new(alloc, 4_000_000, most, &[row.write_fails]).ok()?;
-    let mut err = MemorySink::new(alloc, 1000, most, &[row.line_fails]).ok()?;
-    let outcome = antipode_plain(alloc, &[word], &mut src, &mut out, &mut err);
-    let written = if row.more {
-        out.bytes().ends_with(row.out)
+// The status of a call.
+fn status_of(
+    alloc: Global,
+    words: &[Value],
+    src: &mut MemorySource,
+    out: &mut MemorySink,
+    err: &mut MemorySink,
+) -> u8 {
+    antipode_plain(alloc, words, src, out, err).status
+}
+
+// Whether a call with these words, this source and this sink of the text has the status and the line that the row wants. `false` where
+// memory runs out, too, as in the two below.
+fn is_told(
+    alloc: Global,
+    words: &[Value],
+    src: &mut MemorySource,
+    out: &mut MemorySink,
+    row: &Row,
+) -> bool {
+    match MemorySink::new(alloc, 1000, row.most.max(1), &[row.line_fails]) {
+        Ok(mut err) => {
+            status_of(alloc, words, src, out, &mut err) == row.status && err.bytes() == row.err
+        }
+        Err(_) => false,
+    }
+}
+
+// The same, and whether the text is what the row wants.
+fn is_told_and_written(alloc: Global, words: &[Value], src: &mut MemorySource, row: &Row) -> bool {
+    match MemorySink::new(alloc, 4_000_000, row.most.max(1), &[row.write_fails]) {
+        Ok(mut out) => is_told(alloc, words, src, &mut out, row) && is_written(row, out.bytes()),
+        Err(_) => false,
+    }
+}
+
+// The same of a source that has the document.
+fn reads(alloc: Global, words: &[Value], document: &[u8], row: &Row) -> bool {
+    match MemorySource::new(alloc, document, row.most.max(1), &[row.read_fails]) {
+        Ok(mut src) => is_told_and_written(alloc, words, &mut src, row),
+        Err(_) => false,
+    }
+}
+
+/// Whether the call with these words and on this document, in place of the row's own, comes to what the row wants. `false` where memory runs
+/// out, too.
+pub fn comes_to(alloc: Global, words: &[&[u8]], document: &[u8], row: &Row) -> bool {
+    match values(alloc, words) {
+        Some(words) => reads(alloc, words.as_slice(), document, row),
+        None => false,
+    }
+}
+
+/// Whether the call comes to what the row wants. `false` where memory runs out, too.
+pub fn is_so(alloc: Global, row: &Row) -> bool {
+    comes_to(alloc, &[row.word], row.document, row)
+}
+
+/// Asserts that each call comes to what its row wants.
+pub fn assert_rows(rt: &impl Abort, alloc: Global, rows: &[Row]) {
+    for (i, row) in rows.iter().enumerate() {
+        assert!(rt; is_so(alloc, row), "row {i}");
+    }
+}
+
+// Whether a call like this, but none of whose reads and writes fails, comes to a text on a document: what is written or, where the status is
+// not 0, the line of the fault. `false` where memory runs out, too.
+fn comes_to_text(alloc: Global, call: &Row, document: &[u8], text: &[u8]) -> bool {
+    let nothing: &[u8] = b"";
+    let (out, err) = if call.status == 0 {
+        (text, nothing)
     } else {
-        out.bytes() == row.out
+        (nothing, text)
     };
-    Some(outcome.status == row.status && written && err.bytes() == row.err)
+    let row = Row {
+        most: call.most,
+        status: call.status,
+        out,
+        more: call.more,
+        err,
+        ..STEP
+    };
+    comes_to(alloc, &[call.word], document, &row)
+}
+
+/// Asserts that a call like this, but none of whose reads and writes fails, comes on each document to the text beside it: what is written or,
+/// where the status is not 0, the line of the fault.
+pub fn assert_texts(rt: &impl Abort, alloc: Global, call: &Row, texts: &[(&str, &str)]) {
+    for (document, text) in texts {
+        assert!(rt;
+            comes_to_text(alloc, call, document.as_bytes(), text.as_bytes()),
+            "{text} of {document}"
+        );
+    }
+}
+
+// The frame with a text in place of the `@`. `None` where it has none or memory runs out.
+fn framed(alloc: Global, frame: &str, text: &str) -> Option<Bytes> {
+    let Some((front, back)) = frame.split_once('@') else {
+        return None;
+    };
+    let mut document = Bytes::new(alloc);
+    for piece in [front, text, back] {
+        let Ok(()) = document.append(piece.as_bytes()) else {
+            return None;
+        };
+    }
+    Some(document)
+}
+
+// Whether a case of `assert_refused` is so.
+fn is_refused(alloc: Global, frame: &str, case: &str) -> bool {
+    let Some((text, line)) = case.split_once(" => ") else {
+        return false;
+    };
+    match framed(alloc, frame, text) {
+        Some(document) => comes_to_text(alloc, &REFUSED, document.bytes(), line.as_bytes()),
+        None => false,
+    }
+}
+
+/// Asserts that documents are refused. Each line of the table has what stands in one of them in place of the `@` of the frame, and behind the
+/// arrow the line that is told.
+pub fn assert_refused(rt: &impl Abort, alloc: Global, frame: &str, table: &str) {
+    for case in table.split_inclusive('\n') {
+        assert!(rt; is_refused(alloc, frame, case), "{case}");
+    }
 }
 
 /// A document with one store, requests, and a service with the handlers `one` and `two`. Where no requests are given there are two, one to

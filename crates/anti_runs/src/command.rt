@@ -1,13 +1,12 @@
 // The words of the top call, its faults, and each read and write that fails.
 
 use crate::calling::{
-    NOTHING_AS_JSON, NOTHING_HAPPENED, Row, STEP, STORE_ALONE, ends_as, served, step,
+    NOTHING_AS_JSON, NOTHING_HAPPENED, Row, STEP, STORE_ALONE, assert_rows, comes_to, is_so,
+    served, step,
 };
-use anti_command::antipode_plain;
-use anti_edge::{MemorySink, MemorySource};
-use anti_ids::{Bytes, LONGEST_DOCUMENT, List, Value};
+use anti_ids::{Bytes, LONGEST_DOCUMENT};
 use std::alloc::Global;
-use std::test::Fail;
+use std::process::Abort;
 
 // A process that writes, and reads what it wrote once that is shipped; and the record.
 const WRITE_AND_READ: &str = served!(
@@ -27,44 +26,39 @@ span w.1/1 unguarded s.3
 end 4
 ";
 
-// Whether a call with these words is told as one that asks for nothing. `None` where memory runs out.
-fn is_usage(alloc: Global, words: &[&str]) -> Option<bool> {
-    let mut list = List::new(alloc);
-    for word in words {
-        list.add(Value::new(alloc, word.as_bytes()).ok()?).ok()?;
-    }
-    let mut src = MemorySource::new(alloc, STORE_ALONE, 10, &[]).ok()?;
-    let mut out = MemorySink::new(alloc, 100, 10, &[]).ok()?;
-    let mut err = MemorySink::new(alloc, 100, 10, &[]).ok()?;
-    let outcome = antipode_plain(alloc, list.as_slice(), &mut src, &mut out, &mut err);
-    Some(outcome.status == 2 && out.bytes().is_empty() && err.bytes() == b"usage\n".as_slice())
-}
+// Words that ask for nothing.
+static NO_COMMANDS: [&[&[u8]]; 14] = [
+    &[],
+    &[b"load"],
+    &[b"load", b""],
+    &[b"load", b"0"],
+    &[b"load", b"401"],
+    &[b"load", b"07"],
+    &[b"load", b"+7"],
+    &[b"load", b"7 "],
+    &[b"load", b"4294967297"],
+    &[b"load", b"all"],
+    &[b"load", b"7", b"7"],
+    &[b"place", b"7"],
+    &[b"step", b"x"],
+    &[b"step", b"json"],
+];
+
+// What a call with such words comes to.
+static USAGE: Row = Row {
+    status: 2,
+    err: b"usage\n",
+    ..STEP
+};
 
 #[test]
 fn words_that_are_no_command_are_told(rt: HostRuntime) {
-    assert_eq!(rt; is_usage(rt.alloc(), &[]), Some(true));
-    assert_eq!(rt; is_usage(rt.alloc(), &["load"]), Some(true));
-    for number in ["", "0", "401", "07", "+7", "7 ", "4294967297", "all"] {
-        assert_eq!(rt;
-            is_usage(rt.alloc(), &["load", number]),
-            Some(true),
-            "load {number}"
+    for (i, words) in NO_COMMANDS.iter().enumerate() {
+        assert!(rt;
+            comes_to(rt.alloc(), words, STORE_ALONE, &USAGE),
+            "words {i}"
         );
     }
-    assert_eq!(rt; is_usage(rt.alloc(), &["load", "7", "7"]), Some(true));
-    assert_eq!(rt; is_usage(rt.alloc(), &["place", "7"]), Some(true));
-    assert_eq!(rt; is_usage(rt.alloc(), &["step", "x"]), Some(true));
-    assert_eq!(rt; is_usage(rt.alloc(), &["step", "json"]), Some(true));
-}
-
-// The document with a comment behind it, and so many bytes in all. `None` where memory runs out.
-fn lengthened(alloc: Global, document: &[u8], length: usize) -> Option<Bytes> {
-    let mut longer = Bytes::new(alloc);
-    longer.append(document).ok()?;
-    for _ in document.len()..length {
-        longer.append(b"#").ok()?;
-    }
-    Some(longer)
 }
 
 // Calls of the top call, and what each comes to.
@@ -190,53 +184,87 @@ static ROWS: [Row; 18] = [
 
 #[test]
 fn runs_are_written_and_refusals_are_told(rt: HostRuntime) {
-    for (i, row) in ROWS.iter().enumerate() {
-        assert_eq!(rt; ends_as(rt.alloc(), row), Some(true), "row {i}");
+    assert_rows(&rt, rt.alloc(), &ROWS);
+}
+
+// So many bytes, and what a document of these comes to that has one store, and else a comment.
+static LENGTHS: [(usize, Row); 2] = [
+    (
+        LONGEST_DOCUMENT as usize,
+        Row {
+            document: STORE_ALONE,
+            most: 5000,
+            out: NOTHING_HAPPENED,
+            ..STEP
+        },
+    ),
+    (
+        LONGEST_DOCUMENT as usize + 1,
+        Row {
+            document: STORE_ALONE,
+            most: 5000,
+            status: 5,
+            err: b"too long\n",
+            ..STEP
+        },
+    ),
+];
+
+// Whether the row's document comes to what the row wants with a comment behind it, and so many bytes in all. `false` where memory runs out,
+// too.
+fn is_so_at(alloc: Global, length: usize, row: &Row) -> bool {
+    let mut longer = Bytes::new(alloc);
+    let Ok(()) = longer.append(row.document) else {
+        return false;
+    };
+    for _ in row.document.len()..length {
+        let Ok(()) = longer.append(b"#") else {
+            return false;
+        };
+    }
+    comes_to(alloc, &[row.word], longer.bytes(), row)
+}
+
+#[test]
+fn a_longer_document_is_too_long(rt: HostRuntime) {
+    for (length, row) in &LENGTHS {
+        assert!(rt; is_so_at(rt.alloc(), *length, row), "{length} bytes");
+    }
+}
+
+// Asserts that a failing read of the document is told, whichever it is: one for each byte, or the one at the end.
+fn assert_reads(rt: &impl Abort, alloc: Global, document: &[u8]) {
+    let mut read: u32 = 0;
+    for _ in 0..=document.len() {
+        read = read.saturating_add(1);
+        let row = Row {
+            most: 1,
+            read_fails: read,
+            ..step(document, 3, b"", b"read fault\n")
+        };
+        assert!(rt; is_so(alloc, &row), "read {read}");
+    }
+}
+
+// Asserts that a failing write of a byte of the record is told, whichever it is.
+fn assert_writes<'a>(rt: &impl Abort, alloc: Global, document: &'a [u8], record: &'a [u8]) {
+    let mut write: u32 = 0;
+    for taken in 0..record.len() {
+        write = write.saturating_add(1);
+        let row = Row {
+            most: 1,
+            write_fails: write,
+            ..step(document, 4, &record[..taken], b"write fault\n")
+        };
+        assert!(rt; is_so(alloc, &row), "write {write}");
     }
 }
 
 #[test]
-fn a_longer_document_is_too_long(rt: HostRuntime) -> Result<(), Fail> {
-    let longest = LONGEST_DOCUMENT as usize;
-    let document = lengthened(rt.alloc(), STORE_ALONE, longest).ok_or("no memory")?;
-    let row = Row {
-        most: 5000,
-        ..step(document.bytes(), 0, NOTHING_HAPPENED, b"")
-    };
-    assert_eq!(rt; ends_as(rt.alloc(), &row), Some(true));
-    let longer = lengthened(rt.alloc(), STORE_ALONE, longest + 1).ok_or("no memory")?;
-    let row = Row {
-        most: 5000,
-        ..step(longer.bytes(), 5, b"", b"too long\n")
-    };
-    assert_eq!(rt; ends_as(rt.alloc(), &row), Some(true));
-    Ok(())
-}
-
-#[test]
-fn each_failing_read_and_write_is_told(rt: HostRuntime) -> Result<(), Fail> {
-    let runs = [
-        (STORE_ALONE, NOTHING_HAPPENED),
-        (WRITE_AND_READ.as_bytes(), WRITTEN_AND_READ),
-    ];
-    for (document, text) in runs {
-        let reads = u32::try_from(document.len())?;
-        for read in 1..=reads.saturating_add(1) {
-            let row = Row {
-                most: 1,
-                read_fails: read,
-                ..step(document, 3, b"", b"read fault\n")
-            };
-            assert_eq!(rt; ends_as(rt.alloc(), &row), Some(true), "read {read}");
-        }
-        for taken in 0..text.len() {
-            let row = Row {
-                most: 1,
-                write_fails: u32::try_from(taken)?.saturating_add(1),
-                ..step(document, 4, &text[..taken], b"write fault\n")
-            };
-            assert_eq!(rt; ends_as(rt.alloc(), &row), Some(true), "write {taken}");
-        }
-    }
-    Ok(())
+fn each_failing_read_and_write_is_told(rt: HostRuntime) {
+    let alloc = rt.alloc();
+    assert_reads(&rt, alloc, STORE_ALONE);
+    assert_writes(&rt, alloc, STORE_ALONE, NOTHING_HAPPENED);
+    assert_reads(&rt, alloc, WRITE_AND_READ.as_bytes());
+    assert_writes(&rt, alloc, WRITE_AND_READ.as_bytes(), WRITTEN_AND_READ);
 }

@@ -1,18 +1,16 @@
 // The orders that explain what spans read: in the records of documents, and of a run that is kept.
-ghost use Rattle.std.specs.Prelude.{◌≡◌, ◌<◌, [], ◌∷◌, length, IfOk, IsTrue};
+ghost use Rattle.std.specs.Prelude.{◌<◌, length, IsTrue};
 ghost use Rattle.anti_app.specs.Sound.{is_sound};
 ghost use Rattle.anti_trace.specs.Legal.{IsLegalTrace};
 
-use crate::calling::{ends_as, served, step_to};
+use crate::calling::{ENDED, assert_texts, served};
 use crate::past::WHOLE;
-use crate::playing::{Run, run_of};
-use anti_ids::{List, NoMemory};
+use crate::playing::{Run, Wanted, assert_run};
 use anti_kind::Birth;
-use anti_order::{Marks, OrderAnswer, SpanAnswer, answers, order, order_of};
+use anti_order::{Marks, OrderAnswer, SpanAnswer, answers, count_answers, order, order_of};
 use anti_past::reads;
 use anti_trace::Mark;
 use std::alloc::Global;
-use std::test::Fail;
 
 // Two writes of one key that know nothing of each other, and a reader who sees both: the stores are the objects 0 and 1, and the inboxes
 // of the services 2 to 4.
@@ -40,16 +38,28 @@ region = 'eu'
 name = 'run'
 body = ['read s k as p', 'transfer p', 'barrier', 'read s x as q', 'transfer q', 'poll t n#1 as o', 'transfer o', 'barrier', 'read s k as z']";
 
-// The marks of the order of its reader.
-const CONCURRENT_ORDER: [(u32, u32); 8] = [
-    (0, 3),
-    (0, 5),
-    (0, 7),
-    (0, 1),
-    (0, 2),
-    (1, 1),
-    (1, 3),
-    (0, 10),
+// What is answered of the run of `CONCURRENT`.
+static ORDERS: [Wanted; 4] = [
+    // of the reader
+    Wanted::Order(
+        4,
+        &[
+            (0, 3),
+            (0, 5),
+            (0, 7),
+            (0, 1),
+            (0, 2),
+            (1, 1),
+            (1, 3),
+            (0, 10),
+        ],
+    ),
+    // of the last read alone: what it needs, and then the read
+    Wanted::LastOrder(&[(0, 1), (0, 2), (0, 3), (1, 1), (0, 10)]),
+    // no other span has a read
+    Wanted::Orders(1),
+    // a process that read nothing: all writes
+    Wanted::Order(3, &[(0, 1), (0, 2), (0, 3), (1, 1)]),
 ];
 
 // The ends of the records of documents.
@@ -102,115 +112,116 @@ end 8
     ),
 ];
 
-#[test]
-fn records_end_with_their_orders(rt: HostRuntime) {
-    for (document, end) in &ENDS {
-        let row = step_to(document.as_bytes(), end.as_bytes());
-        assert_eq!(rt;
-            ends_as(rt.alloc(), &row),
-            Some(true),
-            "{end} of {document}"
-        );
-    }
-}
-
 // Whether an answer is an order with these marks.
 fn is_order(answer: &OrderAnswer, marks: &[(u32, u32)]) -> bool {
     let OrderAnswer::Order(found) = answer else {
         return false;
     };
-    let found = found.as_slice();
-    found.len() == marks.len()
-        && found.iter().zip(marks).all(|(one, other)| one.object == other.0 && one.place == other.1)
+    let mut left = marks;
+    for mark in found.as_slice() {
+        let [(object, place), rest @ ..] = left else {
+            return false;
+        };
+        if mark.object != *object || mark.place != *place {
+            return false;
+        }
+        left = rest;
+    }
+    left.is_empty()
 }
 
-// What is answered of the read at an index, which is given by its mark. `None` of an entry that is no read.
-fn order_of_one(alloc: Global, run: &Run, index: u32) -> Result<Option<OrderAnswer>, NoMemory>
+// Whether the entry at an index, which is given by its mark, is a read whose order has these marks.
+fn has_order_at(alloc: Global, run: &Run, index: u32, marks: &[(u32, u32)]) -> bool
     requires sound { IsTrue (is_sound run.now.app) }
     requires legal { IsLegalTrace run.now.app run.now.trace }
     requires index { index < length run.now.trace }
 {
     let entry = run.trace.at(index);
     if !reads(&entry.call) {
-        return Ok(None);
+        return false;
     }
     let mark = Mark {
         object: entry.object,
         place: entry.place,
     };
-    let chain = chain_of(alloc, mark)?;
-    let answer = order_of(alloc, &run.app, &run.trace, &chain)?;
-    Ok(Some(answer))
+    let mut chain = Marks::new(alloc);
+    let Ok(()) = chain.add(mark) else {
+        return false;
+    };
+    match order_of(alloc, &run.app, &run.trace, &chain) {
+        Ok(answer) => is_order(&answer, marks),
+        Err(_) => false,
+    }
 }
 
-// The same of the last entry of a run.
-fn order_of_last(alloc: Global, run: &Run) -> Result<Option<OrderAnswer>, NoMemory>
+/// Whether the last entry of a run is a read whose order has these marks. Where memory runs out it is not.
+pub fn has_last_order(alloc: Global, run: &Run, marks: &[(u32, u32)]) -> bool
     requires sound { IsTrue (is_sound run.now.app) }
     requires legal { IsLegalTrace run.now.app run.now.trace }
 {
     let count = run.trace.len();
     if count == 0 {
-        return Ok(None);
+        return false;
     }
-    order_of_one(alloc, run, count - 1)
+    has_order_at(alloc, run, count - 1, marks)
 }
 
-// A list of one mark.
-fn chain_of(alloc: Global, mark: Mark) -> Result<Marks, NoMemory>
-    ensures { IfOk result (λ chain. chain.items ≡ mark ∷ []) }
+/// Whether the reads in the first span of the process that began as the first entry of an object have an order with these marks. Where
+/// memory runs out they have not.
+pub fn has_order(alloc: Global, run: &Run, object: u32, marks: &[(u32, u32)]) -> bool
+    requires sound { IsTrue (is_sound run.now.app) }
+    requires legal { IsLegalTrace run.now.app run.now.trace }
 {
-    let mut chain = List::new(alloc);
-    match chain.push(mark) {
-        Ok(()) => Ok(chain),
-        Err(_) => Err(NoMemory),
+    let birth = Birth { object, place: 1 };
+    match order(alloc, &run.app, &run.trace, birth, 1) {
+        Ok(answer) => is_order(&answer, marks),
+        Err(_) => false,
     }
-}
-
-#[test]
-fn spans_and_reads_have_their_orders(rt: HostRuntime) -> Result<(), Fail> {
-    let alloc = rt.alloc();
-    let run = run_of(alloc, CONCURRENT.as_bytes()).ok_or("no run")?;
-    let reader = Birth {
-        object: 4,
-        place: 1,
-    };
-    let answer = order(alloc, &run.app, &run.trace, reader, 1)?;
-    assert!(rt;
-        is_order(&answer, &CONCURRENT_ORDER),
-        "the order of the reader"
-    );
-    // of the last read alone: what it needs, and then the read
-    let answer = order_of_last(alloc, &run)?.ok_or("no read")?;
-    assert!(rt;
-        is_order(&answer, &[(0, 1), (0, 2), (0, 3), (1, 1), (0, 10)]),
-        "the order of the last read"
-    );
-    // no other span has a read
-    let all = answers(alloc, &run.app, &run.trace)?;
-    assert_eq!(rt; all.len(), 1);
-    // a process that read nothing: all writes
-    let writer = Birth {
-        object: 3,
-        place: 1,
-    };
-    let answer = order(alloc, &run.app, &run.trace, writer, 1)?;
-    assert!(rt;
-        is_order(&answer, &[(0, 1), (0, 2), (0, 3), (1, 1)]),
-        "the order of no reads"
-    );
-    Ok(())
 }
 
 // Whether each of these answers is an order.
 fn are_orders(answers: &[SpanAnswer]) -> bool {
-    answers.iter().all(|answered| matches!(answered.answer, OrderAnswer::Order(_)))
+    for answered in answers {
+        let OrderAnswer::Order(_) = answered.answer else {
+            return false;
+        };
+    }
+    true
+}
+
+/// Whether so many spans of a run have a read, and each has an order. Where memory runs out that is not so.
+pub fn have_orders(alloc: Global, run: &Run, count: usize) -> bool
+    requires sound { IsTrue (is_sound run.now.app) }
+    requires legal { IsLegalTrace run.now.app run.now.trace }
+{
+    match answers(alloc, &run.app, &run.trace) {
+        Ok(all) => all.len() == count && are_orders(all.as_slice()),
+        Err(_) => false,
+    }
+}
+
+/// Whether some spans of a run have a read, and as is counted each has an order. Where memory runs out that is not so.
+pub fn are_all_ordered(alloc: Global, run: &Run) -> bool
+    requires sound { IsTrue (is_sound run.now.app) }
+    requires legal { IsLegalTrace run.now.app run.now.trace }
+{
+    match count_answers(alloc, &run.app, &run.trace) {
+        Ok(counts) => counts.ordered > 0 && counts.unguarded == 0 && counts.lossy == 0,
+        Err(_) => false,
+    }
 }
 
 #[test]
-fn each_span_of_a_whole_application_has_an_order(rt: HostRuntime) -> Result<(), Fail> {
-    let run = run_of(rt.alloc(), WHOLE.as_bytes()).ok_or("no run")?;
-    let all = answers(rt.alloc(), &run.app, &run.trace)?;
-    assert_eq!(rt; all.len(), 18);
-    assert!(rt; are_orders(all.as_slice()), "each is an order");
-    Ok(())
+fn records_end_with_their_orders(rt: HostRuntime) {
+    assert_texts(&rt, rt.alloc(), &ENDED, &ENDS);
+}
+
+#[test]
+fn spans_and_reads_have_their_orders(rt: HostRuntime) {
+    assert_run(&rt, rt.alloc(), CONCURRENT, &ORDERS);
+}
+
+#[test]
+fn each_span_of_a_whole_application_has_an_order(rt: HostRuntime) {
+    assert_run(&rt, rt.alloc(), WHOLE, &[Wanted::Orders(18)]);
 }

@@ -1,24 +1,22 @@
 // What the processes of a run carried and lost, which of its reads are settled, and the spans with a read: by the trace that is kept.
-ghost use Rattle.std.specs.Prelude.{◌≡◌, ◌<◌, length, IfSome, IsTrue};
+ghost use Rattle.std.specs.Prelude.{◌≡◌, ◌<◌, length, false, true, IsTrue};
 ghost use Rattle.anti_app.specs.Sound.{is_sound};
 ghost use Rattle.anti_proc.specs.Births.{is_birth};
 ghost use Rattle.anti_trace.specs.Legal.{IsLegalTrace};
+ghost use Rattle.anti_causal.specs.Causal.{is_process};
 
 use crate::calling::served;
-use crate::playing::{Run, run_of};
+use crate::playing::{Run, Wanted, assert_run, assert_runs};
 use crate::pulls::BARRIER_WAITS;
 use anti_app::store_names;
 use anti_baggage::encode;
-use anti_ids::{Lineage, NoMemory};
-use anti_kind::{Actor, Birth, Call, Entry};
-use anti_past::{Span, Spans, carried, first_loss, settled, spans};
-use anti_trace::Trace;
+use anti_ids::{Lineage, Name};
+use anti_kind::{Actor, Entry};
+use anti_past::{Span, carried, first_loss, reads, settled, spans};
 use std::alloc::Global;
-use std::test::Fail;
 
-// Documents in which an entry lacks what came to its span before; the object and the place of the first, and what is carried into it. The
-// store is object 0, the inbox of the service object 1.
-static LOSSES: [(&str, (u32, u32), &str); 8] = [
+// Documents in which an entry lacks what came to its span before. The store is object 0, the inbox of the service object 1.
+static LOSSES: [(&str, Wanted); 8] = [
     // what was read is not transferred, and then something is written, read or sent
     (
         served!(
@@ -26,8 +24,7 @@ static LOSSES: [(&str, (u32, u32), &str); 8] = [
             "'write s k a'",
             "'read s k as p', 'write s j b'"
         ),
-        (0, 4),
-        "1;",
+        Wanted::Loss((0, 4), "1;"),
     ),
     (
         served!(
@@ -35,8 +32,7 @@ static LOSSES: [(&str, (u32, u32), &str); 8] = [
             "'write s k a'",
             "'read s k as p', 'read s k as q'"
         ),
-        (0, 4),
-        "1;",
+        Wanted::Loss((0, 4), "1;"),
     ),
     (
         served!(
@@ -44,8 +40,7 @@ static LOSSES: [(&str, (u32, u32), &str); 8] = [
             "'write s k a'",
             "'read s k as p', 'send w one v'"
         ),
-        (1, 3),
-        "1;",
+        Wanted::Loss((1, 3), "1;"),
     ),
     // a write is taken out, before another, before a barrier, and before the reply
     (
@@ -54,8 +49,7 @@ static LOSSES: [(&str, (u32, u32), &str); 8] = [
             "'write s k a as x', 'remove x', 'write s j b'",
             ""
         ),
-        (0, 2),
-        "1;",
+        Wanted::Loss((0, 2), "1;"),
     ),
     (
         served!(
@@ -63,8 +57,7 @@ static LOSSES: [(&str, (u32, u32), &str); 8] = [
             "'write s k a', 'write s j b as x', 'remove x', 'barrier'",
             ""
         ),
-        (0, 4),
-        "1;s/k@1",
+        Wanted::Loss((0, 4), "1;s/k@1"),
     ),
     (
         served!(
@@ -72,8 +65,7 @@ static LOSSES: [(&str, (u32, u32), &str); 8] = [
             "'call w two v as y'",
             "'write s k a as x', 'remove x'"
         ),
-        (1, 4),
-        "1;",
+        Wanted::Loss((1, 4), "1;"),
     ),
     // a write is untracked, before a read, and in a later span before another write
     (
@@ -82,8 +74,7 @@ static LOSSES: [(&str, (u32, u32), &str); 8] = [
             "'write s k a', 'write s j b as x untracked', 'read s k as y'",
             ""
         ),
-        (0, 3),
-        "1;s/k@1",
+        Wanted::Loss((0, 3), "1;s/k@1"),
     ),
     (
         served!(
@@ -91,87 +82,64 @@ static LOSSES: [(&str, (u32, u32), &str); 8] = [
             "'write s a 1 as x untracked', 'root', 'write s b 2 as y untracked', 'write s c 3', 'write s d 4'",
             ""
         ),
-        (0, 3),
-        "1;",
+        Wanted::Loss((0, 3), "1;"),
     ),
 ];
 
 // Documents in which none does.
-static NO_LOSSES: [&str; 7] = [
-    served!(
-        "'take w 1', 'go w.1', 'go w.1'",
-        "'write s k a', 'read s k as x'",
-        "'nack'"
-    ),
-    served!(
-        "'take w 1', 'go w.1', 'ship s eu 1', 'take w 1', 'go w.2', 'go w.2'",
-        "'write s k a'",
-        "'read s k as p', 'transfer p', 'write s j b'"
-    ),
-    served!(
-        "'take w 1', 'go w.1', 'go w.1'",
-        "'write s k a as x', 'remove x', 'append x', 'write s j b'",
-        ""
-    ),
-    // what was lost in one span is none of the next
-    served!(
-        "'take w 1', 'go w.1', 'go w.1'",
-        "'write s k a as x', 'remove x', 'root', 'write s j b'",
-        ""
-    ),
-    // nothing comes behind the untracked write
-    served!(
-        "'take w 1', 'go w.1', 'go w.1'",
-        "'write s k a', 'write s j b as x untracked'",
-        ""
-    ),
-    // the reply brings its lineage
-    served!(
-        "'take w 1', 'go w.1', 'take w 2', 'go w.3', 'go w.3', 'go w.1', 'go w.1'",
-        "'call w two v as y', 'write s j b'",
-        "'write s k a'"
-    ),
-    BARRIER_WAITS,
-];
-
-// Documents with reads, and whether each is settled, in the order of the trace.
-static READS: [(&str, &[bool]); 5] = [
+static NO_LOSSES: [(&str, Wanted); 7] = [
     (
         served!(
             "'take w 1', 'go w.1', 'go w.1'",
             "'write s k a', 'read s k as x'",
             "'nack'"
         ),
-        &[false],
+        Wanted::NoLoss,
     ),
-    // a dry run that names what is missing, and one that finds it
     (
         served!(
-            "'take w 1', 'go w.1', 'go w.1', 'go w.1', 'ship s eu 1', 'go w.1', 'go w.1'",
-            "'write s k a', 'dryrun', 'read s k as x', 'dryrun', 'read s k as y'",
-            ""
+            "'take w 1', 'go w.1', 'ship s eu 1', 'take w 1', 'go w.2', 'go w.2'",
+            "'write s k a'",
+            "'read s k as p', 'transfer p', 'write s j b'"
         ),
-        &[false, true],
+        Wanted::NoLoss,
     ),
-    // a barrier, and a write behind it
-    (
-        served!(
-            "'take w 1', 'go w.1', 'ship s eu 1', 'go w.1', 'go w.1', 'go w.1', 'go w.1'",
-            "'write s k a', 'barrier', 'read s k as x', 'write s j b', 'read s k as y'",
-            ""
-        ),
-        &[true, false],
-    ),
-    // a root, behind which nothing is carried
     (
         served!(
             "'take w 1', 'go w.1', 'go w.1'",
-            "'write s k a', 'root', 'read s k as x'",
+            "'write s k a as x', 'remove x', 'append x', 'write s j b'",
             ""
         ),
-        &[true],
+        Wanted::NoLoss,
     ),
-    (BARRIER_WAITS, &[true]),
+    // what was lost in one span is none of the next
+    (
+        served!(
+            "'take w 1', 'go w.1', 'go w.1'",
+            "'write s k a as x', 'remove x', 'root', 'write s j b'",
+            ""
+        ),
+        Wanted::NoLoss,
+    ),
+    // nothing comes behind the untracked write
+    (
+        served!(
+            "'take w 1', 'go w.1', 'go w.1'",
+            "'write s k a', 'write s j b as x untracked'",
+            ""
+        ),
+        Wanted::NoLoss,
+    ),
+    // the reply brings its lineage
+    (
+        served!(
+            "'take w 1', 'go w.1', 'take w 2', 'go w.3', 'go w.3', 'go w.1', 'go w.1'",
+            "'call w two v as y', 'write s j b'",
+            "'write s k a'"
+        ),
+        Wanted::NoLoss,
+    ),
+    (BARRIER_WAITS, Wanted::NoLoss),
 ];
 
 // Four writes, of which the last two stand behind a root.
@@ -181,8 +149,53 @@ const ROOT_BETWEEN: &str = served!(
     ""
 );
 
-// The places of these writes, and what is carried into each.
-static CARRIED: [(u32, &str); 4] = [(1, "1;"), (2, "1;s/a@1"), (3, "1;"), (4, "1;s/c@3")];
+// What is carried into each of these writes.
+static CARRIED: [Wanted; 4] = [
+    Wanted::Carried((0, 1), "1;"),
+    Wanted::Carried((0, 2), "1;s/a@1"),
+    Wanted::Carried((0, 3), "1;"),
+    Wanted::Carried((0, 4), "1;s/c@3"),
+];
+
+// Documents with reads, and whether each is settled, in the order of the trace.
+static READS: [(&str, Wanted); 5] = [
+    (
+        served!(
+            "'take w 1', 'go w.1', 'go w.1'",
+            "'write s k a', 'read s k as x'",
+            "'nack'"
+        ),
+        Wanted::Settled(&[false]),
+    ),
+    // a dry run that names what is missing, and one that finds it
+    (
+        served!(
+            "'take w 1', 'go w.1', 'go w.1', 'go w.1', 'ship s eu 1', 'go w.1', 'go w.1'",
+            "'write s k a', 'dryrun', 'read s k as x', 'dryrun', 'read s k as y'",
+            ""
+        ),
+        Wanted::Settled(&[false, true]),
+    ),
+    // a barrier, and a write behind it
+    (
+        served!(
+            "'take w 1', 'go w.1', 'ship s eu 1', 'go w.1', 'go w.1', 'go w.1', 'go w.1'",
+            "'write s k a', 'barrier', 'read s k as x', 'write s j b', 'read s k as y'",
+            ""
+        ),
+        Wanted::Settled(&[true, false]),
+    ),
+    // a root, behind which nothing is carried
+    (
+        served!(
+            "'take w 1', 'go w.1', 'go w.1'",
+            "'write s k a', 'root', 'read s k as x'",
+            ""
+        ),
+        Wanted::Settled(&[true]),
+    ),
+    (BARRIER_WAITS, Wanted::Settled(&[true])),
+];
 
 // Reads in two spans of one process, with a span between them that only writes, and before them a read of a later process.
 const SPANS_WITH_READS: &str = served!(
@@ -191,7 +204,16 @@ const SPANS_WITH_READS: &str = served!(
     "'read s k as p'"
 );
 
-// An application of six services in three regions with a store of each kind, whose reads all stand behind barriers.
+// Documents with reads, and their spans.
+static SPANS: [(&str, Wanted); 2] = [
+    (
+        SPANS_WITH_READS,
+        Wanted::Spans(&[(1, 1, 1), (1, 1, 3), (1, 2, 1)]),
+    ),
+    (BARRIER_WAITS, Wanted::Spans(&[(1, 3, 1)])),
+];
+
+/// An application of six services in three regions with a store of each kind, whose reads all stand behind barriers.
 pub const WHOLE: &str = "regions = ['us', 'eu', 'ap']
 workers = 4
 seed = 7
@@ -248,173 +270,179 @@ name = 'admin'
 region = 'us'
 handler = [{ name = 'join', body = ['write users user-ann Ann'] }]";
 
-// The number of objects in which the spans of its reads begin: each of six posts asks for names, is spread from the queue `jobs`, which is
-// object 3, and shown from the topic `feed`, which is object 4. The service `names` is object 7.
-const BEGUN_ON: [u32; 18] = [3, 3, 3, 3, 3, 3, 4, 4, 4, 4, 4, 4, 7, 7, 7, 7, 7, 7];
+// The spans of its reads, by the objects in which they begin: each of six posts is spread from the queue `jobs`, which is object 3, shown
+// from the topic `feed`, which is object 4, and asks for names. The service `names` is object 7.
+const BEGUN: [(u32, u32, u32); 18] = [
+    (3, 0, 1),
+    (3, 0, 1),
+    (3, 0, 1),
+    (3, 0, 1),
+    (3, 0, 1),
+    (3, 0, 1),
+    (4, 0, 1),
+    (4, 0, 1),
+    (4, 0, 1),
+    (4, 0, 1),
+    (4, 0, 1),
+    (4, 0, 1),
+    (7, 0, 1),
+    (7, 0, 1),
+    (7, 0, 1),
+    (7, 0, 1),
+    (7, 0, 1),
+    (7, 0, 1),
+];
 
-// The first entry of a document's run that loses an id, by its object and its place. `None` where memory runs out.
-fn loss_in(alloc: Global, document: &str) -> Option<Option<(u32, u32)>> {
-    let run = run_of(alloc, document.as_bytes())?;
-    match first_loss(alloc, &run.app, &run.trace).ok()? {
-        Some(mark) => Some(Some((mark.object, mark.place))),
-        None => Some(None),
+// What is so of its run: nothing is lost, and each read is settled.
+static OF_WHOLE: [Wanted; 3] = [
+    Wanted::NoLoss,
+    Wanted::Settled(&[true; 24]),
+    Wanted::Spans(&BEGUN),
+];
+
+// Whether an entry was made by a process, and is not its first.
+fn is_later(entry: &Entry) -> bool
+    ensures { result ≡ true → (is_process entry.now.actor ≡ true) × (is_birth entry.now ≡ false) }
+{
+    let Actor::Process(birth) = entry.actor else {
+        return false;
+    };
+    if birth.object == entry.object {
+        birth.place != entry.place
+    } else {
+        true
     }
 }
 
-// The index of the entry at a place of an object.
-fn index_of(trace: &Trace, object: u32, place: u32) -> Option<u32>
-    ensures { IfSome result (λ index. index < length trace.now) }
-{
-    for index in 0..trace.len() {
-        let entry = trace.at(index);
-        if entry.object == object && entry.place == place {
-            return Some(index);
-        }
+// Whether a lineage has this text, over the names of the stores.
+fn has_text(alloc: Global, stores: &[Name], lineage: &Lineage, text: &str) -> bool {
+    match encode(alloc, stores, lineage) {
+        Ok(found) => found.bytes() == text.as_bytes(),
+        Err(_) => false,
     }
-    None
 }
 
-// Whether an entry is the first of its process.
-fn is_birth(entry: &Entry) -> bool
-    ensures { result ≡ is_birth entry.now }
+// Whether the lineage with this text is carried into the entry at an index, behind the first of its process.
+fn is_carried_into(alloc: Global, run: &Run, index: u32, text: &str) -> bool
+    requires sound { IsTrue (is_sound run.now.app) }
+    requires legal { IsLegalTrace run.now.app run.now.trace }
+    requires index { index < length run.now.trace }
 {
-    match entry.actor {
-        Actor::Process(birth) => {
-            if birth.object == entry.object {
-                birth.place == entry.place
-            } else {
-                false
-            }
+    if !is_later(run.trace.at(index)) {
+        return false;
+    }
+    let Ok(stores) = store_names(alloc, &run.app) else {
+        return false;
+    };
+    match carried(alloc, &run.app, &run.trace, index) {
+        Ok(lineage) => has_text(alloc, stores.as_slice(), &lineage, text),
+        Err(_) => false,
+    }
+}
+
+/// Whether the lineage with this text is carried into the entry at a place of an object. Where memory runs out it is not.
+pub fn is_carried(alloc: Global, run: &Run, at: (u32, u32), text: &str) -> bool
+    requires sound { IsTrue (is_sound run.now.app) }
+    requires legal { IsLegalTrace run.now.app run.now.trace }
+{
+    for index in 0..run.trace.len() {
+        let entry = run.trace.at(index);
+        if entry.object == at.0 && entry.place == at.1 {
+            return is_carried_into(alloc, run, index, text);
         }
+    }
+    false
+}
+
+/// Whether the entry at a place of an object is the first that loses an id. Where memory runs out it is not.
+pub fn is_first_loss(alloc: Global, run: &Run, at: (u32, u32)) -> bool
+    requires sound { IsTrue (is_sound run.now.app) }
+    requires legal { IsLegalTrace run.now.app run.now.trace }
+{
+    match first_loss(alloc, &run.app, &run.trace) {
+        Ok(Some(mark)) => mark.object == at.0 && mark.place == at.1,
         _ => false,
     }
 }
 
-// What a process carried into an entry behind its birth. `None` of another entry, and where memory runs out.
-fn carried_into(alloc: Global, run: &Run, index: u32) -> Option<Lineage>
+/// Whether no entry loses an id. Where memory runs out that is not so.
+pub fn has_no_loss(alloc: Global, run: &Run) -> bool
     requires sound { IsTrue (is_sound run.now.app) }
     requires legal { IsLegalTrace run.now.app run.now.trace }
-    requires index { index < length run.now.trace }
 {
-    let entry = run.trace.at(index);
-    if is_birth(entry) {
-        return None;
-    }
-    match entry.actor {
-        Actor::Process(_) => carried(alloc, &run.app, &run.trace, index).ok(),
-        _ => None,
-    }
+    matches!(first_loss(alloc, &run.app, &run.trace), Ok(None))
 }
 
-// Whether the lineage with this text is carried into the entry at a place of an object. `None` where there is none or memory runs out.
-fn is_carried(alloc: Global, document: &str, at: (u32, u32), text: &str) -> Option<bool> {
-    let run = run_of(alloc, document.as_bytes())?;
-    let index = index_of(&run.trace, at.0, at.1)?;
-    let lineage = carried_into(alloc, &run, index)?;
-    let names = store_names(alloc, &run.app).ok()?;
-    let found = encode(alloc, names.as_slice(), &lineage).ok()?;
-    Some(found.bytes() == text.as_bytes())
-}
-
-// Whether the entry at an index is a settled read. `None` of an entry that is no read.
-fn is_settled(alloc: Global, run: &Run, index: u32) -> Result<Option<bool>, NoMemory>
+/// Whether the reads of a run are settled as these answers say. Where memory runs out that is not so.
+pub fn are_settled(alloc: Global, run: &Run, answers: &[bool]) -> bool
     requires sound { IsTrue (is_sound run.now.app) }
     requires legal { IsLegalTrace run.now.app run.now.trace }
-    requires index { index < length run.now.trace }
 {
-    match run.trace.at(index).call {
-        Call::Read { .. } | Call::Scan { .. } | Call::Poll { .. } => {
-            let answer = settled(alloc, &run.app, &run.trace, index)?;
-            Ok(Some(answer))
-        }
-        _ => Ok(None),
-    }
-}
-
-// Whether the reads of a document's run are settled as these answers say. `None` where memory runs out.
-fn are_settled(alloc: Global, document: &str, answers: &[bool]) -> Option<bool> {
-    let run = run_of(alloc, document.as_bytes())?;
-    let mut found = Vec::new(alloc);
+    let mut left = answers;
     for index in 0..run.trace.len() {
-        if let Some(answer) = is_settled(alloc, &run, index).ok()? {
-            found.push(answer).ok()?;
+        if !reads(&run.trace.at(index).call) {
+            continue;
         }
+        let Ok(answer) = settled(alloc, &run.app, &run.trace, index) else {
+            return false;
+        };
+        let [wanted, rest @ ..] = left else {
+            return false;
+        };
+        if answer != *wanted {
+            return false;
+        }
+        left = rest;
     }
-    Some(found.as_slice() == answers)
+    left.is_empty()
 }
 
-// The spans with a read in a document's run. `None` where memory runs out.
-fn spans_in(alloc: Global, document: &str) -> Option<Spans> {
-    let run = run_of(alloc, document.as_bytes())?;
-    spans(alloc, &run.trace).ok()
+// Whether these are the spans that are listed.
+fn are_listed(found: &[Span], listed: &[(u32, u32, u32)]) -> bool {
+    let mut left = listed;
+    for one in found {
+        let [(object, place, span), rest @ ..] = left else {
+            return false;
+        };
+        let is_there = *place == 0 || one.birth.place == *place;
+        if !is_there || one.birth.object != *object || one.span != *span {
+            return false;
+        }
+        left = rest;
+    }
+    left.is_empty()
 }
 
-// The span of a process.
-fn span(object: u32, place: u32, span: u32) -> Span {
-    Span {
-        birth: Birth { object, place },
-        span,
+/// Whether the spans with a read in a run are those that are listed. Where memory runs out they are not.
+pub fn are_spans(alloc: Global, run: &Run, listed: &[(u32, u32, u32)]) -> bool {
+    match spans(alloc, &run.trace) {
+        Ok(found) => are_listed(found.as_slice(), listed),
+        Err(_) => false,
     }
 }
 
 #[test]
 fn the_first_loss_is_found(rt: HostRuntime) {
-    for (document, lost, carried) in &LOSSES {
-        assert_eq!(rt;
-            loss_in(rt.alloc(), document),
-            Some(Some(*lost)),
-            "{document}"
-        );
-        assert_eq!(rt;
-            is_carried(rt.alloc(), document, *lost, carried),
-            Some(true),
-            "{document}"
-        );
-    }
-    for document in &NO_LOSSES {
-        assert_eq!(rt; loss_in(rt.alloc(), document), Some(None), "{document}");
-    }
+    assert_runs(&rt, rt.alloc(), &LOSSES);
+    assert_runs(&rt, rt.alloc(), &NO_LOSSES);
 }
 
 #[test]
 fn a_root_gives_up_what_is_carried(rt: HostRuntime) {
-    for (place, text) in &CARRIED {
-        assert_eq!(rt;
-            is_carried(rt.alloc(), ROOT_BETWEEN, (0, *place), text),
-            Some(true),
-            "{place}"
-        );
-    }
+    assert_run(&rt, rt.alloc(), ROOT_BETWEEN, &CARRIED);
 }
 
 #[test]
 fn reads_are_settled_by_looks(rt: HostRuntime) {
-    for (document, answers) in &READS {
-        assert_eq!(rt;
-            are_settled(rt.alloc(), document, answers),
-            Some(true),
-            "{document}"
-        );
-    }
+    assert_runs(&rt, rt.alloc(), &READS);
 }
 
 #[test]
-fn spans_with_a_read_are_listed(rt: HostRuntime) -> Result<(), Fail> {
-    let found = spans_in(rt.alloc(), SPANS_WITH_READS).ok_or("no memory")?;
-    assert!(rt; found.as_slice() == [span(1, 1, 1), span(1, 1, 3), span(1, 2, 1)].as_slice());
-    let found = spans_in(rt.alloc(), BARRIER_WAITS).ok_or("no memory")?;
-    assert!(rt; found.as_slice() == [span(1, 3, 1)].as_slice());
-    Ok(())
+fn spans_with_a_read_are_listed(rt: HostRuntime) {
+    assert_runs(&rt, rt.alloc(), &SPANS);
 }
 
 #[test]
-fn behind_barriers_nothing_is_lost_and_each_read_is_settled(rt: HostRuntime) -> Result<(), Fail> {
-    assert_eq!(rt; loss_in(rt.alloc(), WHOLE), Some(None));
-    assert_eq!(rt; are_settled(rt.alloc(), WHOLE, &[true; 24]), Some(true));
-    let found = spans_in(rt.alloc(), WHOLE).ok_or("no memory")?;
-    assert_eq!(rt; found.len(), BEGUN_ON.len());
-    for (span, object) in found.as_slice().iter().zip(&BEGUN_ON) {
-        assert!(rt; span.birth.object == *object && span.span == 1);
-    }
-    Ok(())
+fn behind_barriers_nothing_is_lost_and_each_read_is_settled(rt: HostRuntime) {
+    assert_run(&rt, rt.alloc(), WHOLE, &OF_WHOLE);
 }

@@ -1,19 +1,18 @@
 // What `place` writes, and what it is worth: the runs of a placed application, whatever their schedule.
-ghost use Rattle.std.specs.Prelude.{IfSome, IsTrue};
-ghost use Rattle.anti_app.specs.Sound.{is_sound};
-ghost use Rattle.anti_trace.specs.Legal.{IsLegalTrace};
-
-use crate::calling::{Row, STEP, ends_as, served};
+use crate::calling::{Row, STEP, assert_texts, comes_to, served};
 use crate::past::WHOLE;
-use crate::playing::{Run, run_of};
+use crate::playing::{Wanted, holds};
 use anti_ids::Bytes;
-use anti_order::{AnswerCounts, count_answers};
 use std::alloc::Global;
-use std::test::Fail;
 
-// Documents, and the line that is written of each.
-static LINES: [(&str, &str); 7] = [
-    (WHOLE, "placed\n"),
+// A call of `place`.
+const PLACE: Row = Row {
+    word: b"place",
+    ..STEP
+};
+
+// Documents that are not placed, and the line that is written of each.
+static LINES: [(&str, &str); 6] = [
     // a barrier that one way passes
     (
         served!(
@@ -47,44 +46,28 @@ static LINES: [(&str, &str); 7] = [
     ),
 ];
 
-// A call of `place`.
-const PLACE: Row = Row {
-    word: b"place",
-    ..STEP
-};
-
-#[test]
-fn documents_are_placed_or_told_where_not(rt: HostRuntime) {
-    for (document, line) in &LINES {
-        let row = Row {
-            document: document.as_bytes(),
-            out: line.as_bytes(),
+// A document that is refused, and one whose line is not written to its end.
+static FAULTS: [(&str, Row); 2] = [
+    (
+        "regions = ['us', 'us']",
+        Row {
+            status: 5,
+            err: b"app 7 region 2 0\n",
             ..PLACE
-        };
-        assert_eq!(rt; ends_as(rt.alloc(), &row), Some(true), "{line}");
-    }
-}
-
-#[test]
-fn a_refused_document_is_not_placed(rt: HostRuntime) {
-    let refused = Row {
-        document: b"regions = ['us', 'us']",
-        status: 5,
-        err: b"app 7 region 2 0\n",
-        ..PLACE
-    };
-    assert_eq!(rt; ends_as(rt.alloc(), &refused), Some(true));
-    let begun = Row {
-        document: WHOLE.as_bytes(),
-        most: 3,
-        write_fails: 2,
-        status: 4,
-        out: b"pla",
-        err: b"write fault\n",
-        ..PLACE
-    };
-    assert_eq!(rt; ends_as(rt.alloc(), &begun), Some(true));
-}
+        },
+    ),
+    (
+        WHOLE,
+        Row {
+            most: 3,
+            write_fails: 2,
+            status: 4,
+            out: b"pla",
+            err: b"write fault\n",
+            ..PLACE
+        },
+    ),
+];
 
 // Schedules of the whole application: births in other orders, calls that come twice, shipments before the reads that they serve, pulls before
 // anything else is brought, and runs that stop on their way.
@@ -103,27 +86,45 @@ static SCHEDULES: [&str; 10] = [
 
 // The whole application with these choices. `None` where memory runs out.
 fn scheduled(alloc: Global, choices: &str) -> Option<Bytes> {
-    let (before, after) = WHOLE.split_once("'finish'")?;
+    let Some((before, after)) = WHOLE.split_once("'finish'") else {
+        return None;
+    };
     let mut document = Bytes::new(alloc);
-    document.append(before.as_bytes()).ok()?;
-    document.append(choices.as_bytes()).ok()?;
-    document.append(after.as_bytes()).ok()?;
+    for piece in [before, choices, after] {
+        let Ok(()) = document.append(piece.as_bytes()) else {
+            return None;
+        };
+    }
     Some(document)
 }
 
-// What is answered of the spans of its run with these choices. `None` where memory runs out.
-fn counted(alloc: Global, choices: &str) -> Option<AnswerCounts> {
-    let document = scheduled(alloc, choices)?;
-    let Run { app, trace } = run_of(alloc, document.bytes())?;
-    count_answers(alloc, &app, &trace).ok()
+// Whether by this schedule each span with a read has an order.
+fn is_ordered(alloc: Global, choices: &str) -> bool {
+    match scheduled(alloc, choices) {
+        Some(document) => holds(alloc, document.bytes(), &Wanted::AllOrdered),
+        None => false,
+    }
 }
 
 #[test]
-fn each_run_of_a_placed_application_has_all_its_orders(rt: HostRuntime) -> Result<(), Fail> {
-    for choices in &SCHEDULES {
-        let counts = counted(rt.alloc(), choices).ok_or("no memory")?;
-        assert!(rt; counts.ordered > 0, "{choices}");
-        assert_eq!(rt; (counts.unguarded, counts.lossy), (0, 0), "{choices}");
+fn documents_are_placed_or_told_where_not(rt: HostRuntime) {
+    assert_texts(&rt, rt.alloc(), &PLACE, &[(WHOLE, "placed\n")]);
+    assert_texts(&rt, rt.alloc(), &PLACE, &LINES);
+}
+
+#[test]
+fn a_refused_document_is_not_placed(rt: HostRuntime) {
+    for (document, wanted) in &FAULTS {
+        assert!(rt;
+            comes_to(rt.alloc(), &[wanted.word], document.as_bytes(), wanted),
+            "{document}"
+        );
     }
-    Ok(())
+}
+
+#[test]
+fn each_run_of_a_placed_application_has_all_its_orders(rt: HostRuntime) {
+    for choices in &SCHEDULES {
+        assert!(rt; is_ordered(rt.alloc(), choices), "{choices}");
+    }
 }

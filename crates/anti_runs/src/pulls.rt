@@ -1,5 +1,5 @@
 // Queues, topics and their subscriptions through the top call: what a pull starts, and what becomes of the message.
-use crate::calling::{ends_as, step, step_to};
+use crate::calling::{ENDED, PLAYED, assert_texts};
 
 // A poster in one region writes a post and a note on it; the note starts a reader in the other region.
 macro_rules! noting {
@@ -79,8 +79,8 @@ sub = [{name = 'bad', store = 'q', channel = 'b', service = 'w', handler = 'look
 request = [{service = 'w', handler = 'put', value = 'a.b'}]
 service = [{name = 'w', region = 'us', handler = [{name = 'put', body = ['write q b $in', 'write q g $in']}, {name = 'look', body = ['read s $in as x']}, {name = 'wait', body = ['barrier', 'stop']}]}]";
 
-// Documents with subscriptions, and the record of each.
-static RECORDS: [(&str, &str); 8] = [
+// Documents with a note on a post, and the record of each.
+static NOTES: [(&str, &str); 3] = [
     // the post is not there yet, and nothing waits for it
     (
         noting!("'go notes.3', 'go notes.3'", "'read posts $in as x'"),
@@ -142,6 +142,10 @@ process poster.1 poster post fine
 end 11
 ",
     ),
+];
+
+// Documents with subscriptions of which some give back what they get, and the record of each.
+static SUBSCRIPTIONS: [(&str, &str); 6] = [
     (
         given_back!("1"),
         "record 1
@@ -252,43 +256,59 @@ process w.1 w put fine
 end 10
 ",
     ),
+    // the first message of a process that a pull started carries what the process does
+    (
+        "regions = ['us']
+choices = ['take w 1', 'go w.1', 'ship q us 1', 'pull jobs', 'go q.3', 'take w 1', 'go w.3']
+store = [{name = 'q', kind = 'queue', replicas = ['us']}]
+sub = [{name = 'jobs', store = 'q', channel = 'n', service = 'w', handler = 'work'}]
+request = [{service = 'w', handler = 'put'}]
+service = [{name = 'w', region = 'us', handler = [{name = 'put', body = ['write q n a']}, {name = 'work', body = ['send w told $in']}, {name = 'told', body = ['barrier']}]}]",
+        "record 1
+1 w.1 w.1/1 take 1 = got 1 request put 0 \"\" 1;
+2 q.1 w.1/1 write n \"a\" 1; = n#1@1
+3 q.2 ~0 ship us 1 1 = moved
+4 q.3 q.3/1 pull jobs = n#1@1 \"a\" 1;
+5 w.2 q.3/1 post send told 1 \"a\" 1;q/n%231@1 = posted 2
+6 w.3 w.3/1 take 1 = got 2 send told 1 \"a\" 1;q/n%231@1
+7 q.4 w.3/1 look us 1;q/n%231@1 = clear
+process q.3 w work open
+process w.1 w put fine
+process w.3 w told fine
+end 7
+",
+    ),
 ];
 
 #[test]
 fn subscriptions_start_handlers(rt: HostRuntime) {
-    for (document, record) in &RECORDS {
-        let row = step(document.as_bytes(), 0, record.as_bytes(), b"");
-        assert_eq!(rt;
-            ends_as(rt.alloc(), &row),
-            Some(true),
-            "{record} of {document}"
-        );
-    }
+    assert_texts(&rt, rt.alloc(), &PLAYED, &NOTES);
+    assert_texts(&rt, rt.alloc(), &PLAYED, &SUBSCRIPTIONS);
 }
 
 // The end of the record of a message that is given back eight times.
-const EIGHT_TIMES: &[u8] = b"process q.17 w work fine
+const EIGHT_TIMES: &str = "process q.17 w work fine
 process w.1 w put fine
 end 19
 ";
 
 // A message that carries 256 ids: its own is one too many for the process that it starts, and it stays out.
-const LADEN: &[u8] = b"regions = ['us']
+const LADEN: &str = "regions = ['us']
 choices = ['finish']
 store = [{name = 's', kind = 'kv', replicas = ['us']}, {name = 'q', kind = 'queue', replicas = ['us']}]
 sub = [{name = 'jobs', store = 'q', channel = 'n', service = 'w', handler = 'work'}]
 request = [{service = 'w', handler = 'put'}]
 service = [{name = 'w', region = 'us', handler = [{name = 'put', body = ['repeat 16', 'repeat 16', 'write s k v', 'end', 'end', 'write q n v']}, {name = 'work', body = ['nack']}]}]";
 
-const STAYS_OUT: &[u8] = b"process q.3 w work lineage
+const STAYS_OUT: &str = "process q.3 w work lineage
 process w.1 w put lineage
 end 516
 ";
 
+// Documents with long records, and the end of each.
+static ENDS: [(&str, &str); 2] = [(given_back!("8"), EIGHT_TIMES), (LADEN, STAYS_OUT)];
+
 #[test]
 fn a_message_comes_as_often_as_it_may(rt: HostRuntime) {
-    let eight = step_to(given_back!("8").as_bytes(), EIGHT_TIMES);
-    assert_eq!(rt; ends_as(rt.alloc(), &eight), Some(true));
-    let laden = step_to(LADEN, STAYS_OUT);
-    assert_eq!(rt; ends_as(rt.alloc(), &laden), Some(true));
+    assert_texts(&rt, rt.alloc(), &ENDED, &ENDS);
 }

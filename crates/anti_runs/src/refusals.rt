@@ -1,118 +1,64 @@
 // Bodies and choices that are refused through the top call, each with its line, and a value of the greatest length.
 
-use crate::calling::{NOTHING_HAPPENED, ends_as, served, step};
+use crate::calling::{PLAYED, REFUSED, assert_refused, assert_texts, served};
 
-// Documents with a wrong body and a wrong choice, or with a wrong choice alone, and the line that each is refused with.
-static BODIES: [(&str, &str); 20] = [
-    (
-        served!("'no choice'", "'reed s k as x'", ""),
-        "app 20 handler 1 1\n",
-    ),
-    (
-        served!("'no choice'", "'barrier', 'reed s k as x'", ""),
-        "app 20 handler 1 2\n",
-    ),
-    (served!("'no choice'", "''", ""), "app 20 handler 1 1\n"),
-    (
-        served!("'no choice'", "'barrier now'", ""),
-        "app 20 handler 1 1\n",
-    ),
-    (
-        served!("'no choice'", "'dry run'", ""),
-        "app 20 handler 1 1\n",
-    ),
-    (
-        served!("'no choice'", "'repeat 17', 'end'", ""),
-        "app 20 handler 1 1\n",
-    ),
-    (
-        served!("'no choice'", "'repeat 2', 'barrier'", ""),
-        "app 21 handler 1 1\n",
-    ),
-    (
-        served!("'no choice'", "'barrier', 'end'", ""),
-        "app 21 handler 1 2\n",
-    ),
-    (
-        served!("'no choice'", "'stop', 'barrier'", ""),
-        "app 21 handler 1 1\n",
-    ),
-    (
-        served!(
-            "'no choice'",
-            "'repeat 16', 'repeat 16', 'repeat 2', 'end', 'end', 'end'",
-            ""
-        ),
-        "app 21 handler 1 3\n",
-    ),
-    (
-        served!("'no choice'", "'read s k as x', 'read s k as x'", ""),
-        "app 22 handler 1 2\n",
-    ),
-    (
-        served!("'no choice'", "'write s k $x'", ""),
-        "app 22 handler 1 1\n",
-    ),
-    (
-        served!("'no choice'", "'write s k a as x', 'root', 'append x'", ""),
-        "app 22 handler 1 3\n",
-    ),
-    (
-        served!("'no choice'", "'write t k a'", ""),
-        "app 23 handler 1 1\n",
-    ),
-    (
-        served!("'no choice'", "'barrier', 'scan s k as x'", ""),
-        "app 23 handler 1 2\n",
-    ),
-    (
-        served!("'no choice'", "'poll s k as x'", ""),
-        "app 23 handler 1 1\n",
-    ),
-    (
-        served!("'no choice'", "'call w three v as x'", ""),
-        "app 24 handler 1 1\n",
-    ),
-    (
-        served!("'no choice'", "'send v one v'", ""),
-        "app 24 handler 1 1\n",
-    ),
-    (served!("'no choice'", "'send w two v'", ""), "choice 1\n"),
-    (
-        served!("'no choice'", "'call w two v as x'", ""),
-        "choice 1\n",
-    ),
-];
+// A document with a wrong choice and a body.
+const IN_BODY: &str = served!("'no choice'", "@", "");
 
-// Documents whose second choice has no form.
-static SECOND_CHOICES: [&str; 26] = [
-    served!("'finish', 'go s'", "", ""),
-    served!("'finish', 'go w'", "", ""),
-    served!("'finish', 'go w.01'", "", ""),
-    served!("'finish', 'go w.1.1'", "", ""),
-    served!("'finish', 'go .1'", "", ""),
-    served!("'finish', 'take w 0'", "", ""),
-    served!("'finish', 'take w 4097'", "", ""),
-    served!("'finish', 'take w 01'", "", ""),
-    served!("'finish', 'take w +1'", "", ""),
-    served!("'finish', 'take s 1'", "", ""),
-    served!("'finish', 'take w'", "", ""),
-    served!("'finish', 'repost w 0'", "", ""),
-    served!("'finish', 'repost s 1'", "", ""),
-    served!("'finish', 'repost w'", "", ""),
-    served!("'finish', 'pull w'", "", ""),
-    served!("'finish', 'repull w 1'", "", ""),
-    served!("'finish', 'ship s us 1'", "", ""),
-    served!("'finish', 'ship w eu 1'", "", ""),
-    served!("'finish', 'ship s eu'", "", ""),
-    served!("'finish', 'ship s eu 1 1 1'", "", ""),
-    served!("'finish', 'ship s eu 1 0'", "", ""),
-    served!("'finish', 'again s eu'", "", ""),
-    served!("'finish', 'again w eu 1'", "", ""),
-    served!("'finish', 'finish now'", "", ""),
-    served!("'finish', 'stop'", "", ""),
-    served!("'finish', ''", "", ""),
-];
+// Bodies, wrong but for the last two, and the line that each document is refused with.
+const BODIES: &str = "'reed s k as x' => app 20 handler 1 1
+'barrier', 'reed s k as x' => app 20 handler 1 2
+'' => app 20 handler 1 1
+'barrier now' => app 20 handler 1 1
+'dry run' => app 20 handler 1 1
+'repeat 17', 'end' => app 20 handler 1 1
+'repeat 2', 'barrier' => app 21 handler 1 1
+'barrier', 'end' => app 21 handler 1 2
+'stop', 'barrier' => app 21 handler 1 1
+'repeat 16', 'repeat 16', 'repeat 2', 'end', 'end', 'end' => app 21 handler 1 3
+'read s k as x', 'read s k as x' => app 22 handler 1 2
+'write s k $x' => app 22 handler 1 1
+'write s k a as x', 'root', 'append x' => app 22 handler 1 3
+'write t k a' => app 23 handler 1 1
+'barrier', 'scan s k as x' => app 23 handler 1 2
+'poll s k as x' => app 23 handler 1 1
+'call w three v as x' => app 24 handler 1 1
+'send v one v' => app 24 handler 1 1
+'send w two v' => choice 1
+'call w two v as x' => choice 1
+";
+
+// A document with a second choice.
+const SECOND: &str = served!("'finish', @", "", "");
+
+// Choices without a form, and the line that each document is refused with.
+const CHOICES: &str = "'go s' => choice 2
+'go w' => choice 2
+'go w.01' => choice 2
+'go w.1.1' => choice 2
+'go .1' => choice 2
+'take w 0' => choice 2
+'take w 4097' => choice 2
+'take w 01' => choice 2
+'take w +1' => choice 2
+'take s 1' => choice 2
+'take w' => choice 2
+'repost w 0' => choice 2
+'repost s 1' => choice 2
+'repost w' => choice 2
+'pull w' => choice 2
+'repull w 1' => choice 2
+'ship s us 1' => choice 2
+'ship w eu 1' => choice 2
+'ship s eu' => choice 2
+'ship s eu 1 1 1' => choice 2
+'ship s eu 1 0' => choice 2
+'again s eu' => choice 2
+'again w eu 1' => choice 2
+'finish now' => choice 2
+'stop' => choice 2
+'' => choice 2
+";
 
 // A document with a request whose value has 256 bytes, and these behind them.
 macro_rules! valued {
@@ -133,28 +79,21 @@ service = [{name = 'w', region = 'eu', handler = [{name = 'one', body = []}]}]"
 
 #[test]
 fn each_fault_of_a_body_is_told(rt: HostRuntime) {
-    for (document, line) in &BODIES {
-        let row = step(document.as_bytes(), 5, b"", line.as_bytes());
-        assert_eq!(rt;
-            ends_as(rt.alloc(), &row),
-            Some(true),
-            "{line} at {document}"
-        );
-    }
+    assert_refused(&rt, rt.alloc(), IN_BODY, BODIES);
 }
 
 #[test]
 fn choices_without_a_form_are_told(rt: HostRuntime) {
-    for document in &SECOND_CHOICES {
-        let row = step(document.as_bytes(), 5, b"", b"choice 2\n");
-        assert_eq!(rt; ends_as(rt.alloc(), &row), Some(true), "{document}");
-    }
+    assert_refused(&rt, rt.alloc(), SECOND, CHOICES);
 }
+
+// The longest value and one that is too long, and what their documents come to.
+static LONGEST: [(&str, &str); 1] = [(valued!(""), "record 1\nend 0\n")];
+
+static TOO_LONG: [(&str, &str); 1] = [(valued!("v"), "app 19 request 1 0\n")];
 
 #[test]
 fn a_value_of_257_bytes_is_refused(rt: HostRuntime) {
-    let longest = step(valued!("").as_bytes(), 0, NOTHING_HAPPENED, b"");
-    assert_eq!(rt; ends_as(rt.alloc(), &longest), Some(true));
-    let longer = step(valued!("v").as_bytes(), 5, b"", b"app 19 request 1 0\n");
-    assert_eq!(rt; ends_as(rt.alloc(), &longer), Some(true));
+    assert_texts(&rt, rt.alloc(), &PLAYED, &LONGEST);
+    assert_texts(&rt, rt.alloc(), &REFUSED, &TOO_LONG);
 }

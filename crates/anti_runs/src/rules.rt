@@ -1,5 +1,5 @@
 // Each rule of documents, told through the top call with its place.
-use crate::calling::{ends_as, step};
+use crate::calling::{REFUSED, assert_refused, assert_texts};
 
 // A text eight times between two others.
 macro_rules! eight {
@@ -8,151 +8,96 @@ macro_rules! eight {
     };
 }
 
-// Documents that fail a rule on the keys and what stands at them, and the line that each is refused with.
-static SHAPES: [(&str, &str); 25] = [
-    (
-        "regions = ['us']
-colour = 1",
-        "app 1 top 0 0\n",
-    ),
-    (
-        "regions = ['us']
-store = [{name = 's', kind = 'kv', replicas = ['us'], size = 1}]",
-        "app 1 store 1 0\n",
-    ),
-    ("service = [1, {size = 1}]", "app 1 service 2 0\n"),
-    (
-        "regions = ['us']
-service = [{name = 'a', region = 'us', handler = [{name = 'h', body = []}]}, {name = 'b', region = 'us', handler = [{name = 'h', body = [], size = 1}]}]",
-        "app 1 handler 2 0\n",
-    ),
-    ("seed = 1", "app 2 top 0 0\n"),
-    (
-        "regions = ['us']
-sub = [{name = 'n', store = 's', channel = 'c', service = 'a'}]",
-        "app 2 sub 1 0\n",
-    ),
-    (
-        "regions = ['us']
-service = [{name = 'a', region = 'us', handler = [{body = []}]}]",
-        "app 2 handler 1 0\n",
-    ),
-    ("regions = 'us'", "app 3 top 0 0\n"),
-    ("regions = ['us', {size = 1}]", "app 3 region 2 0\n"),
-    (
-        "regions = ['us']
-choices = ['finish', 1]",
-        "app 3 choice 2 0\n",
-    ),
-    (
-        "regions = ['us']
-store = {name = 's'}",
-        "app 3 top 0 0\n",
-    ),
-    (
-        "regions = ['us']
-store = [{name = 's', kind = 'kv', replicas = ['us', 1]}]",
-        "app 3 store 1 0\n",
-    ),
-    (
-        "regions = ['us']
-request = [{service = 'a', handler = 'h', value = 1}]",
-        "app 3 request 1 0\n",
-    ),
-    (
-        "regions = ['us']
-service = [{name = 'a', region = 'us'}, 4]",
-        "app 3 service 2 0\n",
-    ),
-    (
-        "regions = ['us']
-service = [{name = 'a', region = 'us', handler = 3}]",
-        "app 3 service 1 0\n",
-    ),
-    (
-        "regions = ['us']
-service = [{name = 'a', region = 'us', handler = [{name = 'h', body = []}, 4]}]",
-        "app 3 handler 2 0\n",
-    ),
-    (
-        "regions = ['us']
-service = [{name = 'a', region = 'us', handler = [{name = 'h', body = ['nack']}]}, {name = 'b', region = 'us', handler = [{name = 'h', body = ['barrier', 1]}]}]",
-        "app 3 handler 2 2\n",
-    ),
-    ("regions = []", "app 4 top 0 0\n"),
-    (
-        "regions = ['a', 'b', 'c', 'd', 'e', 'f', 'g', 'h', 'i']",
-        "app 4 top 0 0\n",
-    ),
-    (
-        "regions = ['us']
-store = [{name = 's', kind = 'kv', replicas = []}]",
-        "app 4 store 1 0\n",
-    ),
-    (
-        "regions = ['us']
-seed = -1",
-        "app 5 top 0 0\n",
-    ),
-    (
-        "regions = ['us']
-workers = 9",
-        "app 5 top 0 0\n",
-    ),
-    (
-        "regions = ['us']
-store = [{name = 's', kind = 'kv', replicas = ['us'], tries = 0}]",
-        "app 5 store 1 0\n",
-    ),
-    (
-        eight!(
-            "regions = ['us']
-service = [{name = 'a', region = 'us', handler = [",
-            "{name = 'h', body = []}, {name = 'h', body = []}, ",
-            "{name = 'h', body = []}]}]"
-        ),
-        "app 4 service 1 0\n",
-    ),
-    (
-        eight!(
-            "regions = ['us']
-service = [{name = 'a', region = 'us', handler = [{name = 'h', body = [",
-            "'', '', '', '', '', '', '', '', ",
-            "'']}]}]"
-        ),
-        "app 4 handler 1 0\n",
-    ),
-];
+// Documents of one line, and the line that each is refused with.
+const DOCUMENTS: &str = "service = [1, {size = 1}] => app 1 service 2 0
+seed = 1 => app 2 top 0 0
+regions = 'us' => app 3 top 0 0
+regions = ['us', {size = 1}] => app 3 region 2 0
+regions = [] => app 4 top 0 0
+regions = ['a', 'b', 'c', 'd', 'e', 'f', 'g', 'h', 'i'] => app 4 top 0 0
+regions = ['us', 'e u'] => app 6 region 2 0
+regions = ['us', 'eu', 'us'] => app 7 region 3 0
+";
 
-// Documents that fail a rule on names, and the line that each is refused with.
-static NAMES: [(&str, &str); 12] = [
-    ("regions = ['us', 'e u']", "app 6 region 2 0\n"),
-    (
-        "regions = ['us']
-store = [{name = 'abcdefghijklmnopqrstuvwxy', kind = 'kv', replicas = ['us']}]",
-        "app 6 store 1 0\n",
-    ),
-    (
-        "regions = ['us']
-service = [{name = '', region = 'us'}]",
-        "app 6 service 1 0\n",
-    ),
-    (
-        "regions = ['us']
-service = [{name = 'a', region = 'us', handler = [{name = 'h', body = []}, {name = 'h#', body = []}]}]",
-        "app 6 handler 2 0\n",
-    ),
-    (
-        "regions = ['us']
-sub = [{name = 'n', store = 's', channel = 'c#', service = 'a', handler = 'h'}]",
-        "app 6 sub 1 0\n",
-    ),
-    ("regions = ['us', 'eu', 'us']", "app 7 region 3 0\n"),
-    (
-        "regions = ['us']
-store = [{name = 's', kind = 'kv', replicas = ['us']}, {name = 's', kind = 'kv', replicas = ['us']}]",
-        "app 8 store 2 0\n",
-    ),
+// Documents of two lines.
+const IN_US: &str = "regions = ['us']
+@";
+
+// The second line where it fails a rule on the keys and what stands at them.
+const SHAPES: &str = "colour = 1 => app 1 top 0 0
+store = [{name = 's', kind = 'kv', replicas = ['us'], size = 1}] => app 1 store 1 0
+service = [{name = 'a', region = 'us', handler = [{name = 'h', body = []}]}, {name = 'b', region = 'us', handler = [{name = 'h', body = [], size = 1}]}] => app 1 handler 2 0
+sub = [{name = 'n', store = 's', channel = 'c', service = 'a'}] => app 2 sub 1 0
+service = [{name = 'a', region = 'us', handler = [{body = []}]}] => app 2 handler 1 0
+choices = ['finish', 1] => app 3 choice 2 0
+store = {name = 's'} => app 3 top 0 0
+store = [{name = 's', kind = 'kv', replicas = ['us', 1]}] => app 3 store 1 0
+request = [{service = 'a', handler = 'h', value = 1}] => app 3 request 1 0
+service = [{name = 'a', region = 'us'}, 4] => app 3 service 2 0
+service = [{name = 'a', region = 'us', handler = 3}] => app 3 service 1 0
+service = [{name = 'a', region = 'us', handler = [{name = 'h', body = []}, 4]}] => app 3 handler 2 0
+service = [{name = 'a', region = 'us', handler = [{name = 'h', body = ['nack']}]}, {name = 'b', region = 'us', handler = [{name = 'h', body = ['barrier', 1]}]}] => app 3 handler 2 2
+store = [{name = 's', kind = 'kv', replicas = []}] => app 4 store 1 0
+seed = -1 => app 5 top 0 0
+workers = 9 => app 5 top 0 0
+store = [{name = 's', kind = 'kv', replicas = ['us'], tries = 0}] => app 5 store 1 0
+";
+
+// The second line where it fails a rule on names.
+const NAMES: &str =
+    "store = [{name = 'abcdefghijklmnopqrstuvwxy', kind = 'kv', replicas = ['us']}] => app 6 store 1 0
+service = [{name = '', region = 'us'}] => app 6 service 1 0
+service = [{name = 'a', region = 'us', handler = [{name = 'h', body = []}, {name = 'h#', body = []}]}] => app 6 handler 2 0
+sub = [{name = 'n', store = 's', channel = 'c#', service = 'a', handler = 'h'}] => app 6 sub 1 0
+store = [{name = 's', kind = 'kv', replicas = ['us']}, {name = 's', kind = 'kv', replicas = ['us']}] => app 8 store 2 0
+service = [{name = 'a', region = 'us'}, {name = 'a', region = 'us'}] => app 8 service 2 0
+service = [{name = 'a', region = 'us', handler = [{name = 'h', body = []}]}, {name = 'b', region = 'us', handler = [{name = 'h', body = []}, {name = 'g', body = []}, {name = 'h', body = []}]}] => app 9 handler 4 0
+sub = [{name = 'n', store = 's', channel = 'c', service = 'a', handler = 'h'}, {name = 'n', store = 's', channel = 'c', service = 'a', handler = 'h'}] => app 10 sub 2 0
+";
+
+// The second line where it fails a rule on stores, services and subs.
+const PARTS: &str = "store = [{name = 's', kind = 'set', replicas = ['us']}] => app 11 store 1 0
+store = [{name = 's', kind = 'kv', replicas = ['us', 'eu']}] => app 12 store 1 0
+store = [{name = 's', kind = 'topic', replicas = ['us'], tries = 3}] => app 13 store 1 0
+service = [{name = 'a', region = 'eu'}] => app 14 service 1 0
+sub = [{name = 'n', store = 's', channel = 'c', service = 'a', handler = 'h'}] => app 15 sub 1 0
+";
+
+// A document with the body of a handler.
+const IN_BODY: &str = "regions = ['us']
+store = [{name = 's', kind = 'kv', replicas = ['us']}]
+service = [{name = 'a', region = 'us', handler = [{name = 'h', body = [@]}]}]";
+
+// The body where it fails a rule on bodies.
+const BODIES: &str = "'nack', '' => app 20 handler 1 2
+'   ' => app 20 handler 1 1
+'repeat 17', 'end' => app 20 handler 1 1
+'end', 'jump' => app 20 handler 1 2
+'barrier', 'end' => app 21 handler 1 2
+'if x absent' => app 21 handler 1 1
+'root', 'repeat 1', 'repeat 1', 'repeat 1', 'repeat 1', 'repeat 1', 'end', 'end', 'end', 'end', 'end' => app 21 handler 1 6
+'repeat 16', 'repeat 16', 'repeat 2', 'end', 'end', 'end' => app 21 handler 1 3
+'repeat 2', 'stop', 'end' => app 21 handler 1 2
+'stop', 'barrier' => app 21 handler 1 1
+'repeat 2', 'root', 'end', 'end' => app 21 handler 1 2
+'write s k v as x', 'write s k v as x' => app 22 handler 1 2
+'write s k v as x', 'read s k as x', 'append x' => app 22 handler 1 2
+'append x', 'write s k v as x' => app 22 handler 1 1
+'write s k $x as x' => app 22 handler 1 1
+'read s k as x', 'append x' => app 22 handler 1 2
+'read s k as x', 'root', 'transfer x' => app 22 handler 1 3
+'barrier', 'write t k v' => app 23 handler 1 2
+'read t k as x' => app 23 handler 1 1
+'scan s k as x' => app 23 handler 1 1
+'poll s k as x' => app 23 handler 1 1
+'write a k v' => app 23 handler 1 1
+'nack', 'call a g v as x' => app 24 handler 1 2
+'send s h v' => app 24 handler 1 1
+'nack', '' => app 20 handler 1 2
+";
+
+// Documents that fail a rule on what their parts say of each other, and the line that each is refused with.
+static TOGETHER: [(&str, &str); 9] = [
     (
         "regions = ['us']
 store = [{name = 's', kind = 'kv', replicas = ['us']}, {name = 's', kind = 'kv', replicas = ['us']}]
@@ -166,57 +111,13 @@ service = [{name = 'a', region = 'us'}, {name = 's', region = 'us'}]",
         "app 8 service 2 0\n",
     ),
     (
-        "regions = ['us']
-service = [{name = 'a', region = 'us'}, {name = 'a', region = 'us'}]",
-        "app 8 service 2 0\n",
-    ),
-    (
-        "regions = ['us']
-service = [{name = 'a', region = 'us', handler = [{name = 'h', body = []}]}, {name = 'b', region = 'us', handler = [{name = 'h', body = []}, {name = 'g', body = []}, {name = 'h', body = []}]}]",
-        "app 9 handler 4 0\n",
-    ),
-    (
-        "regions = ['us']
-sub = [{name = 'n', store = 's', channel = 'c', service = 'a', handler = 'h'}, {name = 'n', store = 's', channel = 'c', service = 'a', handler = 'h'}]",
-        "app 10 sub 2 0\n",
-    ),
-];
-
-// Documents that fail a rule on stores, services, subs and requests, and the line that each is refused with.
-static PARTS: [(&str, &str); 12] = [
-    (
-        "regions = ['us']
-store = [{name = 's', kind = 'set', replicas = ['us']}]",
-        "app 11 store 1 0\n",
-    ),
-    (
-        "regions = ['us']
-store = [{name = 's', kind = 'kv', replicas = ['us', 'eu']}]",
-        "app 12 store 1 0\n",
-    ),
-    (
         "regions = ['us', 'eu']
 store = [{name = 's', kind = 'kv', replicas = ['us', 'eu', 'us']}]",
         "app 12 store 1 0\n",
     ),
     (
         "regions = ['us']
-store = [{name = 's', kind = 'topic', replicas = ['us'], tries = 3}]",
-        "app 13 store 1 0\n",
-    ),
-    (
-        "regions = ['us']
-service = [{name = 'a', region = 'eu'}]",
-        "app 14 service 1 0\n",
-    ),
-    (
-        "regions = ['us']
 store = [{name = 's', kind = 'kv', replicas = ['us']}]
-sub = [{name = 'n', store = 's', channel = 'c', service = 'a', handler = 'h'}]",
-        "app 15 sub 1 0\n",
-    ),
-    (
-        "regions = ['us']
 sub = [{name = 'n', store = 's', channel = 'c', service = 'a', handler = 'h'}]",
         "app 15 sub 1 0\n",
     ),
@@ -259,73 +160,25 @@ request = [{service = 'a', handler = 'h', value = '",
     ),
 ];
 
-// Documents that fail a rule on bodies or state a wrong choice, and the line that each is refused with.
-static BODIES: [(&str, &str); 30] = [
+// Documents with too many handlers or statements, with a fault in another handler than the first, or with a wrong choice.
+static HANDLERS: [(&str, &str); 7] = [
     (
-        "regions = ['us']
-store = [{name = 's', kind = 'kv', replicas = ['us']}]
-service = [{name = 'a', region = 'us', handler = [{name = 'h', body = ['nack', '']}]}]",
-        "app 20 handler 1 2\n",
+        eight!(
+            "regions = ['us']
+service = [{name = 'a', region = 'us', handler = [",
+            "{name = 'h', body = []}, {name = 'h', body = []}, ",
+            "{name = 'h', body = []}]}]"
+        ),
+        "app 4 service 1 0\n",
     ),
     (
-        "regions = ['us']
-store = [{name = 's', kind = 'kv', replicas = ['us']}]
-service = [{name = 'a', region = 'us', handler = [{name = 'h', body = ['   ']}]}]",
-        "app 20 handler 1 1\n",
-    ),
-    (
-        "regions = ['us']
-store = [{name = 's', kind = 'kv', replicas = ['us']}]
-service = [{name = 'a', region = 'us', handler = [{name = 'h', body = ['repeat 17', 'end']}]}]",
-        "app 20 handler 1 1\n",
-    ),
-    (
-        "regions = ['us']
-store = [{name = 's', kind = 'kv', replicas = ['us']}]
-service = [{name = 'a', region = 'us', handler = [{name = 'h', body = ['end', 'jump']}]}]",
-        "app 20 handler 1 2\n",
-    ),
-    (
-        "regions = ['us']
-store = [{name = 's', kind = 'kv', replicas = ['us']}]
-service = [{name = 'a', region = 'us', handler = [{name = 'h', body = ['barrier', 'end']}]}]",
-        "app 21 handler 1 2\n",
-    ),
-    (
-        "regions = ['us']
-store = [{name = 's', kind = 'kv', replicas = ['us']}]
-service = [{name = 'a', region = 'us', handler = [{name = 'h', body = ['if x absent']}]}]",
-        "app 21 handler 1 1\n",
-    ),
-    (
-        "regions = ['us']
-store = [{name = 's', kind = 'kv', replicas = ['us']}]
-service = [{name = 'a', region = 'us', handler = [{name = 'h', body = ['root', 'repeat 1', 'repeat 1', 'repeat 1', 'repeat 1', 'repeat 1', 'end', 'end', 'end', 'end', 'end']}]}]",
-        "app 21 handler 1 6\n",
-    ),
-    (
-        "regions = ['us']
-store = [{name = 's', kind = 'kv', replicas = ['us']}]
-service = [{name = 'a', region = 'us', handler = [{name = 'h', body = ['repeat 16', 'repeat 16', 'repeat 2', 'end', 'end', 'end']}]}]",
-        "app 21 handler 1 3\n",
-    ),
-    (
-        "regions = ['us']
-store = [{name = 's', kind = 'kv', replicas = ['us']}]
-service = [{name = 'a', region = 'us', handler = [{name = 'h', body = ['repeat 2', 'stop', 'end']}]}]",
-        "app 21 handler 1 2\n",
-    ),
-    (
-        "regions = ['us']
-store = [{name = 's', kind = 'kv', replicas = ['us']}]
-service = [{name = 'a', region = 'us', handler = [{name = 'h', body = ['stop', 'barrier']}]}]",
-        "app 21 handler 1 1\n",
-    ),
-    (
-        "regions = ['us']
-store = [{name = 's', kind = 'kv', replicas = ['us']}]
-service = [{name = 'a', region = 'us', handler = [{name = 'h', body = ['repeat 2', 'root', 'end', 'end']}]}]",
-        "app 21 handler 1 2\n",
+        eight!(
+            "regions = ['us']
+service = [{name = 'a', region = 'us', handler = [{name = 'h', body = [",
+            "'', '', '', '', '', '', '', '', ",
+            "'']}]}]"
+        ),
+        "app 4 handler 1 0\n",
     ),
     (
         "regions = ['us']
@@ -334,88 +187,10 @@ service = [{name = 'a', region = 'us', handler = [{name = 'h', body = []}]}, {na
         "app 21 handler 3 1\n",
     ),
     (
-        "regions = ['us']
-store = [{name = 's', kind = 'kv', replicas = ['us']}]
-service = [{name = 'a', region = 'us', handler = [{name = 'h', body = ['write s k v as x', 'write s k v as x']}]}]",
-        "app 22 handler 1 2\n",
-    ),
-    (
-        "regions = ['us']
-store = [{name = 's', kind = 'kv', replicas = ['us']}]
-service = [{name = 'a', region = 'us', handler = [{name = 'h', body = ['write s k v as x', 'read s k as x', 'append x']}]}]",
-        "app 22 handler 1 2\n",
-    ),
-    (
-        "regions = ['us']
-store = [{name = 's', kind = 'kv', replicas = ['us']}]
-service = [{name = 'a', region = 'us', handler = [{name = 'h', body = ['append x', 'write s k v as x']}]}]",
-        "app 22 handler 1 1\n",
-    ),
-    (
-        "regions = ['us']
-store = [{name = 's', kind = 'kv', replicas = ['us']}]
-service = [{name = 'a', region = 'us', handler = [{name = 'h', body = ['write s k $x as x']}]}]",
-        "app 22 handler 1 1\n",
-    ),
-    (
-        "regions = ['us']
-store = [{name = 's', kind = 'kv', replicas = ['us']}]
-service = [{name = 'a', region = 'us', handler = [{name = 'h', body = ['read s k as x', 'append x']}]}]",
-        "app 22 handler 1 2\n",
-    ),
-    (
-        "regions = ['us']
-store = [{name = 's', kind = 'kv', replicas = ['us']}]
-service = [{name = 'a', region = 'us', handler = [{name = 'h', body = ['read s k as x', 'root', 'transfer x']}]}]",
-        "app 22 handler 1 3\n",
-    ),
-    (
-        "regions = ['us']
-store = [{name = 's', kind = 'kv', replicas = ['us']}]
-service = [{name = 'a', region = 'us', handler = [{name = 'h', body = ['barrier', 'write t k v']}]}]",
-        "app 23 handler 1 2\n",
-    ),
-    (
-        "regions = ['us']
-store = [{name = 's', kind = 'kv', replicas = ['us']}]
-service = [{name = 'a', region = 'us', handler = [{name = 'h', body = ['read t k as x']}]}]",
-        "app 23 handler 1 1\n",
-    ),
-    (
-        "regions = ['us']
-store = [{name = 's', kind = 'kv', replicas = ['us']}]
-service = [{name = 'a', region = 'us', handler = [{name = 'h', body = ['scan s k as x']}]}]",
-        "app 23 handler 1 1\n",
-    ),
-    (
-        "regions = ['us']
-store = [{name = 's', kind = 'kv', replicas = ['us']}]
-service = [{name = 'a', region = 'us', handler = [{name = 'h', body = ['poll s k as x']}]}]",
-        "app 23 handler 1 1\n",
-    ),
-    (
         "regions = ['us', 'eu']
 store = [{name = 's', kind = 'kv', replicas = ['us']}]
 service = [{name = 'a', region = 'us', handler = [{name = 'h', body = ['read s k as x']}]}, {name = 'b', region = 'eu', handler = [{name = 'h', body = ['write s k v', 'read s k as x']}]}]",
         "app 23 handler 2 2\n",
-    ),
-    (
-        "regions = ['us']
-store = [{name = 's', kind = 'kv', replicas = ['us']}]
-service = [{name = 'a', region = 'us', handler = [{name = 'h', body = ['write a k v']}]}]",
-        "app 23 handler 1 1\n",
-    ),
-    (
-        "regions = ['us']
-store = [{name = 's', kind = 'kv', replicas = ['us']}]
-service = [{name = 'a', region = 'us', handler = [{name = 'h', body = ['nack', 'call a g v as x']}]}]",
-        "app 24 handler 1 2\n",
-    ),
-    (
-        "regions = ['us']
-store = [{name = 's', kind = 'kv', replicas = ['us']}]
-service = [{name = 'a', region = 'us', handler = [{name = 'h', body = ['send s h v']}]}]",
-        "app 24 handler 1 1\n",
     ),
     (
         "regions = ['us']
@@ -431,12 +206,6 @@ service = [{name = 'a', region = 'us', handler = [{name = 'h', body = ['send a h
         "choice 2\n",
     ),
     (
-        "regions = ['us']
-store = [{name = 's', kind = 'kv', replicas = ['us']}]
-service = [{name = 'a', region = 'us', handler = [{name = 'h', body = ['nack', '']}]}]",
-        "app 20 handler 1 2\n",
-    ),
-    (
         "regions = ['us', 'eu']
 seed = 9223372036854775807
 workers = 8
@@ -450,15 +219,12 @@ service = [{name = 'a', region = 'us', handler = [{name = 'h', body = ['read s k
 
 #[test]
 fn each_rule_is_told_at_its_place(rt: HostRuntime) {
-    let tables: [&[(&str, &str)]; 4] = [&SHAPES, &NAMES, &PARTS, &BODIES];
-    for table in tables {
-        for (document, line) in table {
-            let row = step(document.as_bytes(), 5, b"", line.as_bytes());
-            assert_eq!(rt;
-                ends_as(rt.alloc(), &row),
-                Some(true),
-                "{line} at {document}"
-            );
-        }
-    }
+    let alloc = rt.alloc();
+    assert_refused(&rt, alloc, "@", DOCUMENTS);
+    assert_refused(&rt, alloc, IN_US, SHAPES);
+    assert_refused(&rt, alloc, IN_US, NAMES);
+    assert_refused(&rt, alloc, IN_US, PARTS);
+    assert_refused(&rt, alloc, IN_BODY, BODIES);
+    assert_texts(&rt, alloc, &REFUSED, &TOGETHER);
+    assert_texts(&rt, alloc, &REFUSED, &HANDLERS);
 }

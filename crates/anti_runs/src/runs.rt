@@ -1,9 +1,8 @@
 // Documents that are played through the top call, and their records.
 
-use crate::calling::{Row, ends_as, served, step, step_to};
+use crate::calling::{ENDED, PLAYED, Row, STEP, assert_texts, comes_to, served};
 use anti_ids::Bytes;
 use std::alloc::Global;
-use std::test::Fail;
 
 // Documents with one service, and the record of each.
 static RECORDS: [(&str, &str); 7] = [
@@ -134,7 +133,7 @@ const MANY_WRITES: &str = served!(
     "'nack'"
 );
 
-const ONE_ID_TOO_MANY: &[u8] = b"process w.1 w one lineage\nprocess w.2 w two fine\nend 516\n";
+const ONE_ID_TOO_MANY: &str = "process w.1 w one lineage\nprocess w.2 w two fine\nend 516\n";
 
 // Nine requests, each of whose processes writes 256 times.
 const NINE_PROCESSES: &str = served!(
@@ -145,7 +144,7 @@ const NINE_PROCESSES: &str = served!(
 );
 
 // The end of the record of a store that is full before the ninth process has written.
-const NINTH_FINDS_NO_ROOM: &[u8] = b"process w.1 w one fine
+const NINTH_FINDS_NO_ROOM: &str = "process w.1 w one fine
 process w.2 w one fine
 process w.3 w one fine
 process w.4 w one fine
@@ -193,112 +192,174 @@ span w.2/1 lossy s.3
 end 4088
 ";
 
-// Adds a choice to the list of a document. `None` where memory runs out.
-fn choose(document: &mut Bytes, choice: &str) -> Option<()> {
-    document.append(b"\"").ok()?;
-    document.append(choice.as_bytes()).ok()?;
-    document.append(b"\",\n").ok()
+// Texts, and how often each stands in a document before the next.
+type Texts<'a> = &'a [(&'a str, u32)];
+
+// The choices by which eight processes make 57 calls each.
+static CALLS: [(&str, u32); 10] = [
+    ("choices = [\n", 1),
+    ("\"take w 1\",\n", 8),
+    ("\"go w.1\",\n", 57),
+    ("\"go w.2\",\n", 57),
+    ("\"go w.3\",\n", 57),
+    ("\"go w.4\",\n", 57),
+    ("\"go w.5\",\n", 57),
+    ("\"go w.6\",\n", 57),
+    ("\"go w.7\",\n", 57),
+    ("\"go w.8\",\n", 57),
+];
+
+// The choices by which each process tries one call more.
+const TRIES: Texts = &[
+    ("\"go w.1\",\n", 1),
+    ("\"go w.2\",\n", 1),
+    ("\"go w.3\",\n", 1),
+    ("\"go w.4\",\n", 1),
+    ("\"go w.5\",\n", 1),
+    ("\"go w.6\",\n", 1),
+    ("\"go w.7\",\n", 1),
+    ("\"go w.8\",\n", 1),
+];
+
+// What stands behind the choices: a store with eight replicas, which is full after 454 writes and two reads. Each of the eight processes then
+// has a write still to make. The writes behind the reads are untracked, so that no order is printed.
+static PARTS: [(&str, u32); 8] = [
+    (
+        "]
+regions = [\"r0\", \"r1\", \"r2\", \"r3\", \"r4\", \"r5\", \"r6\", \"r7\"]
+store = [{name = \"s\", kind = \"kv\", replicas = [\"r0\", \"r1\", \"r2\", \"r3\", \"r4\", \"r5\", \"r6\", \"r7\"]}]
+request = [",
+        1,
+    ),
+    ("{service = \"w\", handler = \"a\"}, ", 2),
+    ("{service = \"w\", handler = \"b\"}, ", 6),
+    (
+        "]
+[[service]]
+name = \"w\"
+region = \"r0\"
+[[service.handler]]
+name = \"a\"
+body = [\"read s k as x\", \"write s k v as w untracked\", ",
+        1,
+    ),
+    ("\"write s k v\", ", 56),
+    (
+        "]
+[[service.handler]]
+name = \"b\"
+body = [",
+        1,
+    ),
+    ("\"write s k v\", ", 58),
+    ("]\n", 1),
+];
+
+// Adds the text so many times. `false` where memory runs out.
+fn add_times(document: &mut Bytes, text: &str, times: u32) -> bool {
+    for _ in 0..times {
+        let Ok(()) = document.append(text.as_bytes()) else {
+            return false;
+        };
+    }
+    true
 }
 
-// Adds a handler of a service: the lines `first`, and then a line that writes, so many times. `None` where memory runs out.
-fn add_handler(document: &mut Bytes, name: &[u8], first: &[u8], writes: u32) -> Option<()> {
-    let pieces = [
-        b"[[service.handler]]\nname = \"".as_slice(),
-        name,
-        b"\"\nbody = [",
-        first,
-    ];
-    for piece in pieces {
-        document.append(piece).ok()?;
+// Adds the texts. `false` where memory runs out.
+fn add_texts(document: &mut Bytes, texts: Texts) -> bool {
+    for (text, times) in texts {
+        if !add_times(document, text, *times) {
+            return false;
+        }
     }
-    for _ in 0..writes {
-        document.append(b"\"write s k v\", ").ok()?;
-    }
-    document.append(b"]\n").ok()
+    true
 }
 
-// Adds the choices by which eight processes make 57 calls each, and by which so many of the 454 writes among these come to eight
-// regions. `None` where memory runs out.
-fn fill(alloc: Global, document: &mut Bytes, shipped: u32) -> Option<()> {
-    for _ in 0..8 {
-        choose(document, "take w 1")?;
+// Adds the choices by which so many writes come to eight regions. `false` where memory runs out.
+fn add_shipments(alloc: Global, document: &mut Bytes, writes: u32) -> bool {
+    for number in 0..writes.saturating_mul(8) {
+        let (region, version) = (number % 8, number / 8 + 1);
+        let Ok(choice) = format!(in alloc; "\"ship s r{region} {version}\",\n") else {
+            return false;
+        };
+        if !add_times(document, &choice, 1) {
+            return false;
+        }
     }
-    for call in 0..456_u32 {
-        choose(document, &format!(in alloc; "go w.{}", call / 57 + 1).ok()?)?;
-    }
-    for number in 0..shipped.saturating_mul(8) {
-        choose(
-            document,
-            &format!(in alloc; "ship s r{} {}", number % 8, number / 8 + 1).ok()?,
-        )?;
-    }
-    Some(())
+    true
 }
 
-// A document whose store has eight replicas and is full after 454 writes and two reads. Each of the eight processes then has a write
-// still to make. The writes behind the reads are untracked, so that no order is printed. `None` where memory runs out.
-fn filled(alloc: Global, shipped: u32, tries: u32) -> Option<Bytes> {
-    let regions = b"[\"r0\", \"r1\", \"r2\", \"r3\", \"r4\", \"r5\", \"r6\", \"r7\"]";
+// How many of the 454 writes come to eight regions, the calls that are tried behind these, and what the document comes to.
+static FULL_STORES: [(u32, Texts, Row); 3] = [
+    (
+        454,
+        &[],
+        Row {
+            most: 5000,
+            more: true,
+            out: FULL_AND_SHIPPED,
+            ..STEP
+        },
+    ),
+    (
+        453,
+        TRIES,
+        Row {
+            most: 5000,
+            more: true,
+            out: FULL_AND_TRIED,
+            ..STEP
+        },
+    ),
+    (
+        454,
+        &[("\"go w.1\",\n", 1)],
+        Row {
+            most: 5000,
+            status: 5,
+            err: b"app 4 top 0 0\n",
+            ..STEP
+        },
+    ),
+];
+
+// Adds the document of a full store. `false` where memory runs out.
+fn add_full_store(alloc: Global, document: &mut Bytes, shipped: u32, tries: Texts) -> bool {
+    add_texts(document, &CALLS)
+        && add_shipments(alloc, document, shipped)
+        && add_texts(document, tries)
+        && add_texts(document, &PARTS)
+}
+
+// Whether the document comes to what the row wants. `false` where memory runs out, too.
+fn is_played(alloc: Global, shipped: u32, tries: Texts, row: &Row) -> bool {
     let mut document = Bytes::new(alloc);
-    document.append(b"choices = [\n").ok()?;
-    fill(alloc, &mut document, shipped)?;
-    for process in 1..=tries {
-        choose(&mut document, &format!(in alloc; "go w.{process}").ok()?)?;
-    }
-    document.append(b"]\nregions = ").ok()?;
-    document.append(regions).ok()?;
-    document
-        .append(b"\nstore = [{name = \"s\", kind = \"kv\", replicas = ")
-        .ok()?;
-    document.append(regions).ok()?;
-    document.append(b"}]\nrequest = [").ok()?;
-    for request in 0..8_u32 {
-        let handler = if request < 2 { "a" } else { "b" };
-        let text = format!(in alloc; "{{service = \"w\", handler = \"{handler}\"}}, ").ok()?;
-        document.append(text.as_bytes()).ok()?;
-    }
-    document
-        .append(b"]\n[[service]]\nname = \"w\"\nregion = \"r0\"\n")
-        .ok()?;
-    let first = b"\"read s k as x\", \"write s k v as w untracked\", ";
-    add_handler(&mut document, b"a", first, 56)?;
-    add_handler(&mut document, b"b", b"", 58)?;
-    Some(document)
+    add_full_store(alloc, &mut document, shipped, tries)
+        && comes_to(alloc, &[row.word], document.bytes(), row)
 }
 
 #[test]
 fn statements_and_choices_are_played(rt: HostRuntime) {
-    for (document, record) in &RECORDS {
-        let row = step(document.as_bytes(), 0, record.as_bytes(), b"");
-        assert_eq!(rt;
-            ends_as(rt.alloc(), &row),
-            Some(true),
-            "{record} of {document}"
-        );
-    }
+    assert_texts(&rt, rt.alloc(), &PLAYED, &RECORDS);
 }
+
+// Documents with long records, and the end of each.
+static ENDS: [(&str, &str); 2] = [
+    (MANY_WRITES, ONE_ID_TOO_MANY),
+    (NINE_PROCESSES, NINTH_FINDS_NO_ROOM),
+];
 
 #[test]
 fn a_run_is_finished_on_a_full_store(rt: HostRuntime) {
-    let many = step_to(MANY_WRITES.as_bytes(), ONE_ID_TOO_MANY);
-    assert_eq!(rt; ends_as(rt.alloc(), &many), Some(true));
-    let nine = step_to(NINE_PROCESSES.as_bytes(), NINTH_FINDS_NO_ROOM);
-    assert_eq!(rt; ends_as(rt.alloc(), &nine), Some(true));
+    assert_texts(&rt, rt.alloc(), &ENDED, &ENDS);
 }
 
 #[test]
-fn a_full_store_still_takes_each_shipment(rt: HostRuntime) -> Result<(), Fail> {
-    let document = filled(rt.alloc(), 454, 0).ok_or("no memory")?;
-    let row = step_to(document.bytes(), FULL_AND_SHIPPED);
-    assert_eq!(rt; ends_as(rt.alloc(), &row), Some(true));
-    let document = filled(rt.alloc(), 453, 8).ok_or("no memory")?;
-    let row = step_to(document.bytes(), FULL_AND_TRIED);
-    assert_eq!(rt; ends_as(rt.alloc(), &row), Some(true));
-    let document = filled(rt.alloc(), 454, 1).ok_or("no memory")?;
-    let row = Row {
-        most: 5000,
-        ..step(document.bytes(), 5, b"", b"app 4 top 0 0\n")
-    };
-    assert_eq!(rt; ends_as(rt.alloc(), &row), Some(true));
-    Ok(())
+fn a_full_store_still_takes_each_shipment(rt: HostRuntime) {
+    for (shipped, tries, row) in &FULL_STORES {
+        assert!(rt;
+            is_played(rt.alloc(), *shipped, tries, row),
+            "{shipped} writes"
+        );
+    }
 }

@@ -2,7 +2,7 @@
 ghost use Rattle.std.specs.Prelude.{IsTrue};
 ghost use Rattle.anti_app.specs.Sound.{is_sound};
 
-use crate::calling::{ends_as, step, step_to};
+use crate::calling::{ENDED, PLAYED, assert_texts};
 use crate::playing::{Run, run_of};
 use anti_app::App;
 use anti_baggage::Baggage;
@@ -10,7 +10,6 @@ use anti_ids::{Bytes, Copies, Name};
 use anti_kind::{Entry, Handle, Message, Reply};
 use anti_proc::{ProcFault, Process};
 use std::alloc::Global;
-use std::test::Fail;
 
 // A service `c` that asks and a service `d` that tells, in one region with one store.
 macro_rules! asking {
@@ -77,8 +76,8 @@ name = 'd'
 region = 'us'
 handler = [{name = 'tell', body = ['repeat 16', 'repeat 16', 'send c ask x', 'end', 'end']}]";
 
-// Documents with calls and sends, and the record of each.
-static RECORDS: [(&str, &str); 7] = [
+// Documents with calls and sends that end, and the record of each.
+static RECORDS: [(&str, &str); 4] = [
     (
         REPEATED,
         "record 1
@@ -159,6 +158,10 @@ process d.2 d tell badkey
 end 6
 ",
     ),
+];
+
+// Documents whose replies bring nothing or are still to come, and the record of each.
+static SHORT_REPLIES: [(&str, &str); 3] = [
     // `stop` before the reply, which then brings nothing, and `nack`, which replies too
     (
         asking!(
@@ -217,18 +220,12 @@ end 3
 
 #[test]
 fn services_call_each_other(rt: HostRuntime) {
-    for (document, record) in &RECORDS {
-        let row = step(document.as_bytes(), 0, record.as_bytes(), b"");
-        assert_eq!(rt;
-            ends_as(rt.alloc(), &row),
-            Some(true),
-            "{record} of {document}"
-        );
-    }
+    assert_texts(&rt, rt.alloc(), &PLAYED, &RECORDS);
+    assert_texts(&rt, rt.alloc(), &PLAYED, &SHORT_REPLIES);
 }
 
 // The end of the record of a chain of calls, of which the last would be too deep.
-const TOO_DEEP: &[u8] = b"process d.1 d tell fine
+const TOO_DEEP: &str = "process d.1 d tell fine
 process d.3 d tell fine
 process d.5 d tell fine
 process d.7 d tell fine
@@ -241,41 +238,68 @@ end 33
 ";
 
 // The end of the record of an inbox that is full before the ninth request has sent a message.
-const NINTH_SENDS_NONE: &[u8] = b"process d.7 d tell fine
+const NINTH_SENDS_NONE: &str = "process d.7 d tell fine
 process d.8 d tell fine
 process d.9 d tell store c
 end 4105
 ";
 
+// Documents with long records, and the end of each.
+static ENDS: [(&str, &str); 2] = [(DEEP, TOO_DEEP), (FULL, NINTH_SENDS_NONE)];
+
 #[test]
 fn messages_are_not_too_deep_and_an_inbox_fills(rt: HostRuntime) {
-    let deep = step_to(DEEP.as_bytes(), TOO_DEEP);
-    assert_eq!(rt; ends_as(rt.alloc(), &deep), Some(true));
-    let full = step_to(FULL.as_bytes(), NINTH_SENDS_NONE);
-    assert_eq!(rt; ends_as(rt.alloc(), &full), Some(true));
+    assert_texts(&rt, rt.alloc(), &ENDED, &ENDS);
 }
 
-// An entry like this, whose message names this handler and has this depth and baggage. `None` where memory runs out.
-fn changed(
-    alloc: Global,
-    entry: &Entry,
-    handler: Name,
-    depth: u32,
-    baggage: &[u8],
-) -> Option<Entry> {
-    let Reply::Got { number, message } = &entry.reply else {
+// What a message states: the handler that it names, its depth and its baggage.
+type Stated<'a> = (&'a str, u32, &'a str);
+
+// What the call that is taken in a run might state, and why it then starts no process. `None` where it starts one.
+static CALLS: [(Stated, Option<ProcFault>); 5] = [
+    (("tell", 1, "1;"), None),
+    (("tell", 8, "1;"), None),
+    (("none", 1, "1;"), Some(ProcFault::Foreign)),
+    (("tell", 9, "1;"), Some(ProcFault::Foreign)),
+    (("tell", 1, "0;"), Some(ProcFault::Foreign)),
+];
+
+// The message, which states this in place of what it states. `None` where memory runs out.
+fn changed(alloc: Global, message: &Message, stated: Stated) -> Option<Message> {
+    let (handler, depth, baggage) = stated;
+    let Ok(handler) = Name::new(handler.as_bytes()) else {
         return None;
     };
     let mut text = Bytes::new(alloc);
-    text.append(baggage).ok()?;
-    let message = message.get();
-    let changed = Message {
+    let Ok(()) = text.append(baggage.as_bytes()) else {
+        return None;
+    };
+    let Ok(value) = message.value.copy(alloc) else {
+        return None;
+    };
+    Some(Message {
         kind: message.kind,
         to: message.to,
         depth,
         handler,
-        value: message.value.copy(alloc).ok()?,
+        value,
         baggage: Baggage::from_text(text),
+    })
+}
+
+// The entry, whose message states this. `None` where it takes none or memory runs out.
+fn taken(alloc: Global, entry: &Entry, stated: Stated) -> Option<Entry> {
+    let Reply::Got { number, message } = &entry.reply else {
+        return None;
+    };
+    let Some(message) = changed(alloc, message.get(), stated) else {
+        return None;
+    };
+    let Ok(message) = Handle::new(alloc, message) else {
+        return None;
+    };
+    let Ok(call) = entry.call.copy(alloc) else {
+        return None;
     };
     Some(Entry {
         stamp: entry.stamp,
@@ -284,45 +308,49 @@ fn changed(
         seat: entry.seat,
         actor: entry.actor,
         span: entry.span,
-        call: entry.call.copy(alloc).ok()?,
+        call,
         reply: Reply::Got {
             number: *number,
-            message: Handle::new(alloc, changed).ok()?,
+            message,
         },
     })
 }
 
-// What comes of a process that is to be born by an entry whose message is changed. `None` where memory runs out.
+// Why an entry starts no process. `None` where it starts one.
 #[tactic(auto, using(anti_app::proofs::Runnable::can_run))]
-fn birth(
-    alloc: Global,
-    app: &App,
-    entry: &Entry,
-    handler: Name,
-    depth: u32,
-    baggage: &[u8],
-) -> Option<Result<(), ProcFault>>
+fn fault_of(alloc: Global, app: &App, entry: &Entry) -> Option<ProcFault>
     requires { IsTrue (is_sound app.now) }
 {
-    let entry = changed(alloc, entry, handler, depth, baggage)?;
-    match Process::born(alloc, app, &entry) {
-        Ok(_) => Some(Ok(())),
-        Err(fault) => Some(Err(fault)),
+    match Process::born(alloc, app, entry) {
+        Ok(_) => None,
+        Err(fault) => Some(fault),
+    }
+}
+
+// Whether this fault comes where the call that is taken in the run states this. `false` where memory runs out, too.
+fn is_fault_in(alloc: Global, run: &Run, stated: Stated, fault: Option<ProcFault>) -> bool
+    requires { IsTrue (is_sound run.now.app) }
+{
+    let Some(entry) = run.trace.as_slice().get(4) else {
+        return false;
+    };
+    match taken(alloc, entry, stated) {
+        Some(entry) => fault_of(alloc, &run.app, &entry) == fault,
+        None => false,
+    }
+}
+
+// The same of the run of the repeated call.
+fn is_fault(alloc: Global, stated: Stated, fault: Option<ProcFault>) -> bool {
+    match run_of(alloc, REPEATED.as_bytes()) {
+        Some(run) => is_fault_in(alloc, &run, stated, fault),
+        None => false,
     }
 }
 
 #[test]
-fn a_foreign_message_starts_no_process(rt: HostRuntime) -> Result<(), Fail> {
-    let alloc = rt.alloc();
-    let Run { app, trace } = run_of(alloc, REPEATED.as_bytes()).ok_or("no run")?;
-    let entry = trace.as_slice().get(4).ok_or("an entry")?;
-    let tell = Name::new(b"tell").ok().ok_or("a name")?;
-    let none = Name::new(b"none").ok().ok_or("a name")?;
-    let foreign = Some(Err(ProcFault::Foreign));
-    assert_eq!(rt; birth(alloc, &app, entry, tell, 1, b"1;"), Some(Ok(())));
-    assert_eq!(rt; birth(alloc, &app, entry, tell, 8, b"1;"), Some(Ok(())));
-    assert_eq!(rt; birth(alloc, &app, entry, none, 1, b"1;"), foreign);
-    assert_eq!(rt; birth(alloc, &app, entry, tell, 9, b"1;"), foreign);
-    assert_eq!(rt; birth(alloc, &app, entry, tell, 1, b"0;"), foreign);
-    Ok(())
+fn a_foreign_message_starts_no_process(rt: HostRuntime) {
+    for (stated, fault) in &CALLS {
+        assert!(rt; is_fault(rt.alloc(), *stated, *fault), "{stated:?}");
+    }
 }

@@ -1,5 +1,5 @@
 // Stores of each kind that is built, through the top call.
-use crate::calling::{ends_as, step};
+use crate::calling::{PLAYED, assert_texts};
 
 // Documents with tables and blobs, and the record of each.
 static RECORDS: [(&str, &str); 3] = [
@@ -70,12 +70,5 @@ end 7
 
 #[test]
 fn tables_and_blobs_are_played(rt: HostRuntime) {
-    for (document, record) in &RECORDS {
-        let row = step(document.as_bytes(), 0, record.as_bytes(), b"");
-        assert_eq!(rt;
-            ends_as(rt.alloc(), &row),
-            Some(true),
-            "{record} of {document}"
-        );
-    }
+    assert_texts(&rt, rt.alloc(), &PLAYED, &RECORDS);
 }

@@ -1,8 +1,7 @@
 -- A port over one store, in tests: the store stays as it is.
-use Rattle.std.proofs.Common.{◌≡◌, ℕ, zero, suc, ◌<◌, List, [], ◌∷◌, ◌∙◌, length, get_or, Option, Some, refl, sym, ap, arith}
-use Rattle.anti_kind.specs.Objects.{Start}
-use Rattle.anti_kind.specs.Store.{kv_store}
-use Rattle.anti_kv.specs.KvStates.{kv_start}
+use Rattle.std.proofs.Common.{◌≡◌, ℕ, zero, suc, ◌<◌, List, [], ◌∷◌, ◌∙◌, true, length, get_or, Option, Some, refl, sym, ap, arith}
+use Rattle.anti_kind.specs.Objects.{Start, store}
+use Rattle.anti_kind.specs.Store.{Store, is_replica}
 use Rattle.anti_shim.specs.Sights.{HasReplica, IsHere}
 
 pub here_stays : (now was : ℕ → Option Start) (region : ℕ) (here : List ℕ) → ((o : ℕ) → now o ≡ was o) → IsHere was region here → IsHere now region here
@@ -11,11 +10,15 @@ here_stays now was region here same right = record {
   replicas = λ i d short. let there : HasReplica was region (get_or here i d) = right.replicas i d short in (there.0, same (get_or here i d) ∙ there.1, there.2, there.3);
 }
 
--- the store 0, of which the only replica is in region 0
-first_alone : (starts : ℕ → Option Start) → starts 0 ≡ Some (kv_start 0 (0 ∷ [])) → (here : List ℕ) → here ≡ 0 ∷ [] → (i d : ℕ) → i < length here → HasReplica starts 0 (get_or here i d)
-first_alone starts is [] eq i d short = absurd (omega arith)
-first_alone starts is (o ∷ rest) eq zero d short = let this : o ≡ 0 = cc in (kv_store 0 (0 ∷ []), ap starts this ∙ is, sym this, refl)
-first_alone starts is (o ∷ rest) eq (suc i) d short = let none : rest ≡ [] = cc in absurd (omega (arith, ap (length {A = ℕ}) none))
+-- the store 0, which has a replica in region 0
+abbrev First : Start → Type 0
+First start = (s : Store) × (start ≡ store s) × (s.number ≡ 0) × (is_replica s 0 ≡ true)
 
-pub here_alone : (starts : ℕ → Option Start) → starts 0 ≡ Some (kv_start 0 (0 ∷ [])) → IsHere starts 0 (0 ∷ [])
-here_alone starts is = record { ascending = λ i j d less short. absurd (omega arith); replicas = first_alone starts is (0 ∷ []) refl }
+first_alone : (starts : ℕ → Option Start) (start : Start) → starts 0 ≡ Some start → First start → (here : List ℕ) → here ≡ 0 ∷ [] → (i d : ℕ) → i < length here → HasReplica starts 0 (get_or here i d)
+first_alone starts start is first [] eq i d short = absurd (omega arith)
+first_alone starts start is first (o ∷ rest) eq zero d short =
+    let this : o ≡ 0 = cc in (first.0, ap starts this ∙ is ∙ ap (λ (s : Start). Some s) first.1, first.2 ∙ sym this, first.3)
+first_alone starts start is first (o ∷ rest) eq (suc i) d short = let none : rest ≡ [] = cc in absurd (omega (arith, ap (length {A = ℕ}) none))
+
+pub here_alone : (starts : ℕ → Option Start) (start : Start) → starts 0 ≡ Some start → First start → IsHere starts 0 (0 ∷ [])
+here_alone starts start is first = record { ascending = λ i j d less short. absurd (omega arith); replicas = first_alone starts start is first (0 ∷ []) refl }

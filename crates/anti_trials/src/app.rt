@@ -1,8 +1,8 @@
-use anti_app::{App, AppFault, Choice, Part, Place, read_app};
+use crate::made::assert_of;
+use anti_app::{App, AppFault, Choice, Part, Place, StoreDef, read_app};
 use anti_kind::StoreKind;
 use anti_lang::Statement;
 use std::alloc::{AllocError, Global};
-use std::test::Fail;
 
 // A document with a choice: two stores, of which one has no replica in `us`, a service, a subscription to that store, and a request.
 fn document(alloc: Global, choice: &str) -> Result<String, AllocError> {
@@ -16,243 +16,289 @@ choices = ['{choice}']"
     )
 }
 
-// What a document's first choice is, or why the bytes state no application.
-fn first_choice(alloc: Global, bytes: &[u8]) -> Result<Option<Choice>, AppFault> {
-    let app = read_app(alloc, bytes)?;
-    match app.choices.as_slice() {
-        [first, ..] => Ok(Some(*first)),
-        [] => Ok(None),
+// What bytes are to state.
+#[derive(Drop)]
+enum Wanted {
+    /// An application with this first choice.
+    Choice(Choice),
+    /// The application of the document `WHOLE`.
+    Whole,
+    /// An application without all that may be left out.
+    Bare,
+    /// No application, for this fault.
+    Fault(AppFault),
+}
+
+// Whether an application is what is wanted.
+fn is_wanted(app: &App, wanted: &Wanted) -> bool {
+    match wanted {
+        Wanted::Choice(choice) =>
+            matches!(app.choices.as_slice(), [first, ..] if *first == *choice),
+        Wanted::Whole => is_whole(app),
+        Wanted::Bare => is_bare(app),
+        Wanted::Fault(_) => false,
+    }
+}
+
+// Whether bytes state what is wanted.
+fn states(alloc: Global, bytes: &[u8], wanted: &Wanted) -> bool {
+    match read_app(alloc, bytes) {
+        Ok(app) => is_wanted(&app, wanted),
+        Err(fault) => matches!(wanted, Wanted::Fault(other) if fault == *other),
+    }
+}
+
+// Whether a document with this choice states what is wanted.
+fn states_choice(alloc: Global, choice: &str, wanted: &Wanted) -> bool {
+    match document(alloc, choice) {
+        Ok(text) => states(alloc, text.as_bytes(), wanted),
+        Err(_) => false,
     }
 }
 
 // Choices, and what each is.
-static CHOICES: [(&str, Choice); 13] = [
-    ("take w 1", Choice::Take { service: 0, nth: 1 }),
+static CHOICES: [(&str, Wanted); 13] = [
+    (
+        "take w 1",
+        Wanted::Choice(Choice::Take { service: 0, nth: 1 }),
+    ),
     (
         "  take   w 4096 ",
-        Choice::Take {
+        Wanted::Choice(Choice::Take {
             service: 0,
             nth: 4096,
-        },
+        }),
     ),
     (
         "repost w 3",
-        Choice::Repost {
+        Wanted::Choice(Choice::Repost {
             service: 0,
             number: 3,
-        },
+        }),
     ),
-    (" pull  p ", Choice::Pull { sub: 0 }),
-    ("repull p 7", Choice::Repull { sub: 0, version: 7 }),
+    (" pull  p ", Wanted::Choice(Choice::Pull { sub: 0 })),
+    (
+        "repull p 7",
+        Wanted::Choice(Choice::Repull { sub: 0, version: 7 }),
+    ),
     (
         "ship s us 1",
-        Choice::Ship {
+        Wanted::Choice(Choice::Ship {
             store: 0,
             region: 0,
             version: 1,
             part: None,
-        },
+        }),
     ),
     (
         "ship s eu 4096 2",
-        Choice::Ship {
+        Wanted::Choice(Choice::Ship {
             store: 0,
             region: 1,
             version: 4096,
             part: Some(2),
-        },
+        }),
     ),
     (
         "ship t us 1",
-        Choice::Ship {
+        Wanted::Choice(Choice::Ship {
             store: 1,
             region: 0,
             version: 1,
             part: None,
-        },
+        }),
     ),
     (
         "again s eu 3",
-        Choice::Again {
+        Wanted::Choice(Choice::Again {
             store: 0,
             region: 1,
             version: 3,
             part: None,
-        },
+        }),
     ),
     (
         "again t us 10 4096",
-        Choice::Again {
+        Wanted::Choice(Choice::Again {
             store: 1,
             region: 0,
             version: 10,
             part: Some(4096),
-        },
+        }),
     ),
     (
         "go t.1",
-        Choice::Go {
+        Wanted::Choice(Choice::Go {
             object: 1,
             place: 1,
-        },
+        }),
     ),
     (
         "go w.12",
-        Choice::Go {
+        Wanted::Choice(Choice::Go {
             object: 2,
             place: 12,
-        },
+        }),
     ),
-    ("finish", Choice::Finish),
+    ("finish", Wanted::Choice(Choice::Finish)),
 ];
 
 #[test]
-fn choices_have_their_forms(rt: HostRuntime) -> Result<(), Fail> {
+fn choices_have_their_forms(rt: HostRuntime) {
     for (text, wanted) in &CHOICES {
-        let text = document(rt.alloc(), text)?;
-        assert!(rt;
-            first_choice(rt.alloc(), text.as_bytes()) == Ok(Some(*wanted)),
-            "{text}"
+        assert_of(
+            &rt,
+            text.as_bytes(),
+            states_choice(rt.alloc(), text, wanted),
         );
     }
-    Ok(())
 }
 
-static NO_CHOICES: [&str; 44] = [
-    "",
-    "take",
-    "take w",
-    "take w 0",
-    "take w 01",
-    "take w 4097",
-    "take w 10000",
-    "take w +1",
-    "take w -1",
-    "take w 1x",
-    "take w 1 1",
-    "take s 1",
-    "take x 1",
-    "Take w 1",
-    "repost w 0",
-    "repost s 1",
-    "pull",
-    "pull t",
-    "pull w",
-    "pull p 1",
-    "repull p",
-    "repull p 0",
-    "repull t 1",
-    "repull p 1 1",
-    "ship s us",
-    "ship s us 0",
-    "ship s us 1 0",
-    "ship s us 1 1 1",
-    "ship w us 1",
-    "ship s w 1",
-    "again s us",
-    "again s x 1",
-    "again x us 1",
-    "again s us 1 1 1",
-    "go",
-    "go s",
-    "go s.",
-    "go .1",
-    "go s.0",
-    "go s.1.2",
-    "go x.1",
-    "go s .1",
-    "finish now",
-    "finished",
+// Texts that are no choice, by the word that they begin with.
+static NO_CHOICES: [&[&str]; 8] = [
+    &[
+        "",
+        "take",
+        "take w",
+        "take w 0",
+        "take w 01",
+        "take w 4097",
+        "take w 10000",
+        "take w +1",
+        "take w -1",
+        "take w 1x",
+        "take w 1 1",
+        "take s 1",
+        "take x 1",
+        "Take w 1",
+    ],
+    &["repost w 0", "repost s 1"],
+    &["pull", "pull t", "pull w", "pull p 1"],
+    &["repull p", "repull p 0", "repull t 1", "repull p 1 1"],
+    &[
+        "ship s us",
+        "ship s us 0",
+        "ship s us 1 0",
+        "ship s us 1 1 1",
+        "ship w us 1",
+        "ship s w 1",
+    ],
+    &[
+        "again s us",
+        "again s x 1",
+        "again x us 1",
+        "again s us 1 1 1",
+    ],
+    &[
+        "go", "go s", "go s.", "go .1", "go s.0", "go s.1.2", "go x.1", "go s .1",
+    ],
+    &["finish now", "finished"],
 ];
 
 #[test]
-fn near_misses_are_no_choices(rt: HostRuntime) -> Result<(), Fail> {
-    for row in &NO_CHOICES {
-        let text = document(rt.alloc(), row)?;
-        let fault = AppFault::BadChoice { number: 1 };
-        assert!(rt;
-            first_choice(rt.alloc(), text.as_bytes()) == Err(fault),
-            "{text}"
-        );
+fn near_misses_are_no_choices(rt: HostRuntime) {
+    let wanted = Wanted::Fault(AppFault::BadChoice { number: 1 });
+    for texts in &NO_CHOICES {
+        for text in *texts {
+            assert_of(
+                &rt,
+                text.as_bytes(),
+                states_choice(rt.alloc(), text, &wanted),
+            );
+        }
     }
-    Ok(())
 }
 
 // Documents with more than one fault, and the one that is told.
-static FAULTS: [(&[u8], AppFault); 7] = [
-    (b"regions", AppFault::NotToml),
-    (b"regions = ['us'] # \xff", AppFault::NotToml),
+static FAULTS: [(&[u8], Wanted); 7] = [
+    (b"regions", Wanted::Fault(AppFault::NotToml)),
+    (b"regions = ['us'] # \xff", Wanted::Fault(AppFault::NotToml)),
     (
         b"regions = []\nchoices = ['x']",
-        AppFault::Bad {
+        Wanted::Fault(AppFault::Bad {
             rule: 4,
             place: Place {
                 part: Part::Top,
                 item: 0,
                 line: 0,
             },
-        },
+        }),
     ),
     (
         b"regions = ['us']\nstore = [{name = 's', kind = 'kv', replicas = ['us']}]\nsub = [{name = 'p', store = 's', channel = 'c', service = 'w', handler = 'a'}]\nchoices = ['x']",
-        AppFault::Bad {
+        Wanted::Fault(AppFault::Bad {
             rule: 15,
             place: Place {
                 part: Part::Sub,
                 item: 1,
                 line: 0,
             },
-        },
+        }),
     ),
     (
         b"regions = ['us']\nservice = [{name = 'w', region = 'us', handler = [{name = 'a', body = ['call w a $in as x', 'send w b $x']}]}]",
-        AppFault::Bad {
+        Wanted::Fault(AppFault::Bad {
             rule: 24,
             place: Place {
                 part: Part::Handler,
                 item: 1,
                 line: 2,
             },
-        },
+        }),
     ),
     (
         b"regions = ['us']\nchoices = ['finish', 'finish', 'x', 'y']",
-        AppFault::BadChoice { number: 3 },
+        Wanted::Fault(AppFault::BadChoice { number: 3 }),
     ),
     (
         b"regions = ['us']\nservice = [{name = 'w', region = 'us', handler = [{name = 'a', body = ['nack', 'end']}]}]",
-        AppFault::Bad {
+        Wanted::Fault(AppFault::Bad {
             rule: 21,
             place: Place {
                 part: Part::Handler,
                 item: 1,
                 line: 2,
             },
-        },
+        }),
     ),
 ];
 
 #[test]
-fn faults_come_in_their_order(rt: HostRuntime) -> Result<(), Fail> {
+fn faults_come_in_their_order(rt: HostRuntime) {
     for (bytes, wanted) in &FAULTS {
-        assert!(rt; first_choice(rt.alloc(), bytes) == Err(*wanted));
+        assert_of(&rt, bytes, states(rt.alloc(), bytes, wanted));
     }
-    Ok(())
+}
+
+// A store: its name, its kind, the regions of its replicas, and how often it gives a message out.
+type Store = (&'static [u8], StoreKind, &'static [u32], u32);
+
+// The stores of the document `WHOLE`.
+static STORES: [Store; 3] = [
+    (b"s", StoreKind::Kv, &[1, 0], 3),
+    (b"t", StoreKind::Kv, &[1], 3),
+    (b"q", StoreKind::Queue, &[1], 5),
+];
+
+// Whether a store is the one that is wanted.
+fn is_store(store: &StoreDef, wanted: &Store) -> bool {
+    store.name.bytes() == wanted.0
+        && store.kind == wanted.1
+        && store.replicas.as_slice() == wanted.2
+        && store.tries == wanted.3
 }
 
 // Whether the stores are those of the test's document.
 fn has_stores(app: &App) -> bool {
-    let [one, two, three] = app.stores.as_slice() else {
+    if app.stores.len() != STORES.len() {
         return false;
-    };
-    one.name.bytes() == b"s".as_slice()
-        && one.kind == StoreKind::Kv
-        && one.replicas.as_slice() == [1, 0].as_slice()
-        && one.tries == 3
-        && two.name.bytes() == b"t".as_slice()
-        && two.replicas.as_slice() == [1].as_slice()
-        && three.kind == StoreKind::Queue
-        && three.tries == 5
+    }
+    for place in 0..STORES.len() {
+        if !is_store(app.stores.at(place), &STORES[place]) {
+            return false;
+        }
+    }
+    true
 }
 
 // Whether the subscription is that of the test's document.
@@ -346,10 +392,8 @@ fn is_whole(app: &App) -> bool {
 }
 
 #[test]
-fn documents_are_read(rt: HostRuntime) -> Result<(), Fail> {
-    let app = read_app(rt.alloc(), WHOLE).ok().ok_or("an application")?;
-    assert!(rt; is_whole(&app));
-    Ok(())
+fn documents_are_read(rt: HostRuntime) {
+    assert!(rt; states(rt.alloc(), WHOLE, &Wanted::Whole));
 }
 
 // Whether all that may be left out was left out.
@@ -362,10 +406,6 @@ fn is_bare(app: &App) -> bool {
 }
 
 #[test]
-fn a_document_may_be_short(rt: HostRuntime) -> Result<(), Fail> {
-    let app = read_app(rt.alloc(), b"regions = ['us']")
-        .ok()
-        .ok_or("an application")?;
-    assert!(rt; is_bare(&app));
-    Ok(())
+fn a_document_may_be_short(rt: HostRuntime) {
+    assert!(rt; states(rt.alloc(), b"regions = ['us']", &Wanted::Bare));
 }

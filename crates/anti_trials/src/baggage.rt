@@ -1,40 +1,42 @@
-use crate::made::versions;
+ghost use Rattle.std.specs.Prelude.{◌^◌, ◌≤◌, length};
+
+use crate::made::{assert_of, versions};
 use anti_baggage::{Baggage, BaggageFault, decode, encode, escape, texts_state_lineages};
-use anti_ids::{Bytes, Copies, List, Name};
+use anti_ids::{Bytes, Copies, Lineage, List, Name};
 use std::alloc::Global;
-use std::test::Fail;
 
 // The names of two stores.
 fn stores() -> Option<[Name; 2]> {
-    Some([Name::new(b"posts").ok()?, Name::new(b"notes").ok()?])
-}
-
-// What a text is refused for; or whether the lineage that it states has just this text.
-fn outcome(alloc: Global, text: &[u8]) -> Option<Result<bool, BaggageFault>> {
-    let stores = stores()?;
-    match decode(alloc, &stores, text) {
-        Ok(lineage) => {
-            let again = encode(alloc, &stores, &lineage).ok()?;
-            Some(Ok(again.bytes() == text))
-        }
-        Err(fault) => Some(Err(fault)),
+    match (Name::new(b"posts"), Name::new(b"notes")) {
+        (Ok(posts), Ok(notes)) => Some([posts, notes]),
+        _ => None,
     }
 }
 
-// The text of 256 ids, and what stands behind them.
-fn full(alloc: Global, behind: &[u8]) -> Result<Bytes, Fail> {
-    let lineage = versions(alloc, 0, b"a", 256)?;
-    let stores = stores().ok_or("no names")?;
-    let mut text = encode(alloc, &stores, &lineage)?;
-    text.append(behind)?;
-    Ok(text)
+// Whether a lineage has just this text.
+fn has_text(alloc: Global, stores: &[Name], lineage: &Lineage, text: &[u8]) -> bool {
+    match encode(alloc, stores, lineage) {
+        Ok(found) => found.bytes() == text,
+        Err(_) => false,
+    }
+}
+
+// Whether a text states a lineage that has just this text, or is refused for a fault.
+fn comes_to(alloc: Global, text: &[u8], wanted: &Result<(), BaggageFault>) -> bool {
+    let Some(stores) = stores() else {
+        return false;
+    };
+    match decode(alloc, &stores, text) {
+        Ok(lineage) => wanted.is_ok() && has_text(alloc, &stores, &lineage, text),
+        Err(fault) => *wanted == Err(fault),
+    }
 }
 
 // Texts, and what each comes to.
-static TEXTS: [(&[u8], Result<bool, BaggageFault>); 24] = [
-    (b"1;", Ok(true)),
-    (b"1;posts/p1@1,notes/n%231@7", Ok(true)),
-    (b"1;posts/a@18446744073709551615", Ok(true)),
+static TEXTS: [(&[u8], Result<(), BaggageFault>); 24] = [
+    (b"1;", Ok(())),
+    (b"1;posts/p1@1,notes/n%231@7", Ok(())),
+    (b"1;posts/a@18446744073709551615", Ok(())),
     (
         b"1;posts/a@18446744073709551616",
         Err(BaggageFault::BadId(1)),
@@ -62,82 +64,136 @@ static TEXTS: [(&[u8], Result<bool, BaggageFault>); 24] = [
 ];
 
 #[test]
-fn texts_are_read_exactly(rt: HostRuntime) -> Result<(), Fail> {
+fn texts_are_read_exactly(rt: HostRuntime) {
     texts_state_lineages();
-    for (text, told) in &TEXTS {
-        assert!(rt; outcome(rt.alloc(), text) == Some(*told), "at {text:?}");
+    for (text, wanted) in &TEXTS {
+        assert_of(&rt, text, comes_to(rt.alloc(), text, wanted));
     }
-    Ok(())
 }
 
 // What stands behind a full text, and what the whole comes to.
-static ENDS: [(&[u8], Result<bool, BaggageFault>); 5] = [
-    (b"", Ok(true)),
+static ENDS: [(&[u8], Result<(), BaggageFault>); 5] = [
+    (b"", Ok(())),
     (b",posts/a@257", Err(BaggageFault::TooMany(257))),
     (b",posts/a@256", Err(BaggageFault::NotAscending(257))),
     (b",blogs/a@257", Err(BaggageFault::UnknownStore(257))),
     (b",posts/a@257x", Err(BaggageFault::BadId(257))),
 ];
 
-#[test]
-fn the_faults_have_an_order(rt: HostRuntime) -> Result<(), Fail> {
-    for (behind, told) in &ENDS {
-        let text = full(rt.alloc(), behind)?;
-        assert!(rt;
-            outcome(rt.alloc(), text.bytes()) == Some(*told),
-            "at {behind:?}"
-        );
+// The text of 256 ids, and what stands behind them.
+fn full(alloc: Global, behind: &[u8]) -> Option<Bytes> {
+    let Some(stores) = stores() else {
+        return None;
+    };
+    let Ok(lineage) = versions(alloc, 0, b"a", 256) else {
+        return None;
+    };
+    let Ok(mut text) = encode(alloc, &stores, &lineage) else {
+        return None;
+    };
+    let Ok(()) = text.append(behind) else {
+        return None;
+    };
+    Some(text)
+}
+
+// Whether a full text comes to this with what stands behind it.
+fn ends_so(alloc: Global, behind: &[u8], wanted: &Result<(), BaggageFault>) -> bool {
+    match full(alloc, behind) {
+        Some(text) => comes_to(alloc, text.bytes(), wanted),
+        None => false,
     }
-    Ok(())
+}
+
+#[test]
+fn the_faults_have_an_order(rt: HostRuntime) {
+    for (behind, wanted) in &ENDS {
+        assert_of(&rt, behind, ends_so(rt.alloc(), behind, wanted));
+    }
+}
+
+// Whether over the names of these stores baggage states a lineage that has its text and ends in this store.
+fn states(alloc: Global, baggage: &Baggage, stores: &[Name], store: u32) -> bool
+    requires { length stores.now ≤ 2 ^ 32 }
+{
+    let Ok(lineage) = baggage.lineage(alloc, stores) else {
+        return false;
+    };
+    let Some(last) = lineage.last() else {
+        return false;
+    };
+    last.store == store && has_text(alloc, stores, &lineage, baggage.bytes())
+}
+
+// A copy of the baggage of a lineage.
+fn copied(alloc: Global, stores: &[Name], lineage: &Lineage) -> Option<Baggage> {
+    match Baggage::of(alloc, stores, lineage) {
+        Ok(baggage) => baggage.copy(alloc).ok(),
+        Err(_) => None,
+    }
 }
 
 // The baggage of the first versions of a key of the first store, and of copies of it: whether each has the text of the lineage, and states
 // it; and whether over the names of the stores turned about it states the same versions of the second store.
-fn is_kept(alloc: Global, count: u64) -> Result<bool, Fail> {
-    let stores = stores().ok_or("no names")?;
+fn is_kept(alloc: Global, count: u64) -> bool {
+    let Some(stores) = stores() else {
+        return false;
+    };
     let turned = [stores[1], stores[0]];
-    let lineage = versions(alloc, 0, b"a", count)?;
-    let text = encode(alloc, &stores, &lineage)?;
-    let baggage = Baggage::of(alloc, &stores, &lineage)?.copy(alloc)?;
-    let again = baggage.again(alloc, &stores, &lineage)?;
-    let read = again.lineage(alloc, &stores)?;
-    let other = again.lineage(alloc, &turned)?;
-    Ok(
-        baggage.bytes() == text.bytes()
-            && again.bytes() == text.bytes()
-            && encode(alloc, &stores, &read)?.bytes() == text.bytes()
-            && encode(alloc, &turned, &other)?.bytes() == text.bytes()
-            && matches!(other.last(), Some(id) if id.store == 1),
-    )
+    let Ok(lineage) = versions(alloc, 0, b"a", count) else {
+        return false;
+    };
+    let Some(copied) = copied(alloc, &stores, &lineage) else {
+        return false;
+    };
+    let Ok(again) = copied.again(alloc, &stores, &lineage) else {
+        return false;
+    };
+    has_text(alloc, &stores, &lineage, copied.bytes())
+        && again.bytes() == copied.bytes()
+        && states(alloc, &again, &stores, 0)
+        && states(alloc, &again, &turned, 1)
 }
 
+// How many versions there are.
+static COUNTS: [u64; 3] = [7, 8, 256];
+
 #[test]
-fn a_text_serves_again(rt: HostRuntime) -> Result<(), Fail> {
-    assert_eq!(rt; is_kept(rt.alloc(), 7)?, true);
-    assert_eq!(rt; is_kept(rt.alloc(), 8)?, true);
-    assert_eq!(rt; is_kept(rt.alloc(), 256)?, true);
-    Ok(())
+fn a_text_serves_again(rt: HostRuntime) {
+    for count in &COUNTS {
+        assert!(rt; is_kept(rt.alloc(), *count), "at {count}");
+    }
 }
 
 // Whether the baggage of some versions makes that of others.
-fn makes_another(alloc: Global) -> Result<bool, Fail> {
-    let stores = stores().ok_or("no names")?;
-    let baggage = Baggage::of(alloc, &stores, &versions(alloc, 0, b"a", 9)?)?;
-    let others = versions(alloc, 1, b"a", 9)?;
-    let made = baggage.again(alloc, &stores, &others)?;
-    Ok(made.bytes() == encode(alloc, &stores, &others)?.bytes())
+fn makes_another(alloc: Global) -> bool {
+    let Some(stores) = stores() else {
+        return false;
+    };
+    let Ok(lineage) = versions(alloc, 0, b"a", 9) else {
+        return false;
+    };
+    let Ok(others) = versions(alloc, 1, b"a", 9) else {
+        return false;
+    };
+    let Ok(baggage) = Baggage::of(alloc, &stores, &lineage) else {
+        return false;
+    };
+    match baggage.again(alloc, &stores, &others) {
+        Ok(made) => has_text(alloc, &stores, &others, made.bytes()),
+        Err(_) => false,
+    }
 }
 
 #[test]
-fn another_lineage_has_another_text(rt: HostRuntime) -> Result<(), Fail> {
-    assert_eq!(rt; makes_another(rt.alloc())?, true);
-    Ok(())
+fn another_lineage_has_another_text(rt: HostRuntime) {
+    assert!(rt; makes_another(rt.alloc()));
 }
 
 #[test]
-fn bytes_are_escaped(rt: HostRuntime) -> Result<(), Fail> {
+fn bytes_are_escaped(rt: HostRuntime) {
     let mut text = List::new(rt.alloc());
-    assert!(rt; escape(&mut text, b"a-~ %\xff").is_ok());
-    assert!(rt; text.bytes() == b"a-~%20%25%FF".as_slice());
-    Ok(())
+    assert!(rt;
+        escape(&mut text, b"a-~ %\xff").is_ok() && text.bytes() == b"a-~%20%25%FF".as_slice()
+    );
 }

@@ -1,59 +1,42 @@
-use crate::steps::{Asked, Step, Told, is_whole_to, write, wrong_step};
+use crate::steps::{Asked, Step, Told, assert_steps};
 use anti_blob::Blob;
-use anti_ids::NoMemory;
-use anti_kind::{Machine, Recorded};
-use std::alloc::Global;
-use std::test::Fail;
-
-// The store 0, of which the only replica is in region 0.
-fn blob(alloc: Global) -> Result<Recorded<Blob>, NoMemory> {
-    let store = Blob::new(alloc, 0, &[0])?;
-    match Recorded::new(alloc, store) {
-        Ok(store) => Ok(store),
-        Err(_) => Err(NoMemory),
-    }
-}
 
 // A value of four parts.
 const LONG: &[u8] = &[b'v'; 200];
 
-// A write of four parts, of which three are shipped.
-static THREE_PARTS: [Step; 8] = [
-    Step(Asked::Write(b"m", LONG, &[]), Told::Wrote(1), 1, 4),
-    Step(Asked::Ship(1, 5), Told::NotNow, 1, 4),
-    Step(Asked::Ship(1, 4), Told::Moved, 2, 3),
-    Step(Asked::Read(b"m"), Told::Rows(&[(b"m", 0, b"")]), 3, 3),
-    Step(Asked::Ship(1, 1), Told::Moved, 4, 2),
-    Step(Asked::Read(b"m"), Told::Rows(&[(b"m", 0, b"")]), 5, 2),
-    Step(Asked::Ship(1, 3), Told::Moved, 6, 1),
-    Step(Asked::Read(b"m"), Told::Rows(&[(b"m", 0, b"")]), 7, 1),
-];
-
-// The last one.
-static LAST_PART: [Step; 2] = [
-    Step(Asked::Ship(1, 2), Told::Moved, 8, 0),
-    Step(Asked::Read(b"m"), Told::Rows(&[(b"m", 1, LONG)]), 9, 0),
+// A write of four parts, which are shipped one after another.
+static PARTS: [Step; 13] = [
+    Step::Call(Asked::Write(b"m", LONG, &[]), Told::Needs(5), 0, 0),
+    Step::Call(Asked::Write(b"m", LONG, &[]), Told::Wrote(b"m", 1), 1, 4),
+    Step::Call(Asked::Ship(1, 5), Told::NotNow, 1, 4),
+    Step::Call(Asked::Ship(1, 4), Told::Moved, 2, 3),
+    Step::Call(Asked::Read(b"m"), Told::Rows(&[(b"m", 0, b"")]), 3, 3),
+    Step::Call(Asked::Ship(1, 1), Told::Moved, 4, 2),
+    Step::Call(Asked::Read(b"m"), Told::Rows(&[(b"m", 0, b"")]), 5, 2),
+    Step::Call(Asked::Ship(1, 3), Told::Moved, 6, 1),
+    Step::Call(Asked::Read(b"m"), Told::Rows(&[(b"m", 0, b"")]), 7, 1),
+    Step::Whole(0, Some((1, 2))),
+    Step::Call(Asked::Ship(1, 2), Told::Moved, 8, 0),
+    Step::Call(Asked::Read(b"m"), Told::Rows(&[(b"m", 1, LONG)]), 9, 0),
+    Step::Whole(1, None),
 ];
 
 #[test]
-fn a_value_shows_with_its_last_part(rt: HostRuntime) -> Result<(), Fail> {
-    let five = write(rt.alloc(), b"m", LONG, &[])?;
-    let mut store = blob(rt.alloc())?;
-    assert_eq!(rt; store.machine().need(&five), 5);
-    assert_eq!(rt; wrong_step(rt.alloc(), &mut store, &THREE_PARTS), None);
-    assert!(rt; is_whole_to(&store, 0, Some((1, 2))));
-    assert_eq!(rt; wrong_step(rt.alloc(), &mut store, &LAST_PART), None);
-    assert!(rt; is_whole_to(&store, 1, None));
-    Ok(())
+fn a_value_shows_with_its_last_part(rt: HostRuntime) {
+    let alloc = rt.alloc();
+    assert_steps(&rt, alloc, Blob::new(alloc, 0, &[0]), &PARTS);
 }
 
+// Values of 0, 64, 65 and 256 bytes. Their writes need a unit, and one more for each part.
+static SIZES: [Step; 4] = [
+    Step::Call(Asked::Write(b"m", b"", &[]), Told::Needs(2), 0, 0),
+    Step::Call(Asked::Write(b"m", &[b'v'; 64], &[]), Told::Needs(2), 0, 0),
+    Step::Call(Asked::Write(b"m", &[b'v'; 65], &[]), Told::Needs(3), 0, 0),
+    Step::Call(Asked::Write(b"m", &[b'v'; 256], &[]), Told::Needs(5), 0, 0),
+];
+
 #[test]
-fn a_part_has_64_bytes(rt: HostRuntime) -> Result<(), Fail> {
-    let long = [b'v'; 256];
-    let store = blob(rt.alloc())?;
-    for (bytes, parts) in [(0, 1), (64, 1), (65, 2), (256, 4)] {
-        let call = write(rt.alloc(), b"m", &long[..bytes], &[])?;
-        assert_eq!(rt; store.machine().need(&call), 1 + parts, "at {bytes}");
-    }
-    Ok(())
+fn a_part_has_64_bytes(rt: HostRuntime) {
+    let alloc = rt.alloc();
+    assert_steps(&rt, alloc, Blob::new(alloc, 0, &[0]), &SIZES);
 }

@@ -1,54 +1,51 @@
 ghost use Rattle.std.specs.Prelude.{◌≤◌};
 
-use crate::made::{id, versions};
+use crate::made::{assert_of, id, lineage, versions};
 use anti_ids::{
     Bytes, Copies, Lineage, LineageRefused, List, Name, NameFault, RoomyFull, Value, ValueFault,
     WriteId,
 };
 use std::alloc::Global;
-use std::test::Fail;
+
+// Texts, and why each is no name.
+static NAMES: [(&[u8], Option<NameFault>); 5] = [
+    (b"", Some(NameFault::Empty)),
+    (&[b'a'; 33], Some(NameFault::TooLong)),
+    (b"a b", Some(NameFault::BadByte(1))),
+    (&[b'a'; 32], None),
+    (b"n#1", None),
+];
+
+// Texts, and why each is no value.
+static VALUES: [(&[u8], Option<ValueFault>); 4] = [
+    (&[b'v'; 257], Some(ValueFault::TooLong)),
+    (b"\xff", Some(ValueFault::BadUtf8)),
+    (&[b'v'; 256], None),
+    (b"", None),
+];
 
 #[test]
-fn names_and_values_are_judged(rt: HostRuntime) -> Result<(), Fail> {
-    let long = [b'a'; 33];
-    let names: [(&[u8], Option<NameFault>); 5] = [
-        (b"", Some(NameFault::Empty)),
-        (&long, Some(NameFault::TooLong)),
-        (b"a b", Some(NameFault::BadByte(1))),
-        (&long[..32], None),
-        (b"n#1", None),
-    ];
-    for (bytes, fault) in names {
-        assert!(rt; Name::new(bytes).err() == fault, "at {bytes:?}");
+fn names_and_values_are_judged(rt: HostRuntime) {
+    for (text, fault) in &NAMES {
+        assert_of(&rt, text, Name::new(text).err() == *fault);
     }
-    let text = [b'v'; 257];
-    let values: [(&[u8], Option<ValueFault>); 4] = [
-        (&text, Some(ValueFault::TooLong)),
-        (b"\xff", Some(ValueFault::BadUtf8)),
-        (&text[..256], None),
-        (b"", None),
-    ];
-    for (bytes, fault) in values {
-        assert!(rt;
-            Value::new(rt.alloc(), bytes).err() == fault,
-            "at {bytes:?}"
-        );
+    for (text, fault) in &VALUES {
+        assert_of(&rt, text, Value::new(rt.alloc(), text).err() == *fault);
     }
-    Ok(())
 }
 
-// What `Roomy::append` answers on a lineage, with room for one id, and the lineage after it.
-fn appended(lineage: Lineage, id: WriteId) -> Option<(Result<bool, RoomyFull>, Lineage)>
-    requires { 1 ≤ id.version }
+// What `Roomy::append` answers on a lineage, with room for one id, and the lineage after it. `None` where memory runs out.
+fn appended(lineage: Lineage, id: &WriteId) -> Option<(Result<bool, RoomyFull>, Lineage)>
+    requires { 1 ≤ id.now.version }
 {
     let Ok(mut roomy) = lineage.reserve(1) else {
         return None;
     };
-    let answer = roomy.append(id);
+    let answer = roomy.append(*id);
     Some((answer, roomy.into_lineage()))
 }
 
-// What `Roomy::transfer` answers on a lineage, with room for the other, and the lineage after it.
+// What `Roomy::transfer` answers on a lineage, with room for the other, and the lineage after it. `None` where memory runs out.
 fn united(lineage: Lineage, other: &Lineage) -> Option<(Result<(), RoomyFull>, Lineage)> {
     let Ok(mut roomy) = lineage.reserve(other.len()) else {
         return None;
@@ -57,99 +54,162 @@ fn united(lineage: Lineage, other: &Lineage) -> Option<(Result<(), RoomyFull>, L
     Some((answer, roomy.into_lineage()))
 }
 
-// How many ids there are after each step: the ids of two stores, one of them twice, without one, of one store.
-fn lengths(alloc: Global, one: Lineage, other: &Lineage, id: WriteId) -> Option<[u32; 6]>
-    requires { 1 ≤ id.version }
+// Whether a lineage takes an id as new just once.
+fn is_new_once(alloc: Global, id: &WriteId) -> bool
+    requires { 1 ≤ id.now.version }
 {
-    let mut lineage = one.copy(alloc).ok()?;
-    one.stop();
-    lineage.transfer(other).ok()?;
+    let mut lineage = Lineage::root(alloc);
+    lineage.append(*id) == Ok(true)
+        && lineage.contains(id)
+        && lineage.append(*id) == Ok(false)
+        && lineage.contains(id)
+}
+
+// How many ids there are after each step: the ids of two stores, one of them twice, without one, of one store; and again with it, and
+// with the other's once more. `None` where memory runs out.
+fn lengths(alloc: Global, lineage: Lineage, other: &Lineage, id: &WriteId) -> Option<[u32; 6]>
+    requires { 1 ≤ id.now.version }
+{
+    let mut lineage = lineage;
+    let Ok(()) = lineage.transfer(other) else {
+        return None;
+    };
     let both = lineage.len();
-    lineage.append(id).ok()?;
+    let Ok(_) = lineage.append(*id) else {
+        return None;
+    };
     let twice = lineage.len();
-    lineage.remove(&id);
+    lineage.remove(id);
     let without = lineage.len();
-    let of_store = lineage.ids_of(alloc, id.store).ok()?.len();
-    let (_, again) = appended(lineage, id)?;
+    let Ok(own) = lineage.ids_of(alloc, 0) else {
+        return None;
+    };
+    let Some((_, again)) = appended(lineage, id) else {
+        return None;
+    };
     let with = again.len();
-    let (_, united) = united(again, other)?;
-    Some([both, twice, without, of_store, with, united.len()])
+    let Some((_, united)) = united(again, other) else {
+        return None;
+    };
+    Some([both, twice, without, own.len(), with, united.len()])
+}
+
+// Whether lineages are sets. The one that is copied is gone by then.
+fn are_sets(alloc: Global) -> bool {
+    let Ok(id) = id(0, b"k", 2) else {
+        return false;
+    };
+    let Ok(other) = versions(alloc, 1, b"k", 4) else {
+        return false;
+    };
+    let Ok(one) = versions(alloc, 0, b"k", 3) else {
+        return false;
+    };
+    let Ok(lineage) = one.copy(alloc) else {
+        return false;
+    };
+    one.stop();
+    is_new_once(alloc, &id) && lengths(alloc, lineage, &other, &id) == Some([7, 7, 6, 2, 7, 7])
+}
+
+#[test]
+fn lineages_are_sets(rt: HostRuntime) {
+    assert!(rt; are_sets(rt.alloc()));
+}
+
+// Whether two lineages have the same ids.
+fn are_same(one: &Lineage, other: &Lineage) -> bool {
+    if one.len() != other.len() {
+        return false;
+    }
+    for index in 0..one.len() {
+        if one.at(index) != other.at(index) {
+            return false;
+        }
+    }
+    true
 }
 
 // Whether a full lineage refuses one more id in each way, and stays as it was.
-fn refuses(alloc: Global, full: &Lineage, id: WriteId) -> Option<bool>
-    requires { 1 ≤ id.version }
+fn refuses(alloc: Global, full: &Lineage, id: &WriteId, one: &Lineage) -> bool
+    requires { 1 ≤ id.now.version }
 {
-    let mut one = Lineage::root(alloc);
-    one.append(id).ok()?;
-    let mut lineage = full.copy(alloc).ok()?;
-    let by_append = lineage.append(id) == Err(LineageRefused::Full);
-    let by_transfer = lineage.transfer(&one) == Err(LineageRefused::Full);
-    let (roomy_append, lineage) = appended(lineage, id)?;
-    let (roomy_transfer, lineage) = united(lineage, &one)?;
-    let by_roomy = roomy_append == Err(RoomyFull) && roomy_transfer == Err(RoomyFull);
-    let same = lineage
-        .iter()
-        .zip(full.iter())
-        .all(|(one, other)| one == other);
-    Some(by_append && by_transfer && by_roomy && same && lineage.len() == full.len())
+    let Ok(copied) = full.copy(alloc) else {
+        return false;
+    };
+    let mut lineage = copied;
+    let by_append = lineage.append(*id) == Err(LineageRefused::Full);
+    let by_transfer = lineage.transfer(one) == Err(LineageRefused::Full);
+    let Some((roomy_append, appended)) = appended(lineage, id) else {
+        return false;
+    };
+    let Some((roomy_transfer, united)) = united(appended, one) else {
+        return false;
+    };
+    by_append
+        && by_transfer
+        && roomy_append == Err(RoomyFull)
+        && roomy_transfer == Err(RoomyFull)
+        && are_same(&united, full)
+}
+
+// Whether a full lineage refuses one more id, and can have room for it all the same.
+fn is_full(alloc: Global) -> bool {
+    let Ok(id) = id(0, b"k", 257) else {
+        return false;
+    };
+    let Ok(one) = lineage(alloc, &[(b"k", 257)]) else {
+        return false;
+    };
+    let Ok(full) = versions(alloc, 0, b"k", 256) else {
+        return false;
+    };
+    refuses(alloc, &full, &id, &one) && full.reserve(256).is_ok()
 }
 
 #[test]
-fn lineages_are_sets(rt: HostRuntime) -> Result<(), Fail> {
-    let alloc = rt.alloc();
-    let id = id(0, b"k", 2)?;
-    let mut lineage = Lineage::root(alloc);
-    for is_new in [true, false] {
-        assert!(rt; lineage.append(id) == Ok(is_new) && lineage.contains(&id));
-    }
-    let one = versions(alloc, 0, b"k", 3)?;
-    let other = versions(alloc, 1, b"k", 4)?;
-    assert_eq!(rt; lengths(alloc, one, &other, id), Some([7, 7, 6, 2, 7, 7]));
-    Ok(())
-}
-
-#[test]
-fn full_lineages_stay_as_they_were(rt: HostRuntime) -> Result<(), Fail> {
-    let full = versions(rt.alloc(), 0, b"k", 256)?;
-    let beyond = id(0, b"k", 257)?;
-    assert_eq!(rt; refuses(rt.alloc(), &full, beyond), Some(true));
-    assert!(rt; full.reserve(256).is_ok());
-    Ok(())
+fn full_lineages_stay_as_they_were(rt: HostRuntime) {
+    assert!(rt; is_full(rt.alloc()));
 }
 
 // Whether a value has a copy.
-fn is_copied(alloc: Global) -> Option<bool> {
-    let value = Value::new(alloc, b"v").ok()?;
-    let copied = value.copy(alloc).ok()?;
-    Some(copied.bytes() == value.bytes())
+fn is_copied(alloc: Global) -> bool {
+    let Ok(value) = Value::new(alloc, b"v") else {
+        return false;
+    };
+    match value.copy(alloc) {
+        Ok(copied) => copied.bytes() == value.bytes(),
+        Err(_) => false,
+    }
 }
 
-// Whether bytes have the room that they reserve, and more comes behind it; and whether they have a copy.
-fn are_bytes_kept(alloc: Global) -> Option<bool> {
+// Whether bytes have the room that they reserve, and more comes behind it; and whether they have a copy. What did not fit would be
+// missing.
+fn are_bytes_kept(alloc: Global) -> bool {
     let mut bytes = Bytes::new(alloc);
-    bytes.reserve(4).ok()?;
-    for byte in *b"abcd" {
-        bytes.push(byte).ok()?;
+    let is_reserved = bytes.reserve(4).is_ok();
+    for byte in b"abcd" {
+        let _ = bytes.push(*byte);
     }
-    bytes.append(b"ef").ok()?;
-    let copied = bytes.copy(alloc).ok()?;
-    Some(copied.bytes() == b"abcdef".as_slice())
+    let _ = bytes.append(b"ef");
+    match bytes.copy(alloc) {
+        Ok(copied) => is_reserved && copied.bytes() == b"abcdef".as_slice(),
+        Err(_) => false,
+    }
 }
 
-// How many lineages there are where room for four is reserved, and four are added.
-fn lineages_kept(alloc: Global) -> Option<usize> {
+// Whether there are four lineages where room for four is reserved, and four are added.
+fn are_lineages_kept(alloc: Global) -> bool {
     let mut lineages: List<Lineage> = List::new(alloc);
-    lineages.reserve(4).ok()?;
+    let is_reserved = lineages.reserve(4).is_ok();
     for _ in 0..4 {
-        lineages.push(Lineage::root(alloc)).ok()?;
+        let _ = lineages.push(Lineage::root(alloc));
     }
-    Some(lineages.len())
+    is_reserved && lineages.len() == 4
 }
 
 #[test]
 fn lists_have_the_room_that_they_reserve(rt: HostRuntime) {
-    assert_eq!(rt; is_copied(rt.alloc()), Some(true));
-    assert_eq!(rt; are_bytes_kept(rt.alloc()), Some(true));
-    assert_eq!(rt; lineages_kept(rt.alloc()), Some(4));
+    let alloc = rt.alloc();
+    assert!(rt; is_copied(alloc) && are_bytes_kept(alloc) && are_lineages_kept(alloc));
 }

@@ -1,32 +1,52 @@
 // Names, values, ids, lineages, messages and subscriptions, as the tests make them.
-ghost use Rattle.std.specs.Prelude.{◌≡◌, true, IfOk};
+ghost use Rattle.std.specs.Prelude.{◌≡◌, true, IfOk, IfSome};
 ghost use Rattle.anti_ids.specs.Names.{is_plain};
 
 use anti_baggage::Baggage;
 use anti_ids::{Bytes, Lineage, Name, Value, WriteId};
 use anti_kind::{Handle, Message, MessageKind, Sub};
 use std::alloc::Global;
+use std::process::Abort;
 
 /// The name that a text is.
 pub fn name(text: &[u8]) -> Result<Name, &'static str> {
-    Name::new(text).ok().ok_or("no name")
+    match Name::new(text) {
+        Ok(name) => Ok(name),
+        Err(_) => Err("no name"),
+    }
 }
 
 /// The value that a text is.
 pub fn value(alloc: Global, text: &[u8]) -> Result<Value, &'static str> {
-    Value::new(alloc, text).ok().ok_or("no value")
+    match Value::new(alloc, text) {
+        Ok(value) => Ok(value),
+        Err(_) => Err("no value"),
+    }
 }
 
 /// The id of a version of a key of a store.
 pub fn id(store: u32, key: &[u8], version: u64) -> Result<WriteId, &'static str>
     ensures { IfOk result (λ id. id.version ≡ version) }
 {
-    let key = name(key)?;
-    Ok(WriteId {
-        store,
-        key,
-        version,
-    })
+    match Name::new(key) {
+        Ok(key) => Ok(WriteId {
+            store,
+            key,
+            version,
+        }),
+        Err(_) => Err("no name"),
+    }
+}
+
+// Adds a version of a key of a store, and answers whether it may be added: it counts from 1.
+fn add(lineage: &mut Lineage, store: u32, key: &[u8], version: u64) -> bool {
+    if version == 0 {
+        return false;
+    }
+    match id(store, key, version) {
+        Ok(id) => lineage.append(id).is_ok(),
+        Err(_) => false,
+    }
 }
 
 /// The first versions of a key of a store.
@@ -38,8 +58,9 @@ pub fn versions(
 ) -> Result<Lineage, &'static str> {
     let mut lineage = Lineage::root(alloc);
     for version in 1..=count {
-        let id = id(store, key, version)?;
-        lineage.append(id).ok().ok_or("no lineage")?;
+        if !add(&mut lineage, store, key, version) {
+            return Err("no lineage");
+        }
     }
     Ok(lineage)
 }
@@ -48,11 +69,9 @@ pub fn versions(
 pub fn lineage(alloc: Global, ids: &[(&[u8], u64)]) -> Result<Lineage, &'static str> {
     let mut lineage = Lineage::root(alloc);
     for (key, version) in ids {
-        if *version == 0 {
-            return Err("no version");
+        if !add(&mut lineage, 0, key, *version) {
+            return Err("no lineage");
         }
-        let id = id(0, key, *version)?;
-        lineage.append(id).ok().ok_or("no lineage")?;
     }
     Ok(lineage)
 }
@@ -61,20 +80,22 @@ pub fn lineage(alloc: Global, ids: &[(&[u8], u64)]) -> Result<Lineage, &'static 
 pub fn handle<T: Drop>(alloc: Global, value: T) -> Result<Handle<T>, &'static str>
     ensures { IfOk result (λ handle. handle ≡ value) }
 {
-    Handle::new(alloc, value).ok().ok_or("no handle")
+    match Handle::new(alloc, value) {
+        Ok(handle) => Ok(handle),
+        Err(_) => Err("no handle"),
+    }
 }
 
-/// A message to the handler `work`, whose value is a letter.
-pub fn message(
-    alloc: Global,
-    kind: MessageKind,
-    to: u32,
-    letter: u8,
-) -> Result<Handle<Message>, &'static str>
-    ensures { IfOk result (λ m. m.kind ≡ kind) }
+/// A message to the handler `work`, whose value is a letter. `None` where memory runs out.
+pub fn message(alloc: Global, kind: MessageKind, to: u32, letter: u8) -> Option<Handle<Message>>
+    ensures { IfSome result (λ m. m.kind ≡ kind) }
 {
-    let handler = name(b"work")?;
-    let value = value(alloc, &[letter])?;
+    let Ok(handler) = Name::new(b"work") else {
+        return None;
+    };
+    let Ok(value) = Value::new(alloc, &[letter]) else {
+        return None;
+    };
     let message = Message {
         kind,
         to,
@@ -83,7 +104,7 @@ pub fn message(
         value,
         baggage: Baggage::from_text(Bytes::new(alloc)),
     };
-    handle(alloc, message)
+    Handle::new(alloc, message).ok()
 }
 
 /// A subscription to a plain channel, in region 0.
@@ -91,9 +112,16 @@ pub fn sub(channel: &[u8]) -> Result<Sub, &'static str>
     ensures region { IfOk result (λ sub. sub.region ≡ 0) }
     ensures plain { IfOk result (λ sub. is_plain sub.channel ≡ true) }
 {
-    let channel = name(channel)?;
+    let Ok(channel) = Name::new(channel) else {
+        return Err("no name");
+    };
     if !channel.plain() {
         return Err("no plain name");
     }
     Ok(Sub { channel, region: 0 })
+}
+
+/// Asserts what is to hold of a text.
+pub fn assert_of(rt: &impl Abort, text: &[u8], holds: bool) {
+    assert!(rt; holds, "at {text:?}");
 }

@@ -1,16 +1,14 @@
-use crate::kv::kv;
 use anti_ids::{Bytes, Lineage, Value};
-use std::test::Fail;
+use anti_kind::Recorded;
+use anti_kv::Kv;
 
-// Takes what may be sent to another thread.
-fn is_sent<T: Send>(_value: &T) {}
+// Stands for a type whose values may be sent to another thread.
+fn may_be_sent<T: Send>() {}
 
 #[test]
-fn values_and_objects_may_be_sent(rt: HostRuntime) -> Result<(), Fail> {
-    let alloc = rt.alloc();
-    is_sent(&Lineage::root(alloc));
-    is_sent(&Value::empty(alloc));
-    is_sent(&Bytes::new(alloc));
-    is_sent(&kv(alloc)?);
-    Ok(())
+fn values_and_objects_may_be_sent() {
+    may_be_sent::<Lineage>();
+    may_be_sent::<Value>();
+    may_be_sent::<Bytes>();
+    may_be_sent::<Recorded<Kv>>();
 }

@@ -629,8 +629,8 @@ enum Stage {
     All(Job),
 }
 
-// Goes through a stage, and says whether all goes as it should.
-fn passes<M: Machine + Send, R: Threads + Wait + Sync + AllocGlobal>(
+// Goes through a stage, and says whether all of it goes as it should.
+fn go_through<M: Machine + Send, R: Threads + Wait + Sync + AllocGlobal>(
     rt: &R,
     shared: &Shared<M>,
     pass: Pass<M>,
@@ -685,7 +685,7 @@ fn is_well<R: Threads + Wait + Sync + AllocGlobal>(
         return false;
     };
     for stage in stages {
-        let (next, well) = passes(rt, &shared, pass, stage);
+        let (next, well) = go_through(rt, &shared, pass, stage);
         pass = next;
         if !well {
             return false;

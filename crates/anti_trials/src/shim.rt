@@ -1,26 +1,105 @@
-ghost use Rattle.std.specs.Prelude.{◌≡◌, ℕ, ◌∷◌, [], true, is_some, IfOk};
-ghost use Rattle.anti_blob.specs.BlobStates as blobs;
+ghost use Rattle.std.specs.Prelude.{◌≡◌, ℕ, [], ◌∷◌, true};
 ghost use Rattle.anti_kind.specs.Lones.{lone_start};
-ghost use Rattle.anti_kv.specs.KvStates.{its_start};
-ghost use Rattle.anti_queue.specs.QueueStates as queues;
+ghost use Rattle.anti_kind.specs.Objects.{StandsFor, store};
+ghost use Rattle.anti_kind.specs.Store.{Store, is_replica};
 ghost use Rattle.anti_shim.specs.Sights.{IsHere};
-ghost use Rattle.anti_table.specs.TableStates as tables;
-ghost use Rattle.anti_topic.specs.TopicStates as topics;
 
-use crate::made::{handle, id, lineage, name, sub, value, versions};
+use crate::made::{id, lineage, name, sub, value, versions};
 use anti_blob::Blob;
-use anti_ids::{Lineage, Name, NoMemory, WriteId};
-use anti_kind::{Actor, Answer, Call, Lone, Machine, Port, Row};
+use anti_ids::{Lineage, Name, WriteId};
+use anti_kind::{Actor, Answer, Call, Lone, Machine, Port, Row, Rows};
 use anti_kv::Kv;
 use anti_queue::Queue;
 use anti_shim::{
-    Barrier, BarrierAnswer, BlobStore, Caller, KvStore, QueueStore, ReadByKey, ShimFault,
+    Barrier, BarrierAnswer, BlobShim, BlobStore, Caller, KvShim, KvStore, QueueStore, ShimFault,
     StoreShim, TableShim, TableStore, TopicShim, TopicStore, barrier, dry_run,
 };
 use anti_table::Table;
 use anti_topic::Topic;
 use std::alloc::Global;
-use std::test::Fail;
+use std::process::Abort;
+
+// A key of the store 0 and its version.
+type Version<'a> = (&'a [u8], u64);
+
+// Of a row its version, its value, and how many ids are beside it.
+type Shown<'a> = (u64, &'a [u8], u32);
+
+// The kind of store whose shim reads a row.
+enum By {
+    Kv,
+    Table,
+    Blob,
+    Topic,
+}
+
+// What is asked of a port over the store 0, of which the only replica is in region 0, or of who makes its calls.
+enum Asked<'a> {
+    // Whether the port has this object.
+    Has(u32),
+    // How many calls were made.
+    History,
+    // How many ids the lineage has.
+    Lineage,
+    // To go on with so many versions of another store as the lineage.
+    Carry(u64),
+    // To go on with this last stamp.
+    Stamp(u64),
+    // To write a value to a key, with the lineage.
+    Write(&'a [u8], &'a [u8]),
+    // To write the value `v` to a key, as a caller that has made no call, with the empty lineage.
+    Put(&'a [u8]),
+    // To bring a part of a version to the region; the next time it is the next version.
+    Ship(u64, u32),
+    // To wait for the lineage.
+    Wait,
+    // To read a key, or to poll that of a cell.
+    Read(By, &'a [u8]),
+    // To scan the keys that begin with a prefix.
+    Scan(&'a [u8]),
+    // A barrier for these ids that begins now, of a caller that has made no call.
+    Barrier(&'a [Version<'a>]),
+    // A dry run of these ids, of a caller that has made no call.
+    DryRun(&'a [Version<'a>]),
+}
+
+// What is told.
+enum Told<'a> {
+    // That it was done, or that there is such an object.
+    Done,
+    // That there is no such object.
+    Absent,
+    // How many there are; of a barrier, the sights.
+    Count(usize),
+    // The id of what was written, which the lineage then has.
+    Wrote(&'a [u8], u64),
+    // The row.
+    Row(Shown<'a>),
+    // The rows.
+    Rows(&'a [Shown<'a>]),
+    // The ids.
+    Ids(&'a [Version<'a>]),
+    // That it is not ready.
+    NotYet,
+    // That the store holds and owes so many units, and so many are needed.
+    Full((u32, u32, u32)),
+    // That there is no stamp behind this one.
+    Spent(u64),
+    // That nobody wrote this.
+    Unwritten(&'a [u8], u64),
+    // That this was written, and the lineage is full.
+    LineageFull(&'a [u8], u64),
+}
+
+// What is asked, what is told, and how often.
+struct Step<'a>(Asked<'a>, Told<'a>, u64);
+
+// Who makes the calls, and the lineage that it carries.
+#[derive(Drop)]
+struct Session {
+    who: Caller,
+    lineage: Lineage,
+}
 
 // A caller that has made no call.
 fn caller() -> Caller {
@@ -31,475 +110,489 @@ fn caller() -> Caller {
     }
 }
 
-// A port over the store 0, of which the only replica is in region 0.
-#[tactic(auto, using(crate::proofs::Here::here_alone))]
-fn port(alloc: Global) -> Result<Lone<Kv>, NoMemory>
-    ensures here { IfOk result (λ port. IsHere (lone_start its_start port) 0 (0 ∷ [])) }
-    ensures there { IfOk result (λ port. is_some (lone_start its_start port 0) ≡ true) }
-{
-    let store = Kv::new(alloc, 0, &[0])?;
-    match Lone::new(alloc, 0, store) {
-        Ok(port) => Ok(port),
-        Err(_) => Err(NoMemory),
+// Such a caller, with the empty lineage.
+fn fresh(alloc: Global) -> Session {
+    Session {
+        who: caller(),
+        lineage: Lineage::root(alloc),
     }
 }
 
-// Whether a port made a call, and else why not.
-fn made(answer: &Answer) -> Result<(), ShimFault> {
-    match answer {
-        Answer::Made { .. } => Ok(()),
-        Answer::NotYet => Err(ShimFault::NotYet),
-        Answer::Full { held, owed, need } => Err(ShimFault::Full {
-            held: *held,
-            owed: *owed,
-            need: *need,
-        }),
-        Answer::Spent { clock } => Err(ShimFault::Spent { clock: *clock }),
-        Answer::NoMemory => Err(ShimFault::NoMemory),
+// Whether an id is this version of a key of the store 0.
+fn is_id(id: &WriteId, key: &[u8], version: u64) -> bool {
+    id.store == 0 && id.key.bytes() == key && id.version == version
+}
+
+// Whether a count is what is told.
+fn is_count(count: usize, told: &Told) -> bool {
+    matches!(told, Told::Count(wanted) if *wanted == count)
+}
+
+// Whether a fault is what is told.
+fn is_fault(fault: &ShimFault, told: &Told) -> bool {
+    match (fault, told) {
+        (ShimFault::NotYet, Told::NotYet) => true,
+        (ShimFault::Full { held, owed, need }, Told::Full(full)) => (*held, *owed, *need) == *full,
+        (ShimFault::Spent { clock }, Told::Spent(last)) => clock == last,
+        (ShimFault::Unwritten(id), Told::Unwritten(key, version)) => is_id(id, key, *version),
+        (ShimFault::LineageFull(id), Told::LineageFull(key, version)) => is_id(id, key, *version),
+        _ => false,
     }
 }
 
-// How many sights a barrier gives, and else why it gives none.
-fn sights_of(answer: &BarrierAnswer) -> Result<usize, ShimFault> {
-    match answer {
-        BarrierAnswer::Clear(sights) => Ok(sights.len()),
-        BarrierAnswer::NotYet => Err(ShimFault::NotYet),
-        BarrierAnswer::Unwritten(id) => Err(ShimFault::Unwritten(*id)),
-        BarrierAnswer::Full { held, owed, need } => Err(ShimFault::Full {
-            held: *held,
-            owed: *owed,
-            need: *need,
-        }),
-        BarrierAnswer::Spent { clock } => Err(ShimFault::Spent { clock: *clock }),
-        BarrierAnswer::NoMemory => Err(ShimFault::NoMemory),
+// Whether a write, which left this lineage, gave what is told.
+fn is_written(wrote: &Result<WriteId, ShimFault>, lineage: &Lineage, told: &Told) -> bool {
+    match (wrote, told) {
+        (Ok(_), Told::Done) => true,
+        (Ok(id), Told::Wrote(key, version)) => is_id(id, key, *version) && lineage.contains(id),
+        (Ok(_), _) => false,
+        (Err(fault), _) => is_fault(fault, told),
     }
 }
 
-// Brings a version to the region.
-#[tactic(auto, using(crate::proofs::Here::here_stays))]
-fn ship(port: &mut Lone<Kv>, version: u64) -> Result<(), ShimFault>
-    requires { IsHere (lone_start its_start port.old) 0 (0 ∷ []) }
-    ensures { IsHere (lone_start its_start port.new) 0 (0 ∷ []) }
-{
-    let ship = Call::Ship {
-        region: 0,
-        version,
-        part: 1,
+// Whether a row is such.
+fn is_row(row: &Row, (version, value, ids): &Shown) -> bool {
+    row.version == *version && row.value.bytes() == *value && row.lineage.len() == *ids
+}
+
+// Whether a read gave what is told.
+fn is_read(row: &Result<Row, ShimFault>, told: &Told) -> bool {
+    match (row, told) {
+        (Ok(row), Told::Row(wanted)) => is_row(row, wanted),
+        (Ok(_), _) => false,
+        (Err(fault), _) => is_fault(fault, told),
+    }
+}
+
+// Whether a scan gave the rows that are told, each in its place.
+fn are_scanned(rows: &Result<Rows, ShimFault>, told: &Told) -> bool {
+    let (Ok(rows), Told::Rows(wanted)) = (rows, told) else {
+        return false;
     };
-    made(&port.call(0, Actor::Carrier(0), 0, 0, ship))
+    for (row, shown) in rows.as_slice().iter().zip(*wanted) {
+        if !is_row(row, shown) {
+            return false;
+        }
+    }
+    rows.len() == wanted.len()
 }
 
-// Reads a key, where the last stamp of who reads it is the last there is.
-#[tactic(auto, using(crate::proofs::Here::here_stays))]
-fn read_too_late(port: &mut Lone<Kv>, key: Name) -> Result<(), ShimFault>
-    requires { IsHere (lone_start its_start port.old) 0 (0 ∷ []) }
-    ensures { IsHere (lone_start its_start port.new) 0 (0 ∷ []) }
-{
-    let read = Call::Read { region: 0, key };
-    made(&port.call(0, Actor::Carrier(0), 0, u64::MAX, read))
+// Whether a shipment was answered as is told.
+fn is_answered(answer: &Answer, told: &Told) -> bool {
+    match (answer, told) {
+        (Answer::Made { .. }, Told::Done) => true,
+        (Answer::NotYet, Told::NotYet) => true,
+        _ => false,
+    }
 }
 
-// Writes the value `v` to a key, with the empty lineage.
-#[tactic(auto, using(crate::proofs::Here::here_stays))]
-fn write(alloc: Global, port: &mut Lone<Kv>, key: Name) -> Option<Result<(), ShimFault>>
-    requires { IsHere (lone_start its_start port.old) 0 (0 ∷ []) }
-    ensures { IsHere (lone_start its_start port.new) 0 (0 ∷ []) }
+// Whether a barrier answered what is told.
+fn is_held(answer: &BarrierAnswer, told: &Told) -> bool {
+    match (answer, told) {
+        (BarrierAnswer::Clear(sights), _) => is_count(sights.len(), told),
+        (BarrierAnswer::NotYet, Told::NotYet) => true,
+        (BarrierAnswer::Unwritten(id), Told::Unwritten(key, version)) => is_id(id, key, *version),
+        _ => false,
+    }
+}
+
+// Whether a dry run named just the ids that are told.
+fn are_named(missing: &Result<Lineage, ShimFault>, told: &Told) -> bool {
+    let (Ok(missing), Told::Ids(wanted)) = (missing, told) else {
+        return false;
+    };
+    for (key, version) in *wanted {
+        let Ok(id) = id(0, key, *version) else {
+            return false;
+        };
+        if !missing.contains(&id) {
+            return false;
+        }
+    }
+    missing.len() as usize == wanted.len()
+}
+
+// Goes on with so many versions of the store 1 as the lineage.
+fn carries(alloc: Global, session: &mut Session, count: u64) -> bool {
+    let Ok(lineage) = versions(alloc, 1, b"k", count) else {
+        return false;
+    };
+    session.lineage = lineage;
+    true
+}
+
+// Whether a write goes so.
+fn writes<K, M: Machine>(
+    alloc: Global,
+    port: &mut Lone<M>,
+    session: &mut Session,
+    key: &[u8],
+    text: &[u8],
+    told: &Told,
+) -> bool
+    requires { IsHere (lone_start M.start port.old) 0 (0 ∷ []) }
+    ensures { (o : ℕ) → lone_start M.start port.new o ≡ lone_start M.start port.old o }
 {
-    let value = value(alloc, b"v").ok()?;
-    let lineage = Lineage::root(alloc);
-    let write = Call::Write {
-        key: handle(alloc, key).ok()?,
+    let Ok(key) = name(key) else {
+        return false;
+    };
+    let Ok(value) = value(alloc, text) else {
+        return false;
+    };
+    let store: StoreShim<K> = StoreShim::new(0, 0);
+    let wrote = store.write(
+        alloc,
+        port,
+        &mut session.who,
+        key,
         value,
-        lineage: handle(alloc, lineage).ok()?,
-    };
-    Some(made(&port.call(0, Actor::Carrier(0), 0, 0, write)))
+        &mut session.lineage,
+    );
+    is_written(&wrote, &session.lineage, told)
 }
 
-// What a barrier answers that begins now.
-#[tactic(auto, using(crate::proofs::Here::here_stays))]
-fn held(alloc: Global, port: &mut Lone<Kv>, lineage: &Lineage) -> Result<usize, ShimFault>
-    requires { IsHere (lone_start its_start port.old) 0 (0 ∷ []) }
-    ensures { IsHere (lone_start its_start port.new) 0 (0 ∷ []) }
-{
-    let mut who = caller();
-    let mut cursor = Barrier::begin(alloc);
-    sights_of(&barrier(alloc, port, &mut who, 0, &[0], lineage, &mut cursor))
-}
-
-// Whether these ids are all that a lineage has.
-fn are_all_of(lineage: &Lineage, ids: &[WriteId]) -> bool {
-    lineage.len() as usize == ids.len() && ids.iter().all(|id| lineage.contains(id))
-}
-
-// Whether a dry run names just these ids.
-#[tactic(auto, using(crate::proofs::Here::here_stays))]
-fn names(alloc: Global, port: &mut Lone<Kv>, lineage: &Lineage, ids: &[WriteId]) -> bool
-    requires { IsHere (lone_start its_start port.old) 0 (0 ∷ []) }
-    ensures { IsHere (lone_start its_start port.new) 0 (0 ∷ []) }
-{
-    let mut who = caller();
-    match dry_run(alloc, port, &mut who, 0, &[0], lineage) {
-        Ok(missing) => are_all_of(&missing, ids),
-        Err(_) => false,
-    }
-}
-
-// The answer to a write that finds no room for itself and the shipment that it would owe.
-const NO_ROOM: ShimFault = ShimFault::Full {
-    held: 2048,
-    owed: 2048,
-    need: 2,
-};
-
-#[test]
-fn a_port_refuses_with_the_cause(rt: HostRuntime) -> Result<(), Fail> {
-    let alloc = rt.alloc();
-    let key = name(b"k")?;
-    let mut port = port(alloc)?;
-    assert!(rt; port.has(0));
-    assert!(rt; !port.has(1));
-    let spent = ShimFault::Spent { clock: u64::MAX };
-    assert!(rt; read_too_late(&mut port, key) == Err(spent));
-    assert!(rt; ship(&mut port, 1) == Err(ShimFault::NotYet));
-    for version in 1..=2048 {
-        assert!(rt;
-            write(alloc, &mut port, key) == Some(Ok(())),
-            "write {version}"
-        );
-    }
-    assert!(rt; write(alloc, &mut port, key) == Some(Err(NO_ROOM)));
-    for version in 1..=2048 {
-        assert!(rt; ship(&mut port, version) == Ok(()), "shipment {version}");
-    }
-    assert_eq!(rt; port.history().len(), 4096);
-    Ok(())
-}
-
-#[test]
-fn a_barrier_waits_for_the_shipment(rt: HostRuntime) -> Result<(), Fail> {
-    let alloc = rt.alloc();
-    let key = name(b"k")?;
-    let first = id(0, b"k", 1)?;
-    let ninth = id(0, b"k", 9)?;
-    let never = lineage(alloc, &[(b"k", 9)])?;
-    let lineage = lineage(alloc, &[(b"k", 1)])?;
-    let mut port = port(alloc)?;
-    assert!(rt; held(alloc, &mut port, &never) == Err(ShimFault::Unwritten(ninth)));
-    assert!(rt; write(alloc, &mut port, key) == Some(Ok(())));
-    assert!(rt; held(alloc, &mut port, &lineage) == Err(ShimFault::NotYet));
-    assert!(rt; names(alloc, &mut port, &lineage, &[first]));
-    assert!(rt; ship(&mut port, 1) == Ok(()));
-    assert!(rt; held(alloc, &mut port, &lineage) == Ok(1));
-    assert!(rt; names(alloc, &mut port, &lineage, &[]));
-    Ok(())
-}
-
-// A port over the table 0, of which the only replica is in region 0.
-fn table_port(alloc: Global) -> Result<Lone<Table>, NoMemory>
-    ensures { IfOk result (λ port. is_some (lone_start tables.its_start port 0) ≡ true) }
-{
-    let table = Table::new(alloc, 0, &[0])?;
-    match Lone::new(alloc, 0, table) {
-        Ok(port) => Ok(port),
-        Err(_) => Err(NoMemory),
-    }
-}
-
-// A port over the store 0 of blobs, of which the only replica is in region 0.
-fn blob_port(alloc: Global) -> Result<Lone<Blob>, NoMemory>
-    ensures { IfOk result (λ port. is_some (lone_start blobs.its_start port 0) ≡ true) }
-{
-    let blobs = Blob::new(alloc, 0, &[0])?;
-    match Lone::new(alloc, 0, blobs) {
-        Ok(port) => Ok(port),
-        Err(_) => Err(NoMemory),
-    }
-}
-
-// A port over the queue 0, of which the only replica is in region 0, with two subscriptions.
-#[tactic(auto, using(crate::proofs::Subscribed::queue_starts))]
-fn queue_port(alloc: Global) -> Result<Lone<Queue>, Fail>
-    ensures { IfOk result (λ port. is_some (lone_start queues.its_start port 0) ≡ true) }
-{
-    let first = sub(b"n")?;
-    let second = sub(b"n")?;
-    let queue = Queue::new(alloc, 0, &[0], &[first, second], 2)?;
-    match Lone::new(alloc, 0, queue) {
-        Ok(port) => Ok(port),
-        Err(_) => Err("no memory".into()),
-    }
-}
-
-// A port over the topic 0, of which the only replica is in region 0, with two subscriptions.
-#[tactic(auto, using(crate::proofs::Subscribed::topic_starts))]
-fn topic_port(alloc: Global) -> Result<Lone<Topic>, Fail>
-    ensures { IfOk result (λ port. is_some (lone_start topics.its_start port 0) ≡ true) }
-{
-    let first = sub(b"n")?;
-    let second = sub(b"n")?;
-    let topic = Topic::new(alloc, 0, &[0], &[first, second])?;
-    match Lone::new(alloc, 0, topic) {
-        Ok(port) => Ok(port),
-        Err(_) => Err("no memory".into()),
-    }
-}
-
-// Brings a part of a version to the region.
-fn ship_part<M: Machine>(port: &mut Lone<M>, version: u64, part: u32) -> Result<(), ShimFault>
-    requires { is_some (lone_start M.start port.old 0) ≡ true }
-    ensures { is_some (lone_start M.start port.new 0) ≡ true }
+// Whether a shipment goes so.
+fn ships<M: Machine>(port: &mut Lone<M>, version: u64, part: u32, told: &Told) -> bool
+    requires { IsHere (lone_start M.start port.old) 0 (0 ∷ []) }
+    ensures { (o : ℕ) → lone_start M.start port.new o ≡ lone_start M.start port.old o }
 {
     let ship = Call::Ship {
         region: 0,
         version,
         part,
     };
-    made(&port.call(0, Actor::Carrier(0), 0, 0, ship))
+    let answer = port.call(0, Actor::Carrier(0), 0, 0, ship);
+    is_answered(&answer, told)
 }
 
-// What a write to the store 0 answers. `None` where memory runs out.
-fn written<K, M: Machine>(
+// Whether a wait goes so.
+fn waits<K, M: Machine>(
     alloc: Global,
     port: &mut Lone<M>,
-    who: &mut Caller,
-    key: Name,
-    text: &[u8],
-    lineage: &mut Lineage,
-) -> Option<Result<WriteId, ShimFault>>
-    requires { is_some (lone_start M.start port.old 0) ≡ true }
-    ensures { is_some (lone_start M.start port.new 0) ≡ true }
+    session: &mut Session,
+    told: &Told,
+) -> bool
+    requires { IsHere (lone_start M.start port.old) 0 (0 ∷ []) }
+    ensures { (o : ℕ) → lone_start M.start port.new o ≡ lone_start M.start port.old o }
 {
-    let value = value(alloc, text).ok()?;
     let store: StoreShim<K> = StoreShim::new(0, 0);
-    Some(store.write(alloc, port, who, key, value, lineage))
+    match store.wait(alloc, port, &mut session.who, &session.lineage) {
+        Ok(_) => matches!(told, Told::Done),
+        Err(fault) => is_fault(&fault, told),
+    }
 }
 
-// Why a wait at the store 0 gives no sight. `None` where it gives one.
-fn unseen<K, M: Machine>(
+// What the shim of a kind reads.
+fn row_by<M: Machine>(
+    port: &mut Lone<M>,
+    who: &mut Caller,
+    by: &By,
+    key: Name,
+) -> Result<Row, ShimFault>
+    requires { IsHere (lone_start M.start port.old) 0 (0 ∷ []) }
+    ensures { (o : ℕ) → lone_start M.start port.new o ≡ lone_start M.start port.old o }
+{
+    match by {
+        By::Kv => KvShim::new(0, 0).read(port, who, key),
+        By::Table => TableShim::new(0, 0).read(port, who, key),
+        By::Blob => BlobShim::new(0, 0).read(port, who, key),
+        By::Topic => TopicShim::new(0, 0).poll(port, who, key),
+    }
+}
+
+// Whether a read goes so.
+fn reads<M: Machine>(port: &mut Lone<M>, who: &mut Caller, by: &By, key: &[u8], told: &Told) -> bool
+    requires { IsHere (lone_start M.start port.old) 0 (0 ∷ []) }
+    ensures { (o : ℕ) → lone_start M.start port.new o ≡ lone_start M.start port.old o }
+{
+    let Ok(key) = name(key) else {
+        return false;
+    };
+    let row = row_by(port, who, by, key);
+    is_read(&row, told)
+}
+
+// Whether a scan goes so.
+fn scans<M: Machine>(port: &mut Lone<M>, who: &mut Caller, prefix: &[u8], told: &Told) -> bool
+    requires { IsHere (lone_start M.start port.old) 0 (0 ∷ []) }
+    ensures { (o : ℕ) → lone_start M.start port.new o ≡ lone_start M.start port.old o }
+{
+    let Ok(prefix) = name(prefix) else {
+        return false;
+    };
+    let rows = TableShim::new(0, 0).scan(port, who, prefix);
+    are_scanned(&rows, told)
+}
+
+// Whether a barrier goes so.
+fn holds<M: Machine>(alloc: Global, port: &mut Lone<M>, ids: &[Version], told: &Told) -> bool
+    requires { IsHere (lone_start M.start port.old) 0 (0 ∷ []) }
+    ensures { (o : ℕ) → lone_start M.start port.new o ≡ lone_start M.start port.old o }
+{
+    let Ok(lineage) = lineage(alloc, ids) else {
+        return false;
+    };
+    let mut cursor = Barrier::begin(alloc);
+    let answer = barrier(alloc, port, &mut caller(), 0, &[0], &lineage, &mut cursor);
+    is_held(&answer, told)
+}
+
+// Whether a dry run goes so.
+fn names<M: Machine>(alloc: Global, port: &mut Lone<M>, ids: &[Version], told: &Told) -> bool
+    requires { IsHere (lone_start M.start port.old) 0 (0 ∷ []) }
+    ensures { (o : ℕ) → lone_start M.start port.new o ≡ lone_start M.start port.old o }
+{
+    let Ok(lineage) = lineage(alloc, ids) else {
+        return false;
+    };
+    let missing = dry_run(alloc, port, &mut caller(), 0, &[0], &lineage);
+    are_named(&missing, told)
+}
+
+// Whether a step goes as it says, at its turn.
+fn goes_once<K, M: Machine>(
     alloc: Global,
     port: &mut Lone<M>,
-    who: &mut Caller,
-    lineage: &Lineage,
-) -> Option<ShimFault>
-    requires { is_some (lone_start M.start port.old 0) ≡ true }
-    ensures { is_some (lone_start M.start port.new 0) ≡ true }
+    session: &mut Session,
+    step: &Step,
+    turn: u64,
+) -> bool
+    requires { IsHere (lone_start M.start port.old) 0 (0 ∷ []) }
+    ensures { (o : ℕ) → lone_start M.start port.new o ≡ lone_start M.start port.old o }
 {
-    let store: StoreShim<K> = StoreShim::new(0, 0);
-    match store.wait(alloc, port, who, lineage) {
-        Ok(_) => None,
-        Err(fault) => Some(fault),
+    let Step(asked, told, _) = step;
+    match asked {
+        Asked::Has(object) => port.has(*object) == matches!(told, Told::Done),
+        Asked::History => is_count(port.history().len(), told),
+        Asked::Lineage => is_count(session.lineage.len() as usize, told),
+        Asked::Carry(count) => carries(alloc, session, *count),
+        Asked::Stamp(clock) => {
+            session.who.clock = *clock;
+            true
+        }
+        Asked::Write(key, text) => writes::<K, M>(alloc, port, session, key, text, told),
+        Asked::Put(key) => writes::<K, M>(alloc, port, &mut fresh(alloc), key, b"v", told),
+        Asked::Ship(version, part) => ships(port, version.saturating_add(turn), *part, told),
+        Asked::Wait => waits::<K, M>(alloc, port, session, told),
+        Asked::Read(by, key) => reads(port, &mut session.who, by, key, told),
+        Asked::Scan(prefix) => scans(port, &mut session.who, prefix, told),
+        Asked::Barrier(ids) => holds(alloc, port, ids, told),
+        Asked::DryRun(ids) => names(alloc, port, ids, told),
     }
 }
 
-// Whether a row has this version, this value and so many ids beside it.
-fn is_row(row: &Row, version: u64, value: &[u8], ids: u32) -> bool {
-    row.version == version && row.value.bytes() == value && row.lineage.len() == ids
-}
-
-// Whether rows are such, each in its place.
-fn are_rows(rows: &[Row], wanted: &[(u64, &[u8], u32)]) -> bool {
-    rows.len() == wanted.len()
-        && rows.iter().zip(wanted).all(|(row, (version, value, ids))| is_row(
-            row, *version, value, *ids,
-        ))
-}
-
-// Whether a read of the store 0 shows such a row.
-fn shows<K: ReadByKey, M: Machine>(
+// Whether a step goes as it says, each time.
+fn goes<K, M: Machine>(
+    alloc: Global,
     port: &mut Lone<M>,
-    who: &mut Caller,
-    key: Name,
-    version: u64,
-    value: &[u8],
-    ids: u32,
+    session: &mut Session,
+    step: &Step,
 ) -> bool
-    requires { is_some (lone_start M.start port.old 0) ≡ true }
-    ensures { is_some (lone_start M.start port.new 0) ≡ true }
+    requires { IsHere (lone_start M.start port.old) 0 (0 ∷ []) }
+    ensures { IsHere (lone_start M.start port.new) 0 (0 ∷ []) }
 {
-    let store: StoreShim<K> = StoreShim::new(0, 0);
-    match store.read(port, who, key) {
-        Ok(row) => is_row(&row, version, value, ids),
-        Err(_) => false,
+    for turn in 0..step.2 {
+        if !goes_once::<K, M>(alloc, port, session, step, turn) {
+            return false;
+        }
     }
+    true
 }
 
-// Whether a poll of the topic 0 shows such a row.
-fn polls(port: &mut Lone<Topic>, who: &mut Caller, key: Name, version: u64, value: &[u8]) -> bool
-    requires { is_some (lone_start topics.its_start port.old 0) ≡ true }
-    ensures { is_some (lone_start topics.its_start port.new 0) ≡ true }
+// The first of these steps that does not go as it says, or for which memory runs out, at a port over a store that is at its
+// start. `None` where each does.
+fn wrong_step<K, M: Machine + Drop>(alloc: Global, start: M, steps: &[Step]) -> Option<usize>
+    requires fresh { StandsFor (M.start start) (M.Stands start) [] }
+    requires here { (s : Store) × (M.start start ≡ store s) × (s.number ≡ 0) × (is_replica s 0 ≡ true) }
 {
-    let topic = TopicShim::new(0, 0);
-    match topic.poll(port, who, key) {
-        Ok(row) => is_row(&row, version, value, 0),
-        Err(_) => false,
+    let Ok(mut port) = Lone::new(alloc, 0, start) else {
+        return Some(0);
+    };
+    let mut session = fresh(alloc);
+    for (place, step) in steps.iter().enumerate() {
+        if !goes::<K, M>(alloc, &mut port, &mut session, step) {
+            return Some(place);
+        }
     }
+    None
 }
 
-// Whether a scan of the table 0 shows rows with these versions and values, and so many ids beside each.
-fn scans(
-    port: &mut Lone<Table>,
-    who: &mut Caller,
-    prefix: Name,
-    wanted: &[(u64, &[u8], u32)],
-) -> bool
-    requires { is_some (lone_start tables.its_start port.old 0) ≡ true }
-    ensures { is_some (lone_start tables.its_start port.new 0) ≡ true }
-{
-    let table = TableShim::new(0, 0);
-    match table.scan(port, who, prefix) {
-        Ok(found) => are_rows(found.as_slice(), wanted),
-        Err(_) => false,
-    }
+// Asserts that no step is wrong.
+fn assert_right(rt: &impl Abort, wrong: Option<usize>) {
+    assert!(rt; wrong.is_none(), "step {wrong:?}");
 }
+
+// The first wrong step at a port over a kv store.
+fn wrong_step_of_kv(alloc: Global, steps: &[Step]) -> Option<usize> {
+    let Ok(store) = Kv::new(alloc, 0, &[0]) else {
+        return Some(0);
+    };
+    wrong_step::<KvStore, Kv>(alloc, store, steps)
+}
+
+// A store that is filled, where a write with no room finds none for itself and the shipment that it would owe.
+static REFUSED: [Step; 9] = [
+    Step(Asked::Has(0), Told::Done, 1),
+    Step(Asked::Has(1), Told::Absent, 1),
+    Step(Asked::Stamp(u64::MAX), Told::Done, 1),
+    Step(Asked::Read(By::Kv, b"k"), Told::Spent(u64::MAX), 1),
+    Step(Asked::Ship(1, 1), Told::NotYet, 1),
+    Step(Asked::Put(b"k"), Told::Done, 2048),
+    Step(Asked::Put(b"k"), Told::Full((2048, 2048, 2)), 1),
+    Step(Asked::Ship(1, 1), Told::Done, 2048),
+    Step(Asked::History, Told::Count(4096), 1),
+];
 
 #[test]
-fn a_write_carries_and_stores_the_lineage(rt: HostRuntime) -> Result<(), Fail> {
-    let alloc = rt.alloc();
-    let key = name(b"k")?;
-    let first = id(0, b"k", 1)?;
-    let second = id(0, b"k", 2)?;
-    let mut full = versions(alloc, 1, b"k", 256)?;
-    let mut lineage = Lineage::root(alloc);
-    let mut who = caller();
-    let mut port = port(alloc)?;
-    let refused = written::<KvStore, Kv>(alloc, &mut port, &mut who, key, b"a", &mut full);
-    assert!(rt; refused == Some(Err(ShimFault::LineageFull(first))));
-    assert_eq!(rt; full.len(), 256);
-    let written = written::<KvStore, Kv>(alloc, &mut port, &mut who, key, b"b", &mut lineage);
-    assert!(rt; written == Some(Ok(second)));
-    assert!(rt; lineage.contains(&second));
-    assert!(rt;
-        unseen::<KvStore, Kv>(alloc, &mut port, &mut who, &lineage) == Some(ShimFault::NotYet)
-    );
-    assert!(rt; ship_part(&mut port, 2, 1) == Ok(()));
-    assert!(rt; unseen::<KvStore, Kv>(alloc, &mut port, &mut who, &lineage) == None);
-    assert!(rt; shows::<KvStore, Kv>(&mut port, &mut who, key, 2, b"b", 0));
-    assert_eq!(rt; port.history().len(), 5);
-    Ok(())
+fn a_port_refuses_with_the_cause(rt: HostRuntime) {
+    assert_right(&rt, wrong_step_of_kv(rt.alloc(), &REFUSED));
 }
 
-// Whether a write to the table 0 of a text under itself was made. `None` where memory runs out or the text is no key.
-fn is_entered(
-    alloc: Global,
-    port: &mut Lone<Table>,
-    who: &mut Caller,
-    text: &[u8],
-    lineage: &mut Lineage,
-) -> Option<bool>
-    requires { is_some (lone_start tables.its_start port.old 0) ≡ true }
-    ensures { is_some (lone_start tables.its_start port.new 0) ≡ true }
-{
-    let key = Name::new(text).ok()?;
-    let answer = written::<TableStore, Table>(alloc, port, who, key, text, lineage)?;
-    Some(answer.is_ok())
-}
+// A barrier for an id that nobody wrote, and for one before and behind its shipment.
+static HELD: [Step; 7] = [
+    Step(Asked::Barrier(&[(b"k", 9)]), Told::Unwritten(b"k", 9), 1),
+    Step(Asked::Put(b"k"), Told::Done, 1),
+    Step(Asked::Barrier(&[(b"k", 1)]), Told::NotYet, 1),
+    Step(Asked::DryRun(&[(b"k", 1)]), Told::Ids(&[(b"k", 1)]), 1),
+    Step(Asked::Ship(1, 1), Told::Done, 1),
+    Step(Asked::Barrier(&[(b"k", 1)]), Told::Count(1), 1),
+    Step(Asked::DryRun(&[(b"k", 1)]), Told::Ids(&[]), 1),
+];
 
 #[test]
-fn a_scan_shows_the_rows_of_a_prefix(rt: HostRuntime) -> Result<(), Fail> {
-    let alloc = rt.alloc();
-    let prefix = name(b"k")?;
-    let mut lineage = Lineage::root(alloc);
-    let mut who = caller();
-    let mut port = table_port(alloc)?;
-    assert_eq!(rt;
-        is_entered(alloc, &mut port, &mut who, b"k2", &mut lineage),
-        Some(true)
-    );
-    assert_eq!(rt;
-        is_entered(alloc, &mut port, &mut who, b"j1", &mut lineage),
-        Some(true)
-    );
-    assert_eq!(rt;
-        is_entered(alloc, &mut port, &mut who, b"k1", &mut lineage),
-        Some(true)
-    );
-    assert_eq!(rt; lineage.len(), 3);
-    assert!(rt; scans(&mut port, &mut who, prefix, &[]));
-    let fault = unseen::<TableStore, Table>(alloc, &mut port, &mut who, &lineage);
-    assert!(rt; fault == Some(ShimFault::NotYet));
-    assert!(rt; ship_part(&mut port, 1, 1) == Ok(()));
-    assert!(rt; ship_part(&mut port, 2, 1) == Ok(()));
-    assert!(rt; ship_part(&mut port, 3, 1) == Ok(()));
-    let fault = unseen::<TableStore, Table>(alloc, &mut port, &mut who, &lineage);
-    assert!(rt; fault == None);
-    assert!(rt; scans(&mut port, &mut who, prefix, &[(3, b"k1", 2), (1, b"k2", 0)]));
-    assert!(rt; shows::<TableStore, Table>(&mut port, &mut who, prefix, 0, b"", 0));
-    Ok(())
+fn a_barrier_waits_for_the_shipment(rt: HostRuntime) {
+    assert_right(&rt, wrong_step_of_kv(rt.alloc(), &HELD));
+}
+
+// A write with a full lineage, and one with the empty lineage.
+static CARRIED: [Step; 10] = [
+    Step(Asked::Carry(256), Told::Done, 1),
+    Step(Asked::Write(b"k", b"a"), Told::LineageFull(b"k", 1), 1),
+    Step(Asked::Lineage, Told::Count(256), 1),
+    Step(Asked::Carry(0), Told::Done, 1),
+    Step(Asked::Write(b"k", b"b"), Told::Wrote(b"k", 2), 1),
+    Step(Asked::Wait, Told::NotYet, 1),
+    Step(Asked::Ship(2, 1), Told::Done, 1),
+    Step(Asked::Wait, Told::Done, 1),
+    Step(Asked::Read(By::Kv, b"k"), Told::Row((2, b"b", 0)), 1),
+    Step(Asked::History, Told::Count(5), 1),
+];
+
+#[test]
+fn a_write_carries_and_stores_the_lineage(rt: HostRuntime) {
+    assert_right(&rt, wrong_step_of_kv(rt.alloc(), &CARRIED));
+}
+
+// The first wrong step at a port over a table.
+fn wrong_step_of_table(alloc: Global, steps: &[Step]) -> Option<usize> {
+    let Ok(store) = Table::new(alloc, 0, &[0]) else {
+        return Some(0);
+    };
+    wrong_step::<TableStore, Table>(alloc, store, steps)
+}
+
+// Two rows with a prefix and one without it.
+static SCANNED: [Step; 10] = [
+    Step(Asked::Write(b"k2", b"k2"), Told::Wrote(b"k2", 1), 1),
+    Step(Asked::Write(b"j1", b"j1"), Told::Wrote(b"j1", 2), 1),
+    Step(Asked::Write(b"k1", b"k1"), Told::Wrote(b"k1", 3), 1),
+    Step(Asked::Lineage, Told::Count(3), 1),
+    Step(Asked::Scan(b"k"), Told::Rows(&[]), 1),
+    Step(Asked::Wait, Told::NotYet, 1),
+    Step(Asked::Ship(1, 1), Told::Done, 3),
+    Step(Asked::Wait, Told::Done, 1),
+    Step(
+        Asked::Scan(b"k"),
+        Told::Rows(&[(3, b"k1", 2), (1, b"k2", 0)]),
+        1,
+    ),
+    Step(Asked::Read(By::Table, b"k"), Told::Row((0, b"", 0)), 1),
+];
+
+#[test]
+fn a_scan_shows_the_rows_of_a_prefix(rt: HostRuntime) {
+    assert_right(&rt, wrong_step_of_table(rt.alloc(), &SCANNED));
+}
+
+// The first wrong step at a port over a store of blobs.
+fn wrong_step_of_blobs(alloc: Global, steps: &[Step]) -> Option<usize> {
+    let Ok(store) = Blob::new(alloc, 0, &[0]) else {
+        return Some(0);
+    };
+    wrong_step::<BlobStore, Blob>(alloc, store, steps)
 }
 
 // A value of two parts.
-static LONG: [u8; 65] = [b'v'; 65];
+const LONG: &[u8] = &[b'v'; 65];
+
+// It is shipped, the second part first.
+static IN_PARTS: [Step; 7] = [
+    Step(Asked::Write(b"k", LONG), Told::Wrote(b"k", 1), 1),
+    Step(Asked::Ship(1, 2), Told::Done, 1),
+    Step(Asked::Read(By::Blob, b"k"), Told::Row((0, b"", 0)), 1),
+    Step(Asked::Wait, Told::NotYet, 1),
+    Step(Asked::Ship(1, 1), Told::Done, 1),
+    Step(Asked::Wait, Told::Done, 1),
+    Step(Asked::Read(By::Blob, b"k"), Told::Row((1, LONG, 0)), 1),
+];
 
 #[test]
-fn a_blob_is_read_once_all_its_parts_are_there(rt: HostRuntime) -> Result<(), Fail> {
-    let alloc = rt.alloc();
-    let key = name(b"k")?;
-    let first = id(0, b"k", 1)?;
-    let mut lineage = Lineage::root(alloc);
-    let mut who = caller();
-    let mut port = blob_port(alloc)?;
-    let written = written::<BlobStore, Blob>(alloc, &mut port, &mut who, key, &LONG, &mut lineage);
-    assert!(rt; written == Some(Ok(first)));
-    assert!(rt; ship_part(&mut port, 1, 2) == Ok(()));
-    assert!(rt; shows::<BlobStore, Blob>(&mut port, &mut who, key, 0, b"", 0));
-    assert!(rt;
-        unseen::<BlobStore, Blob>(alloc, &mut port, &mut who, &lineage) == Some(ShimFault::NotYet)
-    );
-    assert!(rt; ship_part(&mut port, 1, 1) == Ok(()));
-    assert!(rt; unseen::<BlobStore, Blob>(alloc, &mut port, &mut who, &lineage) == None);
-    assert!(rt; shows::<BlobStore, Blob>(&mut port, &mut who, key, 1, &LONG, 0));
-    Ok(())
+fn a_blob_is_read_once_all_its_parts_are_there(rt: HostRuntime) {
+    assert_right(&rt, wrong_step_of_blobs(rt.alloc(), &IN_PARTS));
 }
 
-#[test]
-fn a_message_is_named_by_its_channel(rt: HostRuntime) -> Result<(), Fail> {
-    let alloc = rt.alloc();
-    let channel = name(b"n")?;
-    let first = id(0, b"n#1", 1)?;
-    let mut lineage = Lineage::root(alloc);
-    let mut who = caller();
-    let mut port = queue_port(alloc)?;
-    let written = written::<QueueStore, Queue>(
-        alloc,
-        &mut port,
-        &mut who,
-        channel,
-        b"a",
-        &mut lineage,
-    );
-    assert!(rt; written == Some(Ok(first)));
-    assert!(rt;
-        unseen::<QueueStore, Queue>(alloc, &mut port, &mut who, &lineage) == Some(ShimFault::NotYet)
-    );
-    assert!(rt; ship_part(&mut port, 1, 1) == Ok(()));
-    assert!(rt; unseen::<QueueStore, Queue>(alloc, &mut port, &mut who, &lineage) == None);
-    Ok(())
+// The first wrong step at a port over a queue with two subscriptions.
+fn wrong_step_of_queue(alloc: Global, steps: &[Step]) -> Option<usize> {
+    let Ok(first) = sub(b"n") else {
+        return Some(0);
+    };
+    let Ok(second) = sub(b"n") else {
+        return Some(0);
+    };
+    let Ok(store) = Queue::new(alloc, 0, &[0], &[first, second], 2) else {
+        return Some(0);
+    };
+    wrong_step::<QueueStore, Queue>(alloc, store, steps)
 }
 
+// A message, whose id has the key of its channel and its number there.
+static SENT: [Step; 4] = [
+    Step(Asked::Write(b"n", b"a"), Told::Wrote(b"n#1", 1), 1),
+    Step(Asked::Wait, Told::NotYet, 1),
+    Step(Asked::Ship(1, 1), Told::Done, 1),
+    Step(Asked::Wait, Told::Done, 1),
+];
+
 #[test]
-fn a_cell_is_polled_by_its_key(rt: HostRuntime) -> Result<(), Fail> {
-    let alloc = rt.alloc();
-    let channel = name(b"n")?;
-    let cell = name(b"n#1")?;
-    let first = id(0, b"n#1", 1)?;
-    let mut lineage = Lineage::root(alloc);
-    let mut who = caller();
-    let mut port = topic_port(alloc)?;
-    let written = written::<TopicStore, Topic>(
-        alloc,
-        &mut port,
-        &mut who,
-        channel,
-        b"a",
-        &mut lineage,
-    );
-    assert!(rt; written == Some(Ok(first)));
-    assert!(rt; polls(&mut port, &mut who, cell, 0, b""));
-    assert!(rt;
-        unseen::<TopicStore, Topic>(alloc, &mut port, &mut who, &lineage) == Some(ShimFault::NotYet)
-    );
-    assert!(rt; ship_part(&mut port, 1, 1) == Ok(()));
-    assert!(rt; unseen::<TopicStore, Topic>(alloc, &mut port, &mut who, &lineage) == None);
-    assert!(rt; polls(&mut port, &mut who, cell, 1, b"a"));
-    Ok(())
+fn a_message_is_named_by_its_channel(rt: HostRuntime) {
+    assert_right(&rt, wrong_step_of_queue(rt.alloc(), &SENT));
+}
+
+// The first wrong step at a port over a topic with two subscriptions.
+fn wrong_step_of_topic(alloc: Global, steps: &[Step]) -> Option<usize> {
+    let Ok(first) = sub(b"n") else {
+        return Some(0);
+    };
+    let Ok(second) = sub(b"n") else {
+        return Some(0);
+    };
+    let Ok(store) = Topic::new(alloc, 0, &[0], &[first, second]) else {
+        return Some(0);
+    };
+    wrong_step::<TopicStore, Topic>(alloc, store, steps)
+}
+
+// A cell, before and behind its shipment.
+static POLLED: [Step; 6] = [
+    Step(Asked::Write(b"n", b"a"), Told::Wrote(b"n#1", 1), 1),
+    Step(Asked::Read(By::Topic, b"n#1"), Told::Row((0, b"", 0)), 1),
+    Step(Asked::Wait, Told::NotYet, 1),
+    Step(Asked::Ship(1, 1), Told::Done, 1),
+    Step(Asked::Wait, Told::Done, 1),
+    Step(Asked::Read(By::Topic, b"n#1"), Told::Row((1, b"a", 0)), 1),
+];
+
+#[test]
+fn a_cell_is_polled_by_its_key(rt: HostRuntime) {
+    assert_right(&rt, wrong_step_of_topic(rt.alloc(), &POLLED));
 }

@@ -1,9 +1,13 @@
 // What an object is asked, one call after another, and what it answers.
 
-use crate::made::{handle, lineage, message, name, value};
-use anti_ids::{Lineage, NoMemory};
-use anti_kind::{Actor, Asking, Call, Handle, Machine, MessageKind, Recorded, Reply, Row};
+ghost use Rattle.std.specs.Prelude.{[], IfOk};
+ghost use Rattle.anti_kind.specs.Objects.{StandsFor};
+
+use crate::made::{lineage, message};
+use anti_ids::{Name, NoMemory, Value};
+use anti_kind::{Actor, Answer, Asking, Call, Handle, Machine, MessageKind, Recorded, Reply, Row};
 use std::alloc::Global;
+use std::process::Abort;
 
 /// A key and its version.
 pub type Version<'a> = (&'a [u8], u64);
@@ -46,12 +50,12 @@ pub enum Asked<'a> {
 /// What is told.
 #[derive(Clone, Copy)]
 pub enum Told<'a> {
-    /// Nothing, since the call is not ready or does not fit.
+    /// Nothing, since the call is not ready.
     NotNow,
-    /// The version that was written.
-    Wrote(u64),
+    /// Nothing, since the call is not made: it needs so many units.
+    Needs(u32),
     /// The key and the version that was written.
-    WroteAs(&'a [u8], u64),
+    Wrote(&'a [u8], u64),
     /// The rows: of each its key, its version and its value.
     Rows(&'a [(&'a [u8], u64, &'a [u8])]),
     /// How many ids are missing.
@@ -68,124 +72,140 @@ pub enum Told<'a> {
     Done,
 }
 
-/// What is asked, what is told, and the units that are then held and owed.
+/// What an object is to do.
 #[derive(Clone, Copy)]
-pub struct Step<'a>(pub Asked<'a>, pub Told<'a>, pub u32, pub u32);
+pub enum Step<'a> {
+    /// What is asked, what is told, and the units that are then held and owed.
+    Call(Asked<'a>, Told<'a>, u32, u32),
+    /// The versions up to this one are whole in region 0, and this version and part is to be shipped there next.
+    Whole(u64, Option<(u64, u32)>),
+}
 
-/// A write.
-pub fn write(
-    alloc: Global,
-    key: &[u8],
-    text: &[u8],
-    ids: &[Version],
-) -> Result<Call, &'static str> {
-    let key = name(key)?;
-    let value = value(alloc, text)?;
-    let lineage = lineage(alloc, ids)?;
-    Ok(Call::Write {
-        key: handle(alloc, key)?,
+/// A write. `None` where memory runs out.
+pub fn write(alloc: Global, key: &[u8], text: &[u8], ids: &[Version]) -> Option<Call> {
+    let Ok(name) = Name::new(key) else {
+        return None;
+    };
+    let Ok(ids) = lineage(alloc, ids) else {
+        return None;
+    };
+    let Ok(lineage) = Handle::new(alloc, ids) else {
+        return None;
+    };
+    let Ok(key) = Handle::new(alloc, name) else {
+        return None;
+    };
+    let Ok(value) = Value::new(alloc, text) else {
+        return None;
+    };
+    Some(Call::Write {
+        key,
         value,
-        lineage: handle(alloc, lineage)?,
+        lineage,
     })
 }
 
-fn ship(version: u64, part: u32) -> Call {
-    Call::Ship {
-        region: 0,
-        version,
-        part,
+// A look for some versions in region 0. `None` where memory runs out.
+fn look(alloc: Global, ids: &[Version]) -> Option<Call> {
+    let Ok(ids) = lineage(alloc, ids) else {
+        return None;
+    };
+    match Handle::new(alloc, ids) {
+        Ok(ids) => Some(Call::Look {
+            region: 0,
+            ids,
+            dry: false,
+        }),
+        Err(_) => None,
     }
 }
 
-fn again(version: u64, part: u32) -> Call {
-    Call::Again {
-        region: 0,
-        version,
-        part,
-    }
-}
-
-fn look(ids: Handle<Lineage>) -> Call {
-    Call::Look {
-        region: 0,
-        ids,
-        dry: false,
-    }
-}
-
-fn call_of(alloc: Global, asked: Asked) -> Result<Call, &'static str> {
+// The call that is asked. `None` where memory runs out.
+fn call_of(alloc: Global, asked: Asked) -> Option<Call> {
+    let region = 0;
     match asked {
         Asked::Write(key, text, ids) => write(alloc, key, text, ids),
-        Asked::Read(key) => {
-            let key = name(key)?;
-            Ok(Call::Read { region: 0, key })
-        }
-        Asked::Scan(prefix) => {
-            let prefix = name(prefix)?;
-            Ok(Call::Scan { region: 0, prefix })
-        }
-        Asked::Poll(key) => {
-            let key = name(key)?;
-            Ok(Call::Poll { region: 0, key })
-        }
-        Asked::Look(ids) => {
-            let ids = lineage(alloc, ids)?;
-            Ok(look(handle(alloc, ids)?))
-        }
-        Asked::Ship(version, part) => Ok(ship(version, part)),
-        Asked::Again(version, part) => Ok(again(version, part)),
-        Asked::Post(kind, to, letter) => {
-            let message = message(alloc, kind, to, letter)?;
-            Ok(Call::Post { message })
-        }
-        Asked::Take(nth) => Ok(Call::Take { nth }),
-        Asked::Repost(number) => Ok(Call::Repost { number }),
-        Asked::TakeReply(number) => Ok(Call::TakeReply { number }),
-        Asked::Pull(sub) => Ok(Call::Pull { sub }),
-        Asked::Repull(sub, version) => Ok(Call::Repull { sub, version }),
-        Asked::Ack(version) => Ok(Call::Ack { version }),
-        Asked::Nack(version) => Ok(Call::Nack { version }),
+        Asked::Read(key) => match Name::new(key) {
+            Ok(key) => Some(Call::Read { region, key }),
+            Err(_) => None,
+        },
+        Asked::Scan(prefix) => match Name::new(prefix) {
+            Ok(prefix) => Some(Call::Scan { region, prefix }),
+            Err(_) => None,
+        },
+        Asked::Poll(key) => match Name::new(key) {
+            Ok(key) => Some(Call::Poll { region, key }),
+            Err(_) => None,
+        },
+        Asked::Look(ids) => look(alloc, ids),
+        Asked::Ship(version, part) => Some(Call::Ship {
+            region,
+            version,
+            part,
+        }),
+        Asked::Again(version, part) => Some(Call::Again {
+            region,
+            version,
+            part,
+        }),
+        Asked::Post(kind, to, letter) => match message(alloc, kind, to, letter) {
+            Some(message) => Some(Call::Post { message }),
+            None => None,
+        },
+        Asked::Take(nth) => Some(Call::Take { nth }),
+        Asked::Repost(number) => Some(Call::Repost { number }),
+        Asked::TakeReply(number) => Some(Call::TakeReply { number }),
+        Asked::Pull(sub) => Some(Call::Pull { sub }),
+        Asked::Repull(sub, version) => Some(Call::Repull { sub, version }),
+        Asked::Ack(version) => Some(Call::Ack { version }),
+        Asked::Nack(version) => Some(Call::Nack { version }),
     }
 }
 
+// Whether a row has this key, version and value.
+fn is_row(row: &Row, wanted: &(&[u8], u64, &[u8])) -> bool {
+    row.key.bytes() == wanted.0 && row.version == wanted.1 && row.value.bytes() == wanted.2
+}
+
+// Whether rows have these keys, versions and values.
 fn are_rows(rows: &[Row], wanted: &[(&[u8], u64, &[u8])]) -> bool {
     if rows.len() != wanted.len() {
         return false;
     }
-    for (row, (key, version, value)) in rows.iter().zip(wanted) {
-        if row.key.bytes() != *key || row.version != *version || row.value.bytes() != *value {
+    for place in 0..rows.len() {
+        if !is_row(&rows[place], &wanted[place]) {
             return false;
         }
     }
     true
 }
 
-fn is_told(reply: &Option<Reply>, told: Told) -> bool {
-    let Some(reply) = reply else {
-        return matches!(told, Told::NotNow);
-    };
-    match told {
-        Told::NotNow => false,
-        Told::Wrote(wanted) =>
-            matches!(reply, Reply::Written { version, .. } if *version == wanted),
-        Told::WroteAs(named, wanted) =>
-            matches!(reply, Reply::Written { key, version } if key.get().bytes() == named && *version == wanted),
-        Told::Rows(wanted) =>
-            matches!(reply, Reply::Shown(rows) if are_rows(rows.as_slice(), wanted)),
-        Told::Missing(count) =>
-            matches!(reply, Reply::Missing { missing, .. } if missing.get().len() == count),
-        Told::Moved => matches!(reply, Reply::Moved),
-        Told::Posted(wanted) => matches!(reply, Reply::Posted(number) if *number == wanted),
-        Told::Got(wanted, letter) =>
-            matches!(reply, Reply::Got { number, message } if *number == wanted && message.get().value.bytes() == [letter].as_slice()),
-        Told::Pulled(named, wanted) =>
-            matches!(reply, Reply::Pulled(row) if row.get().key.bytes() == named && row.get().version == wanted),
-        Told::Done => matches!(reply, Reply::Done),
+// Whether a reply is what is to be told.
+fn is_told(reply: &Reply, told: Told) -> bool {
+    match (reply, told) {
+        (Reply::Written { key, version }, Told::Wrote(named, wanted)) => {
+            key.get().bytes() == named && *version == wanted
+        }
+        (Reply::Shown(rows), Told::Rows(wanted)) => are_rows(rows.as_slice(), wanted),
+        (Reply::Missing { missing, .. }, Told::Missing(count)) => missing.get().len() == count,
+        (Reply::Moved, Told::Moved) => true,
+        (Reply::Posted(number), Told::Posted(wanted)) => *number == wanted,
+        (Reply::Got { number, message }, Told::Got(wanted, letter)) => {
+            *number == wanted && message.get().value.bytes() == [letter].as_slice()
+        }
+        (Reply::Pulled(row), Told::Pulled(named, wanted)) => {
+            row.get().key.bytes() == named && row.get().version == wanted
+        }
+        (Reply::Done, Told::Done) => true,
+        _ => false,
     }
 }
 
-// Makes a call, where it is ready and fits, as the carrier 0.
-fn make<M: Machine>(object: &mut Recorded<M>, call: Call) -> Result<Option<Reply>, NoMemory> {
+// Whether an object answers so to a call of the carrier 0.
+fn answers<M: Machine>(object: &mut Recorded<M>, call: Call, told: Told) -> bool {
+    if let Told::Needs(units) = told {
+        return object.machine().need(&call) == units;
+    }
     let asking = Asking {
         object: 0,
         actor: Actor::Carrier(0),
@@ -193,48 +213,59 @@ fn make<M: Machine>(object: &mut Recorded<M>, call: Call) -> Result<Option<Reply
         clock: 0,
         call,
     };
-    if let Err(_refusal) = object.judge(&asking) {
-        return Ok(None);
+    match object.ask(0, asking) {
+        Answer::Made { reply, .. } => is_told(&reply, told),
+        Answer::NotYet => matches!(told, Told::NotNow),
+        _ => false,
     }
-    let told = object.due(&asking.call)?;
-    let due = object.due(&asking.call)?;
-    let entry = object.entry(0, asking, due);
-    object.make(entry)?;
-    Ok(Some(told))
 }
 
 // Whether a step goes as it says.
-fn goes<M: Machine>(alloc: Global, object: &mut Recorded<M>, step: &Step) -> bool {
-    let Ok(call) = call_of(alloc, step.0) else {
-        return false;
-    };
-    let Ok(reply) = make(object, call) else {
-        return false;
-    };
-    let machine = object.machine();
-    is_told(&reply, step.1) && machine.held() == step.2 && machine.owed() == step.3
-}
-
-/// The first of these steps that does not go as it says, or for which memory runs out. `None` where each does.
-pub fn wrong_step<M: Machine>(
-    alloc: Global,
-    object: &mut Recorded<M>,
-    steps: &[Step],
-) -> Option<usize> {
-    for (place, step) in steps.iter().enumerate() {
-        if !goes(alloc, object, step) {
-            return Some(place);
+fn goes<M: Machine>(alloc: Global, object: &mut Recorded<M>, step: Step) -> bool {
+    match step {
+        Step::Call(asked, told, held, owed) => {
+            let Some(call) = call_of(alloc, asked) else {
+                return false;
+            };
+            let is_told = answers(object, call, told);
+            let machine = object.machine();
+            is_told && machine.held() == held && machine.owed() == owed
+        }
+        Step::Whole(version, next) => {
+            let machine = object.machine();
+            machine.upto(0) == version && machine.next_ship(0) == next
         }
     }
-    None
 }
 
-/// Whether the versions up to this one are whole in region 0, and this is to be shipped there next.
-pub fn is_whole_to<M: Machine>(
-    object: &Recorded<M>,
-    version: u64,
-    next: Option<(u64, u32)>,
-) -> bool {
-    let machine = object.machine();
-    machine.upto(0) == version && machine.next_ship(0) == next
+// How many of these steps go as they say, one after another, on an object that is at its start, before the first that does not. None
+// does without memory.
+fn steps_gone<M: Machine + Drop>(alloc: Global, start: Result<M, NoMemory>, steps: &[Step]) -> usize
+    requires { IfOk start (λ m. StandsFor (M.start m) (M.Stands m) []) }
+{
+    let Ok(start) = start else {
+        return 0;
+    };
+    let Ok(mut object) = Recorded::new(alloc, start) else {
+        return 0;
+    };
+    for place in 0..steps.len() {
+        if !goes(alloc, &mut object, steps[place]) {
+            return place;
+        }
+    }
+    steps.len()
+}
+
+/// Asserts that each of these steps goes as it says, one after another, on an object that is at its start.
+pub fn assert_steps<M: Machine + Drop>(
+    rt: &impl Abort,
+    alloc: Global,
+    start: Result<M, NoMemory>,
+    steps: &[Step],
+)
+    requires { IfOk start (λ m. StandsFor (M.start m) (M.Stands m) []) }
+{
+    let gone = steps_gone(alloc, start, steps);
+    assert!(rt; gone == steps.len(), "at step {gone}");
 }

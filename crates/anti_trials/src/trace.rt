@@ -1,12 +1,12 @@
 ghost use Rattle.std.specs.Prelude.{◌≡◌, ◌<◌, All, IfOk, length};
 ghost use Rattle.anti_trace.specs.Histories.{IsHistory};
 
-use crate::made::{handle, message, name};
+use crate::made::message;
+use crate::steps::write;
 use anti_ids::{Copies, Lineage, List, Name, NoMemory, Value};
 use anti_kind::{Actor, Call, Entry, History, MessageKind, Reply, Row};
 use anti_trace::{Histories, merge};
 use std::alloc::Global;
-use std::test::Fail;
 
 // An entry on an object.
 fn entry(object: u32, place: u32, stamp: u64) -> Entry
@@ -43,41 +43,60 @@ fn history(alloc: Global, object: u32, first: u64, second: u64) -> Result<Histor
     Ok(history)
 }
 
-// Entries of one stamp stand by their objects, wherever their histories stand.
-#[test]
-fn three_histories_are_merged(rt: HostRuntime) -> Result<(), Fail> {
-    let alloc = rt.alloc();
+// The objects of the entries of three histories that are merged. Those of one stamp stand by their objects, wherever their histories
+// stand.
+static OBJECTS: [u32; 6] = [0, 3, 7, 0, 3, 7];
+
+// Whether entries are on these objects.
+fn are_on(entries: &[Entry], objects: &[u32]) -> bool {
+    if entries.len() != objects.len() {
+        return false;
+    }
+    for place in 0..entries.len() {
+        if entries[place].object != objects[place] {
+            return false;
+        }
+    }
+    true
+}
+
+// Whether three histories are merged so.
+fn are_merged(alloc: Global) -> bool {
     let mut histories: Histories = List::new(alloc);
-    histories.reserve(3)?;
-    histories.put(history(alloc, 7, 2, 5)?);
-    histories.put(history(alloc, 0, 2, 3)?);
-    histories.put(history(alloc, 3, 2, 3)?);
-    let trace = merge(alloc, histories)?;
-    assert_eq!(rt; trace.len(), 6);
-    assert_eq!(rt; trace.at(0).object, 0);
-    assert_eq!(rt; trace.at(1).object, 3);
-    assert_eq!(rt; trace.at(2).object, 7);
-    assert_eq!(rt; trace.at(3).object, 0);
-    assert_eq!(rt; trace.at(4).object, 3);
-    assert_eq!(rt; trace.at(5).object, 7);
-    Ok(())
+    let Ok(()) = histories.reserve(3) else {
+        return false;
+    };
+    let Ok(first) = history(alloc, 7, 2, 5) else {
+        return false;
+    };
+    histories.put(first);
+    let Ok(second) = history(alloc, 0, 2, 3) else {
+        return false;
+    };
+    histories.put(second);
+    let Ok(third) = history(alloc, 3, 2, 3) else {
+        return false;
+    };
+    histories.put(third);
+    match merge(alloc, histories) {
+        Ok(trace) => are_on(trace.as_slice(), &OBJECTS),
+        Err(_) => false,
+    }
 }
 
-// A copy of a reply that shows a row.
-fn shown(alloc: Global, key: Name) -> Result<Reply, NoMemory> {
-    let mut rows = List::new(alloc);
-    rows.reserve(1)?;
-    rows.put(Row {
-        key,
-        version: 1,
-        value: Value::empty(alloc),
-        lineage: Lineage::root(alloc),
-    });
-    Reply::Shown(rows).copy(alloc)
+#[test]
+fn three_histories_are_merged(rt: HostRuntime) {
+    assert!(rt; are_merged(rt.alloc()));
 }
 
-// The stamp of the copy of an entry with this stamp and this reply. `None` where memory runs out.
-fn copied(alloc: Global, key: Name, stamp: u64, reply: Reply) -> Option<u64> {
+// Whether an entry with a copy of this reply has a copy with its stamp.
+fn is_copied(alloc: Global, stamp: u64, reply: &Reply) -> bool {
+    let Ok(reply) = reply.copy(alloc) else {
+        return false;
+    };
+    let Some(call) = write(alloc, b"k", b"", &[]) else {
+        return false;
+    };
     let entry = Entry {
         stamp,
         object: 0,
@@ -85,24 +104,42 @@ fn copied(alloc: Global, key: Name, stamp: u64, reply: Reply) -> Option<u64> {
         seat: 0,
         actor: Actor::Newborn,
         span: 1,
-        call: Call::Write {
-            key: handle(alloc, key).ok()?,
-            value: Value::empty(alloc),
-            lineage: handle(alloc, Lineage::root(alloc)).ok()?,
-        },
+        call,
         reply,
     };
-    let again = entry.copy(alloc).ok()?;
-    Some(again.stamp)
+    match entry.copy(alloc) {
+        Ok(again) => again.stamp == stamp,
+        Err(_) => false,
+    }
+}
+
+// Whether an entry with a message is copied.
+fn is_message_copied(alloc: Global) -> bool {
+    match message(alloc, MessageKind::Request, 0, b'q') {
+        Some(message) => is_copied(alloc, 7, &Reply::Got { number: 1, message }),
+        None => false,
+    }
+}
+
+// Whether an entry with a row is copied.
+fn is_row_copied(alloc: Global) -> bool {
+    let Ok(key) = Name::new(b"k") else {
+        return false;
+    };
+    let mut rows = List::new(alloc);
+    let Ok(()) = rows.reserve(1) else {
+        return false;
+    };
+    rows.put(Row {
+        key,
+        version: 1,
+        value: Value::empty(alloc),
+        lineage: Lineage::root(alloc),
+    });
+    is_copied(alloc, 8, &Reply::Shown(rows))
 }
 
 #[test]
-fn entries_are_copied(rt: HostRuntime) -> Result<(), Fail> {
-    let alloc = rt.alloc();
-    let key = name(b"k")?;
-    let message = message(alloc, MessageKind::Request, 0, b'q')?;
-    let got = Reply::Got { number: 1, message }.copy(alloc)?;
-    assert_eq!(rt; copied(alloc, key, 7, got), Some(7));
-    assert_eq!(rt; copied(alloc, key, 8, shown(alloc, key)?), Some(8));
-    Ok(())
+fn entries_are_copied(rt: HostRuntime) {
+    assert!(rt; is_message_copied(rt.alloc()) && is_row_copied(rt.alloc()));
 }

@@ -3,4 +3,4 @@ use Rattle.anti_ids.proofs.IdLemmas.{length-with_id-le}
 use Rattle.anti_trials.proofs.ids.appended.Goals as goal
 
 pub append-answer-requires-clause-room : goal.append-answer-requires-clause-room
-append-answer-requires-clause-room c = omega (arith, length-with_id-le c.args.id c.in-Ok.roomy.ids, c.in-Ok.ensures.spare)
+append-answer-requires-clause-room c = omega (arith, length-with_id-le c.args.id.now c.in-Ok.roomy.ids, c.in-Ok.ensures.spare)

@@ -5,7 +5,7 @@ use Rattle.anti_ids.specs.List.{Listed}
 use Rattle.anti_kind.specs.declared.entry.Entry.{Entry}
 use Rattle.anti_trace.specs.Histories.{IsHistory, AreApart, AreHistories, all_entries}
 use Rattle.anti_trace.proofs.Merges.{apart_on, are_none, are_more}
-use Rattle.anti_trials.proofs.trace.three_histories_are_merged.Goals as goal
+use Rattle.anti_trials.proofs.trace.are_merged.Goals as goal
 
 module _ (a b c : Listed Entry) where
   three : IsHistory a.items → IsHistory b.items → IsHistory c.items
@@ -20,19 +20,19 @@ module _ (a b c : Listed Entry) where
   few x y z = omega (arith, length-append {A = Entry})
 
 pub merge-requires-clause-own : goal.merge-requires-clause-own
-merge-requires-clause-own g c =
-    let first = c.in_ok-history.ensures in
-    let second = c.in_ok-history-2.ensures in
-    let third = c.in_ok-history-3.ensures in
+merge-requires-clause-own c =
+    let first = c.in-Ok-history.ensures in
+    let second = c.in-Ok-history-2.ensures in
+    let third = c.in-Ok-history-3.ensures in
     let all : AreHistories c.put-3.new.self.items =
-    rw (c.put-3.ensures, c.put-2.ensures, c.put.ensures, c.in_ok-reserve.ensures.ok, c.new-histories.ensures)
-    (three c.in_ok-history.field-0 c.in_ok-history-2.field-0 c.in_ok-history-3.field-0 first.is second.is third.is
+    rw (c.put-3.ensures, c.put-2.ensures, c.put.ensures, c.in-Ok.ensures.ok, c.new-histories.ensures)
+    (three c.in-Ok-history.first c.in-Ok-history-2.second c.in-Ok-history-3.third first.is second.is third.is
     (apart_on 7 0 _ _ first.own second.own (λ same. omega arith))
     (apart_on 7 3 _ _ first.own third.own (λ same. omega arith))
     (apart_on 0 3 _ _ second.own third.own (λ same. omega arith))) in all
 
 pub merge-requires-clause-few : goal.merge-requires-clause-few
-merge-requires-clause-few g c =
+merge-requires-clause-few c =
     let all : length (all_entries c.put-3.new.self.items) < 2 ^ 32 =
-    rw (c.put-3.ensures, c.put-2.ensures, c.put.ensures, c.in_ok-reserve.ensures.ok, c.new-histories.ensures)
-    (few c.in_ok-history.field-0 c.in_ok-history-2.field-0 c.in_ok-history-3.field-0 c.in_ok-history.ensures.two c.in_ok-history-2.ensures.two c.in_ok-history-3.ensures.two) in all
+    rw (c.put-3.ensures, c.put-2.ensures, c.put.ensures, c.in-Ok.ensures.ok, c.new-histories.ensures)
+    (few c.in-Ok-history.first c.in-Ok-history-2.second c.in-Ok-history-3.third c.in-Ok-history.ensures.two c.in-Ok-history-2.ensures.two c.in-Ok-history-3.ensures.two) in all
