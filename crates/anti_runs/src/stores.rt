@@ -2,7 +2,7 @@
 use crate::calling::{PLAYED, assert_texts};
 
 // Documents with tables and blobs, and the record of each.
-static RECORDS: [(&str, &str); 3] = [
+static RECORDS: [(&str, &str); 4] = [
     // a scan behind a barrier shows what was shipped
     (
         "regions = ['eu']
@@ -64,6 +64,23 @@ wait 6 ship s eu 1 3
 process w.1 w one fine
 span w.1/1 unguarded s.3
 end 7
+",
+    ),
+    // what is left is shipped part by part
+    (
+        "regions = ['eu']
+choices = ['finish']
+store = [{name = 's', kind = 'blob', replicas = ['eu']}]
+request = [{service = 'w', handler = 'one', value = '12345678901234567890123456789012345678901234567890123456789012345'}]
+service = [{name = 'w', region = 'eu', handler = [{name = 'one', body = ['write s k $in', 'barrier']}]}]",
+        "record 1
+1 w.1 w.1/1 take 1 = got 1 request one 0 \"12345678901234567890123456789012345678901234567890123456789012345\" 1;
+2 s.1 w.1/1 write k \"12345678901234567890123456789012345678901234567890123456789012345\" 1; = k@1
+3 s.2 ~0 ship eu 1 1 = moved
+4 s.3 ~0 ship eu 1 2 = moved
+5 s.4 w.1/1 look eu 1;s/k@1 = clear
+process w.1 w one fine
+end 5
 ",
     ),
 ];

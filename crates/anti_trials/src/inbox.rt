@@ -4,7 +4,7 @@ ghost use Rattle.anti_kind.specs.Objects.{IsStart, inbox};
 use crate::made::message;
 use crate::steps::{Asked, Step, Told, assert_steps};
 use anti_inbox::Inbox;
-use anti_kind::{MessageKind, Messages};
+use anti_kind::{Brought, MessageKind, Messages};
 use std::alloc::Global;
 
 // One request, with the letter q. `None` where memory runs out.
@@ -23,7 +23,7 @@ fn requests(alloc: Global) -> Option<Messages>
 }
 
 // Messages that are posted, delivered again, taken and replied to, where there is one request at first.
-static STEPS: [Step; 20] = [
+static STEPS: [Step; 21] = [
     Step::Call(
         Asked::Post(MessageKind::Call, 0, b'c'),
         Told::Posted(2),
@@ -43,6 +43,7 @@ static STEPS: [Step; 20] = [
         5,
     ),
     Step::Call(Asked::Post(MessageKind::Reply, 2, b'x'), Told::NotNow, 2, 5),
+    Step::Call(Asked::Repost(2), Told::Brings(Brought::Delivered), 2, 5),
     Step::Call(Asked::Repost(2), Told::Done, 3, 5),
     Step::Call(Asked::Take(0), Told::NotNow, 3, 5),
     Step::Call(Asked::Take(2), Told::Got(2, b'c'), 4, 4),

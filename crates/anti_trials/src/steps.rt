@@ -5,7 +5,9 @@ ghost use Rattle.anti_kind.specs.Objects.{StandsFor};
 
 use crate::made::{lineage, message};
 use anti_ids::{Name, NoMemory, Value};
-use anti_kind::{Actor, Answer, Asking, Call, Handle, Machine, MessageKind, Recorded, Reply, Row};
+use anti_kind::{
+    Actor, Answer, Asking, Brought, Call, Handle, Machine, MessageKind, Recorded, Reply, Row,
+};
 use std::alloc::Global;
 use std::process::Abort;
 
@@ -54,6 +56,8 @@ pub enum Told<'a> {
     NotNow,
     /// Nothing, since the call is not made: it needs so many units.
     Needs(u32),
+    /// What it would bring to those who wait at the object. It is not made.
+    Brings(Brought),
     /// The key and the version that was written.
     Wrote(&'a [u8], u64),
     /// The rows: of each its key, its version and its value.
@@ -203,8 +207,10 @@ fn is_told(reply: &Reply, told: Told) -> bool {
 
 // Whether an object answers so to a call of the carrier 0.
 fn answers<M: Machine>(object: &mut Recorded<M>, call: Call, told: Told) -> bool {
-    if let Told::Needs(units) = told {
-        return object.machine().need(&call) == units;
+    match told {
+        Told::Needs(units) => return object.machine().need(&call) == units,
+        Told::Brings(wanted) => return call.brought() == wanted,
+        _ => {}
     }
     let asking = Asking {
         object: 0,
