@@ -99,8 +99,7 @@ record_rest app t =
     ∷ items_text false (items_of (map (entry_data app) t.entries))
     ∷ codes ",\"processes\":["
     ∷ items_text false (items_of (map (process_data app) t.ends))
-    ∷ codes ",\"record\":1"
-    ∷ codes ",\"spans\":["
+    ∷ codes ",\"record\":1,\"spans\":["
     ∷ items_text false (items_of (map (span_data app) t.spans))
     ∷ codes ",\"waits\":["
     ∷ items_text false (items_of (map (wait_data app) t.waits))

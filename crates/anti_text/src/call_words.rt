@@ -8,16 +8,17 @@ use crate::words::{quoted, region_name, sub_name_on};
 use anti_app::App;
 use anti_ids::{Lineage, Name, NoMemory, Value};
 use anti_kind::{Call, Message, MessageKind};
+use itoa::Buffer;
 
-/// Writes the kind of a message.
-pub fn kind_text(out: &mut Output, kind: MessageKind) -> Result<(), NoMemory>
-    ensures { OnOk result (out.new ≡ out.old ++ kind_text kind) }
+/// The word of the kind of a message.
+pub fn kind_text(kind: MessageKind) -> &'static [u8]
+    ensures { result.now ≡ kind_text kind }
 {
     match kind {
-        MessageKind::Request => out.put(b"request"),
-        MessageKind::Call => out.put(b"call"),
-        MessageKind::Send => out.put(b"send"),
-        MessageKind::Reply => out.put(b"reply"),
+        MessageKind::Request => b"request",
+        MessageKind::Call => b"call",
+        MessageKind::Send => b"send",
+        MessageKind::Reply => b"reply",
     }
 }
 
@@ -26,18 +27,16 @@ pub fn value_and_baggage(out: &mut Output, message: &Message) -> Result<(), NoMe
     ensures { OnOk result (out.new ≡ out.old ++ value_and_baggage message.now) }
 {
     quoted(out, message.value.bytes())?;
-    out.put(b" ")?;
-    out.put(message.baggage.bytes())
+    out.put_all(&[b" ", message.baggage.bytes()])
 }
 
 /// Writes what a message to a handler says.
 pub fn handler_and_rest(out: &mut Output, message: &Message) -> Result<(), NoMemory>
     ensures { OnOk result (out.new ≡ out.old ++ handler_and_rest message.now) }
 {
-    out.put(message.handler.bytes())?;
-    out.put(b" ")?;
-    out.number(u64::from(message.depth))?;
-    out.put(b" ")?;
+    let mut digits = Buffer::new();
+    let depth = digits.format(message.depth).as_bytes();
+    out.put_all(&[message.handler.bytes(), b" ", depth, b" "])?;
     value_and_baggage(out, message)
 }
 
@@ -47,14 +46,12 @@ fn posted_text(out: &mut Output, message: &Message, kind: MessageKind) -> Result
 {
     match kind {
         MessageKind::Reply => {
-            out.put(b"reply ")?;
-            out.number(u64::from(message.to))?;
-            out.put(b" ")?;
+            let mut digits = Buffer::new();
+            out.put_all(&[b"reply ", digits.format(message.to).as_bytes(), b" "])?;
             value_and_baggage(out, message)
         }
         MessageKind::Request | MessageKind::Call | MessageKind::Send => {
-            kind_text(out, kind)?;
-            out.put(b" ")?;
+            out.put_all(&[kind_text(kind), b" "])?;
             handler_and_rest(out, message)
         }
     }
@@ -73,10 +70,7 @@ fn post_text(out: &mut Output, message: &Message) -> Result<(), NoMemory>
 fn keyed(out: &mut Output, app: &App, word: &[u8], region: u32, key: &Name) -> Result<(), NoMemory>
     ensures { OnOk result (out.new ≡ out.old ++ word.now ++ key_at_region app.now region key.now) }
 {
-    out.put(word)?;
-    region_name(out, app, region)?;
-    out.put(b" ")?;
-    out.put(key.bytes())
+    out.put_all(&[word, region_name(app, region), b" ", key.bytes()])
 }
 
 // Writes a word, and a version and its part at a region.
@@ -91,20 +85,24 @@ fn parted(
     ensures { OnOk result (out.new ≡ out.old
         ++ word.now ++ part_at_region app.now region version part) }
 {
-    out.put(word)?;
-    region_name(out, app, region)?;
-    out.put(b" ")?;
-    out.number(version)?;
-    out.put(b" ")?;
-    out.number(u64::from(part))
+    let mut digits = Buffer::new();
+    let mut others = Buffer::new();
+    out.put_all(&[
+        word,
+        region_name(app, region),
+        b" ",
+        digits.format(version).as_bytes(),
+        b" ",
+        others.format(part).as_bytes(),
+    ])
 }
 
 // Writes a word and a number.
 fn numbered(out: &mut Output, word: &[u8], number: u64) -> Result<(), NoMemory>
     ensures { OnOk result (out.new ≡ out.old ++ word.now ++ decimal number) }
 {
-    out.put(word)?;
-    out.number(number)
+    let mut digits = Buffer::new();
+    out.put_all(&[word, digits.format(number).as_bytes()])
 }
 
 // Writes the call that writes a value to a key.
@@ -118,12 +116,17 @@ fn write_text(
     ensures { OnOk result (out.new ≡ out.old ++ codes "write " ++ key.now ++ codes " "
         ++ quoted value.now ++ codes " " ++ lineage_text printer.now.app.now lineage.now) }
 {
-    out.put(b"write ")?;
-    out.put(key.bytes())?;
-    out.put(b" ")?;
+    out.put_all(&[b"write ", key.bytes(), b" "])?;
     quoted(out, value.bytes())?;
     out.put(b" ")?;
     printer.lineage(out, lineage)
+}
+
+// The word of a look of a dry run, or of a barrier.
+fn look_word(dry: bool) -> &'static [u8]
+    ensures { result.now ≡ (if dry then codes "dry " else codes "look ") }
+{
+    if dry { b"dry " } else { b"look " }
 }
 
 // Writes a look of a barrier or of a dry run.
@@ -138,13 +141,8 @@ fn look_text(
         ++ region_name printer.now.app.now region
         ++ codes " " ++ lineage_text printer.now.app.now ids.now) }
 {
-    if dry {
-        out.put(b"dry ")?;
-    } else {
-        out.put(b"look ")?;
-    }
-    region_name(out, printer.app, region)?;
-    out.put(b" ")?;
+    out.put(look_word(dry))?;
+    out.put_all(&[region_name(printer.app, region), b" "])?;
     printer.lineage(out, ids)
 }
 
@@ -152,8 +150,7 @@ fn look_text(
 fn pull_text(out: &mut Output, app: &App, store: u32, sub: u32) -> Result<(), NoMemory>
     ensures { OnOk result (out.new ≡ out.old ++ call_text app.now store (Call.Pull sub)) }
 {
-    out.put(b"pull ")?;
-    sub_name_on(out, app, store, sub)
+    out.put_all(&[b"pull ", sub_name_on(app, store, sub)])
 }
 
 // Writes the call that takes a cell once more for a subscription of the store.
@@ -167,9 +164,13 @@ fn repull_text(
     ensures { OnOk result (out.new ≡ out.old
         ++ call_text app.now store (Call.Repull sub version)) }
 {
-    out.put(b"repull ")?;
-    sub_name_on(out, app, store, sub)?;
-    numbered(out, b" ", version)
+    let mut digits = Buffer::new();
+    out.put_all(&[
+        b"repull ",
+        sub_name_on(app, store, sub),
+        b" ",
+        digits.format(version).as_bytes(),
+    ])
 }
 
 /// Writes a call at the object with a number.

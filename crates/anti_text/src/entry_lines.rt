@@ -9,6 +9,7 @@ use crate::words::mark_text;
 use anti_app::App;
 use anti_ids::NoMemory;
 use anti_kind::{Actor, Entry};
+use itoa::Buffer;
 
 // Writes who made a call.
 pub fn actor_name(out: &mut Output, app: &App, actor: Actor) -> Result<(), NoMemory>
@@ -16,8 +17,8 @@ pub fn actor_name(out: &mut Output, app: &App, actor: Actor) -> Result<(), NoMem
 {
     match actor {
         Actor::Carrier(number) => {
-            out.put(b"~")?;
-            out.number(u64::from(number))
+            let mut digits = Buffer::new();
+            out.put_all(&[b"~", digits.format(number).as_bytes()])
         }
         Actor::Process(birth) => mark_text(out, app, birth.object, birth.place),
         Actor::Newborn => Ok(()),
@@ -30,8 +31,8 @@ fn span_text(out: &mut Output, actor: Actor, span: u32) -> Result<(), NoMemory>
 {
     match actor {
         Actor::Process(_) => {
-            out.put(b"/")?;
-            out.number(u64::from(span))
+            let mut digits = Buffer::new();
+            out.put_all(&[b"/", digits.format(span).as_bytes()])
         }
         Actor::Carrier(_) | Actor::Newborn => Ok(()),
     }
@@ -50,8 +51,8 @@ pub fn entry_line(out: &mut Output, printer: &Printer, entry: &Entry) -> Result<
     ensures { OnOk result (out.new ≡ out.old ++ entry_line printer.now.app.now entry.now) }
 {
     let app = printer.app;
-    out.number(entry.stamp)?;
-    out.put(b" ")?;
+    let mut digits = Buffer::new();
+    out.put_all(&[digits.format(entry.stamp).as_bytes(), b" "])?;
     mark_text(out, app, entry.object, entry.place)?;
     out.put(b" ")?;
     actor_text(out, app, entry.actor, entry.span)?;

@@ -55,6 +55,20 @@ fn ids_by_store(
     Ok(lists)
 }
 
+// The ids of lists, one behind another, and at which of them those of each list begin.
+fn in_a_row(
+    alloc: Global,
+    lists: Vec<Vec<WriteId>>,
+) -> Result<(Vec<WriteId>, Vec<usize>), NoMemory> {
+    let mut ids = Vec::with_capacity(alloc, item_count(lists.as_slice()))?;
+    let mut starts = Vec::with_capacity(alloc, lists.len())?;
+    for list in lists {
+        starts.push(ids.len())?;
+        ids.extend_from_slice(list.as_slice())?;
+    }
+    Ok((ids, starts))
+}
+
 // The texts of ids.
 fn pieces_of(alloc: Global, stores: &[Name], ids: &[WriteId]) -> Result<Pieces, NoMemory>
     ensures { IfOk result (λ pieces. pieces ≡ map (kept_text stores.now) ids.now) }
@@ -72,12 +86,7 @@ impl IdTexts {
         ensures { IfOk result (λ texts. texts.stores.items ≡ stores.items) }
     {
         let lists = ids_by_store(alloc, stores.len(), entries)?;
-        let mut ids = Vec::with_capacity(alloc, item_count(lists.as_slice()))?;
-        let mut starts = Vec::with_capacity(alloc, lists.len())?;
-        for list in lists {
-            starts.push(ids.len())?;
-            ids.extend_from_slice(list.as_slice())?;
-        }
+        let (ids, starts) = in_a_row(alloc, lists)?;
         let pieces = pieces_of(alloc, stores.as_slice(), ids.as_slice())?;
         Ok(IdTexts {
             stores,

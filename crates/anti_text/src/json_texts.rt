@@ -21,6 +21,7 @@ use anti_kind::{Actor, Call, Reply};
 use anti_order::OrderAnswer;
 use anti_past::Span;
 use anti_proc::End;
+use itoa::Buffer;
 use serde_json::Value;
 
 /// Adds some text, and what was printed as a JSON string.
@@ -29,23 +30,22 @@ pub fn add_string(
     out: &mut Output,
     printer: &Printer,
     before: &[u8],
-    printed: &Output,
+    printed: &[u8],
 ) -> Result<(), NoMemory>
     ensures { OnOk result
         (out.new ≡ out.old ++ before.now ++ compact_text (text printed.now)) }
 {
-    let value = Value::from(String::from_utf8_lossy(printer.alloc, printed.bytes())?);
+    let value = Value::from(String::from_utf8_lossy(printer.alloc, printed)?);
     let quoted = value.to_string(printer.alloc)?;
-    out.put(before)?;
-    out.put(quoted.as_bytes())
+    out.put_all(&[before, quoted.as_bytes()])
 }
 
 /// Adds some text and a number.
 pub fn add_number(out: &mut Output, before: &[u8], number: u64) -> Result<(), NoMemory>
     ensures { OnOk result (out.new ≡ out.old ++ before.now ++ decimal number) }
 {
-    out.put(before)?;
-    out.number(number)
+    let mut digits = Buffer::new();
+    out.put_all(&[before, digits.format(number).as_bytes()])
 }
 
 /// Adds some text and who made an entry.
@@ -60,7 +60,7 @@ pub fn add_actor(
 {
     let mut name = Output::new(printer.alloc);
     actor_name(&mut name, printer.app, actor)?;
-    add_string(out, printer, before, &name)
+    add_string(out, printer, before, name.bytes())
 }
 
 /// Adds some text and the words of a call on an object.
@@ -76,7 +76,7 @@ pub fn add_call(
 {
     let mut words = Output::new(printer.alloc);
     call_text(&mut words, printer, object, call)?;
-    add_string(out, printer, before, &words)
+    add_string(out, printer, before, words.bytes())
 }
 
 /// Adds some text and the name of an object.
@@ -89,9 +89,8 @@ pub fn add_object(
     ensures { OnOk result
         (out.new ≡ out.old ++ before.now ++ compact_text (text (object_name printer.now.app.now object))) }
 {
-    let mut name = Output::new(printer.alloc);
-    object_name(&mut name, printer.app, object)?;
-    add_string(out, printer, before, &name)
+    let name = object_name(printer.app, object);
+    add_string(out, printer, before, name)
 }
 
 /// Adds some text and the words of a reply.
@@ -106,7 +105,7 @@ pub fn add_reply(
 {
     let mut words = Output::new(printer.alloc);
     reply_text(&mut words, printer, reply)?;
-    add_string(out, printer, before, &words)
+    add_string(out, printer, before, words.bytes())
 }
 
 /// Adds some text and how a process ended.
@@ -121,7 +120,7 @@ pub fn add_end(
 {
     let mut words = Output::new(printer.alloc);
     end_text(&mut words, printer.app, end)?;
-    add_string(out, printer, before, &words)
+    add_string(out, printer, before, words.bytes())
 }
 
 /// Adds some text and the name of a handler of a service.
@@ -135,9 +134,8 @@ pub fn add_handler(
     ensures { OnOk result
         (out.new ≡ out.old ++ before.now ++ compact_text (text (handler_name printer.now.app.now service handler))) }
 {
-    let mut name = Output::new(printer.alloc);
-    handler_name(&mut name, printer.app, service, handler)?;
-    add_string(out, printer, before, &name)
+    let name = handler_name(printer.app, service, handler);
+    add_string(out, printer, before, name)
 }
 
 /// Adds some text and a place on an object.
@@ -153,7 +151,7 @@ pub fn add_mark(
 {
     let mut mark = Output::new(printer.alloc);
     mark_text(&mut mark, printer.app, object, place)?;
-    add_string(out, printer, before, &mark)
+    add_string(out, printer, before, mark.bytes())
 }
 
 /// Adds some text and the name of a service.
@@ -166,9 +164,8 @@ pub fn add_service(
     ensures { OnOk result
         (out.new ≡ out.old ++ before.now ++ compact_text (text (service_name printer.now.app.now service))) }
 {
-    let mut name = Output::new(printer.alloc);
-    service_name(&mut name, printer.app, service)?;
-    add_string(out, printer, before, &name)
+    let name = service_name(printer.app, service);
+    add_string(out, printer, before, name)
 }
 
 /// Adds some text and what is answered of the reads of a span.
@@ -183,7 +180,7 @@ pub fn add_answer(
 {
     let mut words = Output::new(printer.alloc);
     answer_text(&mut words, printer, answer)?;
-    add_string(out, printer, before, &words)
+    add_string(out, printer, before, words.bytes())
 }
 
 /// Adds some text and a span.
@@ -198,7 +195,7 @@ pub fn add_span(
 {
     let mut name = Output::new(printer.alloc);
     span_name(&mut name, printer.app, span)?;
-    add_string(out, printer, before, &name)
+    add_string(out, printer, before, name.bytes())
 }
 
 /// Adds some text and a choice, by its number.
@@ -213,5 +210,5 @@ pub fn add_choice(
 {
     let mut words = Output::new(printer.alloc);
     choice_numbered(&mut words, printer.app, number)?;
-    add_string(out, printer, before, &words)
+    add_string(out, printer, before, words.bytes())
 }

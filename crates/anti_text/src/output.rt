@@ -1,12 +1,12 @@
-ghost use Rattle.std.specs.Prelude.{◌≡◌, ℕ, [], ◌∷◌, ◌++◌, decimal, OnOk};
+ghost use Rattle.std.specs.Prelude.{◌≡◌, ℕ, [], ◌∷◌, ◌++◌, OnOk};
 ghost use Rattle.std.specs.Prelude.{List as Items};
+ghost use Rattle.std.specs.List.{flat_map};
 ghost use Rattle.anti_ids.specs.List.{plain};
 ghost use Rattle.anti_baggage.specs.Escapes.{escaped};
 ghost use Rattle.anti_baggage.specs.Texts.{id_text};
 
 use anti_baggage::{add_id, escape};
 use anti_ids::{Bytes, List, Name, NoMemory, WriteId};
-use itoa::Buffer;
 use std::alloc::Global;
 use std::marker::Model;
 
@@ -43,6 +43,16 @@ impl Output {
         self.bytes.append(bytes)
     }
 
+    /// Adds texts at the end, one behind another.
+    pub fn put_all(&mut self, texts: &[&[u8]]) -> Result<(), NoMemory>
+        ensures { OnOk result (self.new ≡ self.old ++ flat_map (λ text. text.now) texts.now) }
+    {
+        for text in texts {
+            self.put(*text)?;
+        }
+        Ok(())
+    }
+
     /// Adds bytes at the end, each that is not unreserved escaped.
     pub fn escaped(&mut self, bytes: &[u8]) -> Result<(), NoMemory>
         ensures { OnOk result (self.new ≡ self.old ++ escaped bytes.now) }
@@ -55,14 +65,6 @@ impl Output {
         ensures { OnOk result (self.new ≡ self.old ++ id_text stores.now id.now) }
     {
         add_id(&mut self.bytes, stores, id)
-    }
-
-    /// Adds a number in decimal at the end.
-    pub fn number(&mut self, number: u64) -> Result<(), NoMemory>
-        ensures { OnOk result (self.new ≡ self.old ++ decimal number) }
-    {
-        let mut digits = Buffer::new();
-        self.put(digits.format(number).as_bytes())
     }
 
     /// Takes the last byte away.

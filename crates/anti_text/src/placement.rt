@@ -7,6 +7,7 @@ use crate::words::{handler_name, service_name};
 use anti_app::App;
 use anti_ids::{Bytes, NoMemory};
 use anti_place::{Placement, Reason};
+use itoa::Buffer;
 use std::alloc::Global;
 
 // The word of a reason.
@@ -33,15 +34,17 @@ fn put_line(out: &mut Output, app: &App, placement: Placement) -> Result<(), NoM
             line,
             reason,
         } => {
-            out.put(b"unplaced ")?;
-            service_name(out, app, service as usize)?;
-            out.put(b" ")?;
-            handler_name(out, app, service as usize, handler as usize)?;
-            out.put(b" ")?;
-            out.number(u64::from(line))?;
-            out.put(b" ")?;
-            out.put(reason_word(reason))?;
-            out.put(b"\n")
+            let mut digits = Buffer::new();
+            out.put_all(&[
+                b"unplaced ",
+                service_name(app, service as usize),
+                b" ",
+                handler_name(app, service as usize, handler as usize),
+                b" ",
+                digits.format(line).as_bytes(),
+                b" ",
+            ])?;
+            out.put_all(&[reason_word(reason), b"\n"])
         }
     }
 }

@@ -1,4 +1,4 @@
-ghost use Rattle.std.specs.Prelude.{◌≡◌, ◌++◌, OnOk, IfOk, IsTrue};
+ghost use Rattle.std.specs.Prelude.{◌≡◌, ◌++◌, OnOk, IfOk, IsTrue, codes, decimal};
 ghost use Rattle.std.specs.List.{flat_map};
 ghost use Rattle.anti_ids.specs.List.{plain};
 ghost use Rattle.anti_app.specs.Sound.{is_sound};
@@ -21,6 +21,7 @@ use anti_ids::{Bytes, NoMemory};
 use anti_kind::Entry;
 use anti_order::SpanAnswer;
 use anti_trace::{ProcessEnd, Trace};
+use itoa::Buffer;
 use std::alloc::Global;
 
 // Writes the lines of the entries.
@@ -81,15 +82,30 @@ fn all_lines(out: &mut Output, printer: &Printer, report: &Report) -> Result<(),
     span_lines(out, printer, report.spans.as_slice())
 }
 
+// Writes the line that ends a record, with the number of its entries.
+fn end_line(out: &mut Output, entries: u32) -> Result<(), NoMemory>
+    ensures { OnOk result (out.new ≡ out.old ++ codes "end " ++ decimal entries ++ codes "\n") }
+{
+    let mut digits = Buffer::new();
+    out.put_all(&[b"end ", digits.format(entries).as_bytes(), b"\n"])
+}
+
 // Writes the record of what a report tells, as text.
 fn add_text(out: &mut Output, printer: &Printer, report: &Report) -> Result<(), NoMemory>
     ensures { OnOk result (out.new ≡ out.old ++ text_of printer.now.app.now report.now) }
 {
     out.put(b"record 1\n")?;
     all_lines(out, printer, report)?;
-    out.put(b"end ")?;
-    out.number(report.trace.len() as u64)?;
-    out.put(b"\n")
+    end_line(out, report.trace.len())
+}
+
+// The record of what a report tells, as text, by what its lines are printed of.
+fn printed(printer: &Printer, report: &Report) -> Result<Bytes, NoMemory>
+    ensures { IfOk result (λ t. t ≡ plain (text_of printer.now.app.now report.now)) }
+{
+    let mut out = Output::new(printer.alloc);
+    add_text(&mut out, printer, report)?;
+    Ok(out.into_bytes())
 }
 
 /// The record of what a report tells, as text: a line for each entry in the order of the trace, for each choice that made no entry, for each
@@ -98,9 +114,7 @@ pub fn print(alloc: Global, app: &App, report: &Report) -> Result<Bytes, NoMemor
     ensures { IfOk result (λ t. t ≡ plain (text_of app.now report.now)) }
 {
     let printer = Printer::new(alloc, app, report)?;
-    let mut out = Output::new(alloc);
-    add_text(&mut out, &printer, report)?;
-    Ok(out.into_bytes())
+    printed(&printer, report)
 }
 
 /// The record of a run of an application, as text, by its trace and its waits. The only error is want of memory.

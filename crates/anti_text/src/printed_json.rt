@@ -57,11 +57,23 @@ fn add_record(out: &mut Output, printer: &Printer, report: &Report) -> Result<()
     add_number(out, b"{\"end\":", entries.len() as u64)?;
     add_list(out, printer, b",\"entries\":[", entries)?;
     add_list(out, printer, b",\"processes\":[", report.ends.as_slice())?;
-    out.put(b",\"record\":1")?;
-    add_list(out, printer, b",\"spans\":[", report.spans.as_slice())?;
+    add_list(
+        out,
+        printer,
+        b",\"record\":1,\"spans\":[",
+        report.spans.as_slice(),
+    )?;
     add_list(out, printer, b",\"waits\":[", report.waits.as_slice())?;
-    out.put(b"}")?;
-    out.put(b"\n")
+    out.put(b"}\n")
+}
+
+// The record of what a report tells, as one JSON object and a newline, by what its entries are printed of.
+fn printed(printer: &Printer, report: &Report) -> Result<Bytes, NoMemory>
+    ensures { IfOk result (λ t. t ≡ plain (json_of printer.now.app.now report.now)) }
+{
+    let mut out = Output::new(printer.alloc);
+    add_record(&mut out, printer, report)?;
+    Ok(out.into_bytes())
 }
 
 /// The record of what a report tells, as one JSON object and a newline. The only error is want of memory.
@@ -69,9 +81,7 @@ pub fn print_json(alloc: Global, app: &App, report: &Report) -> Result<Bytes, No
     ensures { IfOk result (λ t. t ≡ plain (json_of app.now report.now)) }
 {
     let printer = Printer::new(alloc, app, report)?;
-    let mut out = Output::new(alloc);
-    add_record(&mut out, &printer, report)?;
-    Ok(out.into_bytes())
+    printed(&printer, report)
 }
 
 /// The record of a run of an application, as JSON, by its trace and its waits. The only error is want of memory.

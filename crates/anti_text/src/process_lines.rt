@@ -1,5 +1,6 @@
-ghost use Rattle.std.specs.Prelude.{◌≡◌, ◌++◌, OnOk};
+ghost use Rattle.std.specs.Prelude.{◌≡◌, ◌++◌, OnOk, codes};
 ghost use Rattle.anti_text.specs.Processes.{end_text, process_line};
+ghost use Rattle.anti_text.specs.Words.{handler_name, service_name};
 
 use crate::output::Output;
 use crate::words::{handler_name, mark_text, object_name, service_name};
@@ -17,12 +18,28 @@ pub fn end_text(out: &mut Output, app: &App, end: Option<End>) -> Result<(), NoM
         Some(End::Depth) => out.put(b"depth"),
         Some(End::BadKey) => out.put(b"badkey"),
         Some(End::LineageFull) => out.put(b"lineage"),
-        Some(End::StoreFull(object)) => {
-            out.put(b"store ")?;
-            object_name(out, app, object)
-        }
+        Some(End::StoreFull(object)) => out.put_all(&[b"store ", object_name(app, object)]),
         None => out.put(b"open"),
     }
+}
+
+// Writes the names of a service and of a handler of it, between spaces.
+fn handler_words(
+    out: &mut Output,
+    app: &App,
+    service: usize,
+    handler: usize,
+) -> Result<(), NoMemory>
+    ensures { OnOk result (out.new ≡ out.old ++ codes " " ++ service_name app.now service
+        ++ codes " " ++ handler_name app.now service handler ++ codes " ") }
+{
+    out.put_all(&[
+        b" ",
+        service_name(app, service),
+        b" ",
+        handler_name(app, service, handler),
+        b" ",
+    ])
 }
 
 /// Writes the line of a process.
@@ -31,11 +48,7 @@ pub fn process_line(out: &mut Output, app: &App, process: &ProcessEnd) -> Result
 {
     out.put(b"process ")?;
     mark_text(out, app, process.birth.object, process.birth.place)?;
-    out.put(b" ")?;
-    service_name(out, app, process.service)?;
-    out.put(b" ")?;
-    handler_name(out, app, process.service, process.handler)?;
-    out.put(b" ")?;
+    handler_words(out, app, process.service, process.handler)?;
     end_text(out, app, process.end)?;
     out.put(b"\n")
 }

@@ -7,6 +7,7 @@ use crate::printer::Printer;
 use crate::words::quoted;
 use anti_ids::{Lineage, Name, NoMemory};
 use anti_kind::{Message, MessageKind, Reply, Row};
+use itoa::Buffer;
 
 // Writes a message as it is taken.
 fn taken_text(
@@ -20,10 +21,9 @@ fn taken_text(
     match kind {
         MessageKind::Reply => value_and_baggage(out, message),
         MessageKind::Request | MessageKind::Call | MessageKind::Send => {
-            out.number(u64::from(number))?;
-            out.put(b" ")?;
-            kind_text(out, kind)?;
-            out.put(b" ")?;
+            let mut digits = Buffer::new();
+            let number = digits.format(number).as_bytes();
+            out.put_all(&[number, b" ", kind_text(kind), b" "])?;
             handler_and_rest(out, message)
         }
     }
@@ -33,9 +33,8 @@ fn taken_text(
 fn version_text(out: &mut Output, key: &Name, version: u64) -> Result<(), NoMemory>
     ensures { OnOk result (out.new ≡ out.old ++ version_text key.now version) }
 {
-    out.put(key.bytes())?;
-    out.put(b"@")?;
-    out.number(version)
+    let mut digits = Buffer::new();
+    out.put_all(&[key.bytes(), b"@", digits.format(version).as_bytes()])
 }
 
 // Writes a row.
@@ -43,8 +42,7 @@ fn row_text(out: &mut Output, printer: &Printer, row: &Row) -> Result<(), NoMemo
     ensures { OnOk result (out.new ≡ out.old ++ row_text printer.now.app.now row.now) }
 {
     if row.version == 0 {
-        out.put(row.key.bytes())?;
-        return out.put(b"@0");
+        return out.put_all(&[row.key.bytes(), b"@0"]);
     }
     version_text(out, &row.key, row.version)?;
     out.put(b" ")?;
@@ -111,8 +109,8 @@ pub fn reply_text(out: &mut Output, printer: &Printer, reply: &Reply) -> Result<
         Reply::Moved => out.put(b"moved"),
         Reply::Pulled(row) => row_text(out, printer, row.get()),
         Reply::Posted(number) => {
-            out.put(b"posted ")?;
-            out.number(u64::from(*number))
+            let mut digits = Buffer::new();
+            out.put_all(&[b"posted ", digits.format(*number).as_bytes()])
         }
         Reply::Got { number, message } => {
             out.put(b"got ")?;

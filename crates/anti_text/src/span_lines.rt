@@ -8,6 +8,7 @@ use anti_app::App;
 use anti_ids::NoMemory;
 use anti_order::{OrderAnswer, SpanAnswer};
 use anti_past::Span;
+use itoa::Buffer;
 
 /// Writes what is answered of the reads of a span.
 pub fn answer_text(
@@ -38,8 +39,8 @@ pub fn span_name(out: &mut Output, app: &App, span: Span) -> Result<(), NoMemory
     ensures { OnOk result (out.new ≡ out.old ++ span_name app.now span) }
 {
     mark_text(out, app, span.birth.object, span.birth.place)?;
-    out.put(b"/")?;
-    out.number(u64::from(span.span))
+    let mut digits = Buffer::new();
+    out.put_all(&[b"/", digits.format(span.span).as_bytes()])
 }
 
 /// Writes the line of a span.

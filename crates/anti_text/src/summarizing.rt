@@ -15,6 +15,7 @@ use anti_order::{AnswerCounts, count_answers};
 use anti_past::reads;
 use anti_proc::End;
 use anti_trace::{ProcessEnd, Trace, ends_of};
+use itoa::Buffer;
 use std::alloc::Global;
 
 // How many writes there are.
@@ -67,10 +68,8 @@ fn count_fine(ends: &[ProcessEnd]) -> usize
 fn count_line(out: &mut Output, what: &[u8], count: usize) -> Result<(), NoMemory>
     ensures { OnOk result (out.new ≡ out.old ++ count_line what.now count) }
 {
-    out.put(what)?;
-    out.put(b" ")?;
-    out.number(count as u64)?;
-    out.put(b"\n")
+    let mut digits = Buffer::new();
+    out.put_all(&[what, b" ", digits.format(count).as_bytes(), b"\n"])
 }
 
 // Writes how many entries there are, and how many of them are of each kind.

@@ -1,11 +1,12 @@
 ghost use Rattle.std.specs.Prelude.{◌≡◌, ◌++◌, OnOk, codes, decimal};
 ghost use Rattle.anti_text.specs.Entries.{part_text, shipment_text, choice_text, choice_numbered, wait_line};
-ghost use Rattle.anti_text.specs.Words.{service_name, sub_name};
+ghost use Rattle.anti_text.specs.Words.{mark_text, service_name, sub_name};
 
 use crate::output::Output;
 use crate::words::{mark_text, region_name, service_name, store_name, sub_name};
 use anti_app::{App, Choice};
 use anti_ids::NoMemory;
+use itoa::Buffer;
 
 // Writes the part of a ship.
 fn part_text(out: &mut Output, part: Option<u32>) -> Result<(), NoMemory>
@@ -14,28 +15,34 @@ fn part_text(out: &mut Output, part: Option<u32>) -> Result<(), NoMemory>
     match part {
         None => Ok(()),
         Some(part) => {
-            out.put(b" ")?;
-            out.number(u64::from(part))
+            let mut digits = Buffer::new();
+            out.put_all(&[b" ", digits.format(part).as_bytes()])
         }
     }
 }
 
-// Writes a store, a region, a version, and a part where one was given.
+// Writes a word, a store, a region, a version, and a part where one was given.
 fn shipment_text(
     out: &mut Output,
     app: &App,
+    word: &[u8],
     store: u32,
     region: u32,
     version: u64,
     part: Option<u32>,
 ) -> Result<(), NoMemory>
-    ensures { OnOk result (out.new ≡ out.old ++ shipment_text app.now store region version part) }
+    ensures { OnOk result (out.new ≡ out.old ++ word.now
+        ++ shipment_text app.now store region version part) }
 {
-    store_name(out, app, store as usize)?;
-    out.put(b" ")?;
-    region_name(out, app, region)?;
-    out.put(b" ")?;
-    out.number(version)?;
+    let mut digits = Buffer::new();
+    out.put_all(&[
+        word,
+        store_name(app, store as usize),
+        b" ",
+        region_name(app, region),
+        b" ",
+        digits.format(version).as_bytes(),
+    ])?;
     part_text(out, part)
 }
 
@@ -50,20 +57,41 @@ fn delivery_text(
     ensures { OnOk result (out.new ≡ out.old ++ word.now
         ++ service_name app.now service ++ codes " " ++ decimal number) }
 {
-    out.put(word)?;
-    service_name(out, app, service as usize)?;
-    out.put(b" ")?;
-    out.number(u64::from(number))
+    let mut digits = Buffer::new();
+    out.put_all(&[
+        word,
+        service_name(app, service as usize),
+        b" ",
+        digits.format(number).as_bytes(),
+    ])
 }
 
-// Writes a subscription and a version.
-fn message_text(out: &mut Output, app: &App, sub: u32, version: u64) -> Result<(), NoMemory>
-    ensures { OnOk result
-        (out.new ≡ out.old ++ sub_name app.now sub ++ codes " " ++ decimal version) }
+// Writes a word, a subscription and a version.
+fn message_text(
+    out: &mut Output,
+    app: &App,
+    word: &[u8],
+    sub: u32,
+    version: u64,
+) -> Result<(), NoMemory>
+    ensures { OnOk result (out.new ≡ out.old ++ word.now
+        ++ sub_name app.now sub ++ codes " " ++ decimal version) }
 {
-    sub_name(out, app, sub as usize)?;
-    out.put(b" ")?;
-    out.number(version)
+    let mut digits = Buffer::new();
+    out.put_all(&[
+        word,
+        sub_name(app, sub as usize),
+        b" ",
+        digits.format(version).as_bytes(),
+    ])
+}
+
+// Writes the choice to go on with a process, by the place of its birth.
+fn go_text(out: &mut Output, app: &App, object: u32, place: u32) -> Result<(), NoMemory>
+    ensures { OnOk result (out.new ≡ out.old ++ codes "go " ++ mark_text app.now object place) }
+{
+    out.put(b"go ")?;
+    mark_text(out, app, object, place)
 }
 
 // Writes a choice.
@@ -75,36 +103,21 @@ fn choice_text(out: &mut Output, app: &App, choice: &Choice) -> Result<(), NoMem
         Choice::Repost { service, number } => {
             delivery_text(out, app, b"repost ", *service, *number)
         }
-        Choice::Pull { sub } => {
-            out.put(b"pull ")?;
-            sub_name(out, app, *sub as usize)
-        }
-        Choice::Repull { sub, version } => {
-            out.put(b"repull ")?;
-            message_text(out, app, *sub, *version)
-        }
+        Choice::Pull { sub } => { out.put_all(&[b"pull ", sub_name(app, *sub as usize)]) }
+        Choice::Repull { sub, version } => message_text(out, app, b"repull ", *sub, *version),
         Choice::Ship {
             store,
             region,
             version,
             part,
-        } => {
-            out.put(b"ship ")?;
-            shipment_text(out, app, *store, *region, *version, *part)
-        }
+        } => shipment_text(out, app, b"ship ", *store, *region, *version, *part),
         Choice::Again {
             store,
             region,
             version,
             part,
-        } => {
-            out.put(b"again ")?;
-            shipment_text(out, app, *store, *region, *version, *part)
-        }
-        Choice::Go { object, place } => {
-            out.put(b"go ")?;
-            mark_text(out, app, *object, *place)
-        }
+        } => shipment_text(out, app, b"again ", *store, *region, *version, *part),
+        Choice::Go { object, place } => go_text(out, app, *object, *place),
         Choice::Finish => out.put(b"finish"),
     }
 }
@@ -127,9 +140,8 @@ pub fn choice_numbered(out: &mut Output, app: &App, number: u32) -> Result<(), N
 pub fn wait_line(out: &mut Output, app: &App, number: u32) -> Result<(), NoMemory>
     ensures { OnOk result (out.new ≡ out.old ++ wait_line app.now number) }
 {
-    out.put(b"wait ")?;
-    out.number(u64::from(number))?;
-    out.put(b" ")?;
+    let mut digits = Buffer::new();
+    out.put_all(&[b"wait ", digits.format(number).as_bytes(), b" "])?;
     choice_numbered(out, app, number)?;
     out.put(b"\n")
 }

@@ -6,91 +6,86 @@ use crate::output::Output;
 use anti_app::{App, HandlerDef, ObjectAt, number_on, object_at};
 use anti_ids::NoMemory;
 use anti_trace::Mark;
+use itoa::Buffer;
 
-/// Writes the name of a store, by its number.
-pub fn store_name(out: &mut Output, app: &App, store: usize) -> Result<(), NoMemory>
-    ensures { OnOk result (out.new ≡ out.old ++ store_name app.now store) }
+/// The name of a store, by its number; no text where there is none.
+pub fn store_name(app: &App, store: usize) -> &[u8]
+    ensures { result.now ≡ store_name app.now store }
 {
     match app.stores.as_slice().get(store) {
-        Some(found) => out.put(found.name.bytes()),
-        None => Ok(()),
+        Some(found) => found.name.bytes(),
+        None => &[],
     }
 }
 
-/// Writes the name of a service, by its number.
-pub fn service_name(out: &mut Output, app: &App, service: usize) -> Result<(), NoMemory>
-    ensures { OnOk result (out.new ≡ out.old ++ service_name app.now service) }
+/// The name of a service, by its number; no text where there is none.
+pub fn service_name(app: &App, service: usize) -> &[u8]
+    ensures { result.now ≡ service_name app.now service }
 {
     match app.services.as_slice().get(service) {
-        Some(found) => out.put(found.name.bytes()),
-        None => Ok(()),
+        Some(found) => found.name.bytes(),
+        None => &[],
     }
 }
 
-// Writes the name of a handler among those of a service, by its number.
-fn name_among(out: &mut Output, handlers: &[HandlerDef], handler: usize) -> Result<(), NoMemory>
-    ensures { OnOk result (out.new ≡ out.old ++ name_among handler handlers.now) }
+// The name of a handler among those of a service, by its number; no text where there is none.
+fn name_among(handlers: &[HandlerDef], handler: usize) -> &[u8]
+    ensures { result.now ≡ name_among handler handlers.now }
 {
     match handlers.get(handler) {
-        Some(found) => out.put(found.name.bytes()),
-        None => Ok(()),
+        Some(found) => found.name.bytes(),
+        None => &[],
     }
 }
 
-/// Writes the name of a handler of a service, by their numbers.
-pub fn handler_name(
-    out: &mut Output,
-    app: &App,
-    service: usize,
-    handler: usize,
-) -> Result<(), NoMemory>
-    ensures { OnOk result (out.new ≡ out.old ++ handler_name app.now service handler) }
+/// The name of a handler of a service, by their numbers; no text where there is none.
+pub fn handler_name(app: &App, service: usize, handler: usize) -> &[u8]
+    ensures { result.now ≡ handler_name app.now service handler }
 {
     match app.services.as_slice().get(service) {
-        Some(found) => name_among(out, found.handlers.as_slice(), handler),
-        None => Ok(()),
+        Some(found) => name_among(found.handlers.as_slice(), handler),
+        None => &[],
     }
 }
 
-/// Writes the name of a sub, by its number.
-pub fn sub_name(out: &mut Output, app: &App, sub: usize) -> Result<(), NoMemory>
-    ensures { OnOk result (out.new ≡ out.old ++ sub_name app.now sub) }
+/// The name of a sub, by its number; no text where there is none.
+pub fn sub_name(app: &App, sub: usize) -> &[u8]
+    ensures { result.now ≡ sub_name app.now sub }
 {
     match app.subs.as_slice().get(sub) {
-        Some(found) => out.put(found.name.bytes()),
-        None => Ok(()),
+        Some(found) => found.name.bytes(),
+        None => &[],
     }
 }
 
-/// Writes the name of the sub at a position among those of a store.
-pub fn sub_name_on(out: &mut Output, app: &App, store: u32, position: u32) -> Result<(), NoMemory>
-    ensures { OnOk result (out.new ≡ out.old ++ sub_name_on app.now store position) }
+/// The name of the sub at a position among those of a store; no text where there is none.
+pub fn sub_name_on(app: &App, store: u32, position: u32) -> &[u8]
+    ensures { result.now ≡ sub_name_on app.now store position }
 {
     match number_on(app, store, position as usize) {
-        Some(number) => sub_name(out, app, number),
-        None => Ok(()),
+        Some(number) => sub_name(app, number),
+        None => &[],
     }
 }
 
-/// Writes the name of a region, by its number.
-pub fn region_name(out: &mut Output, app: &App, region: u32) -> Result<(), NoMemory>
-    ensures { OnOk result (out.new ≡ out.old ++ region_name app.now region) }
+/// The name of a region, by its number; no text where there is none.
+pub fn region_name(app: &App, region: u32) -> &[u8]
+    ensures { result.now ≡ region_name app.now region }
 {
     match app.regions.as_slice().get(region as usize) {
-        Some(name) => out.put(name.bytes()),
-        None => Ok(()),
+        Some(name) => name.bytes(),
+        None => &[],
     }
 }
 
-/// Writes the name of an object, by its number: that of the store, or of the service whose inbox
-/// it is.
-pub fn object_name(out: &mut Output, app: &App, object: u32) -> Result<(), NoMemory>
-    ensures { OnOk result (out.new ≡ out.old ++ object_name app.now object) }
+/// The name of an object, by its number: that of the store, or of the service whose inbox it is; no text where there is none.
+pub fn object_name(app: &App, object: u32) -> &[u8]
+    ensures { result.now ≡ object_name app.now object }
 {
     match object_at(app, object) {
-        Some(ObjectAt::Store(store)) => store_name(out, app, store as usize),
-        Some(ObjectAt::Inbox(service)) => service_name(out, app, service as usize),
-        None => Ok(()),
+        Some(ObjectAt::Store(store)) => store_name(app, store as usize),
+        Some(ObjectAt::Inbox(service)) => service_name(app, service as usize),
+        None => &[],
     }
 }
 
@@ -98,9 +93,12 @@ pub fn object_name(out: &mut Output, app: &App, object: u32) -> Result<(), NoMem
 pub fn mark_text(out: &mut Output, app: &App, object: u32, place: u32) -> Result<(), NoMemory>
     ensures { OnOk result (out.new ≡ out.old ++ mark_text app.now object place) }
 {
-    object_name(out, app, object)?;
-    out.put(b".")?;
-    out.number(u64::from(place))
+    let mut digits = Buffer::new();
+    out.put_all(&[
+        object_name(app, object),
+        b".",
+        digits.format(place).as_bytes(),
+    ])
 }
 
 /// Writes a mark behind a space.

@@ -15,10 +15,9 @@ returns c =
     let app = c.args.printer.now.app.now in
     let t = c.args.report.now in
     let counted : c.len.result ≡ length t.entries = c.len.ensures.len ∙ ap (λ told. length told.entries) c.report.view_is in
-    let number : c.number.new.self ≡ c.put-2.new.self ++ decimal (length t.entries) = c.in_ok-number.ensures ∙ ap (λ n. c.put-2.new.self ++ decimal n) counted in
     let lines = c.in_ok-all_lines.ensures ∙ ap (λ x. x ++ flat_map (entry_line app) t.entries ++ flat_map (wait_line app) t.waits ++ flat_map (process_line app) t.ends ++ flat_map (span_line app) t.spans) c.in_ok-put.ensures in
-    let ended = c.in_ok-put-2.ensures ∙ ap (λ x. x ++ codes "end ") lines in
-    let whole = ap (λ x. x ++ codes "\n") (number ∙ ap (λ x. x ++ decimal (length t.entries)) ended) in
-    subst (λ x. OnOk c.put-3.result (c.put-3.new.self ≡ x))
+    let number = ap (λ n. c.all_lines.new.out ++ codes "end " ++ decimal n ++ codes "\n") counted in
+    let whole = number ∙ ap (λ x. x ++ codes "end " ++ decimal (length t.entries) ++ codes "\n") lines in
+    subst (λ x. OnOk c.end_line.result (c.end_line.new.out ≡ x))
     (whole ∙ at_once c.args.out.now (codes "record 1\n") (flat_map (entry_line app) t.entries) (flat_map (wait_line app) t.waits) (flat_map (process_line app) t.ends) (flat_map (span_line app) t.spans) (codes "end ") (decimal (length t.entries)) (codes "\n"))
-    c.put-3.ensures
+    c.end_line.ensures

@@ -1,4 +1,5 @@
 use Rattle.std.proofs.Common.{◌≡◌, ℕ, List, ◌++◌, codes, length, decimal, rules, false, map, sym, ap, ◌∙◌, subst, OnOk}
+use Rattle.std.proofs.lemmas.List.{append_assoc}
 use Rattle.serde_json.specs.Data.{Data}
 use Rattle.serde_json.specs.View.{items_of}
 use Rattle.serde_json.specs.Written.{items_text}
@@ -25,16 +26,15 @@ returns c =
     added entry_data c.add_list.new.out c.add_number.new.out (codes ",\"entries\":[") app c.as_slice-entries.result.now t.entries told_entries c.in_ok-add_list.ensures in
     let processes : c.add_list-2.new.out ≡ c.add_list.new.out ++ codes ",\"processes\":[" ++ items_text false (items_of (map (process_data app) t.ends)) =
     added process_data c.add_list-2.new.out c.add_list.new.out (codes ",\"processes\":[") app c.as_slice.result.now t.ends told_ends c.in_ok-add_list-2.ensures in
-    let one : c.put.new.self ≡ c.add_list-2.new.out ++ codes ",\"record\":1" = c.in_ok-put.ensures in
-    let spans : c.add_list-3.new.out ≡ c.put.new.self ++ codes ",\"spans\":[" ++ items_text false (items_of (map (span_data app) t.spans)) =
-    added span_data c.add_list-3.new.out c.put.new.self (codes ",\"spans\":[") app c.as_slice-2.result.now t.spans told_spans c.in_ok-add_list-3.ensures in
+    let spans : c.add_list-3.new.out ≡ c.add_list-2.new.out ++ codes ",\"record\":1,\"spans\":[" ++ items_text false (items_of (map (span_data app) t.spans)) =
+    added span_data c.add_list-3.new.out c.add_list-2.new.out (codes ",\"record\":1,\"spans\":[") app c.as_slice-2.result.now t.spans told_spans c.in_ok-add_list-3.ensures in
     let waits : c.add_list-4.new.out ≡ c.add_list-3.new.out ++ codes ",\"waits\":[" ++ items_text false (items_of (map (wait_data app) t.waits)) =
     added wait_data c.add_list-4.new.out c.add_list-3.new.out (codes ",\"waits\":[") app c.as_slice-3.result.now t.waits told_waits c.in_ok-add_list-4.ensures in
-    let closed : c.put-2.new.self ≡ c.add_list-4.new.out ++ codes "}" = c.in_ok-put-2.ensures in
     let all =
-    closed ∙ ap (λ x. x ++ codes "}")
+    ap (λ x. x ++ codes "}")
     (waits ∙ ap (λ x. x ++ codes ",\"waits\":[" ++ items_text false (items_of (map (wait_data app) t.waits)))
-    (spans ∙ ap (λ x. x ++ codes ",\"spans\":[" ++ items_text false (items_of (map (span_data app) t.spans))) (one ∙ ap (λ x. x ++ codes ",\"record\":1")
+    (spans ∙ ap (λ x. x ++ codes ",\"record\":1,\"spans\":[" ++ items_text false (items_of (map (span_data app) t.spans)))
     (processes ∙ ap (λ x. x ++ codes ",\"processes\":[" ++ items_text false (items_of (map (process_data app) t.ends)))
-    (entries ∙ ap (λ x. x ++ codes ",\"entries\":[" ++ items_text false (items_of (map (entry_data app) t.entries))) number))))) in
-    subst (λ x. OnOk c.put-3.result (c.put-3.new.self ≡ x)) (ap (λ x. x ++ codes "\n") all ∙ sym (record_added c.args.out.now app t)) c.put-3.ensures
+    (entries ∙ ap (λ x. x ++ codes ",\"entries\":[" ++ items_text false (items_of (map (entry_data app) t.entries))) number)))) in
+    let closed = sym (append_assoc c.add_list-4.new.out (codes "}") (codes "\n")) in
+    subst (λ x. OnOk c.put.result (c.put.new.self ≡ x)) (closed ∙ ap (λ x. x ++ codes "\n") all ∙ sym (record_added c.args.out.now app t)) c.put.ensures
