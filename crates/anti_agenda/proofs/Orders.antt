@@ -2,8 +2,9 @@
 use Rattle.std.proofs.Common.{◌≡◌, ℕ, ◌<◌, ◌⊎◌, true, false, refl, sym, ap, ◌∙◌, inl, inr, arith}
 use Rattle.std.specs.declared.cmp.Ordering.{Ordering}
 use Rattle.std.specs.declared.cmp.Ordering.TheVariants.{Less, Equal, Greater}
-use Rattle.std.specs.Ordering.{is_gt, nat_cmp, ordering_then}
+use Rattle.std.specs.Ordering.{is_eq, is_gt, nat_cmp, ordering_then}
 use Rattle.std.specs.Cmp.{IsTotalOrder}
+use Rattle.std.proofs.lemmas.Bool.{false≢true, true≢false}
 use Rattle.std.proofs.lemmas.Cmp.{by_ranked, ranked, tied_itself, nat_cmp_total}
 use Rattle.std.proofs.lemmas.Map.Lookups.{CmpEqualImpliesEq, exact_unsigned}
 use Rattle.anti_kind.specs.contracts.awaited.AwaitedOrd.TheImpl as awaited_order
@@ -21,9 +22,9 @@ use Rattle.anti_agenda.specs.declared.offer.Sleeper.{Sleeper}
 -- ---- by one part and then by another
 
 equal_parts : (o p : Ordering) → ordering_then o p ≡ Equal → (o ≡ Equal) × (p ≡ Equal)
-equal_parts Less p is = absurd (cc)
+equal_parts Less p is = absurd (false≢true (ap is_eq is))
 equal_parts Equal p is = (refl, is)
-equal_parts Greater p is = absurd (cc)
+equal_parts Greater p is = absurd (false≢true (ap is_eq is))
 
 pub up_to_first : (o p : Ordering) → is_gt (ordering_then o p) ≡ false → is_gt o ≡ false
 up_to_first Less p is = refl
@@ -66,7 +67,7 @@ offers_exact (Pull a) (Pull x) is = ap Pull (exact_unsigned a x is)
 offers_exact (Ship a b) (Ship x y) is =
     let parts = equal_parts (nat_cmp a x) (nat_cmp b y) is in
     λ i. Ship (exact_unsigned a x parts.0 i) (exact_unsigned b y parts.1 i)
-offers_exact first second is = absurd (cc)
+offers_exact first second is = absurd (false≢true (ap is_eq is))
 
 -- the first of all
 pub none_before : (offer : Offer) → is_gt (offer_cmp (Go 0 0) offer) ≡ false
@@ -99,11 +100,11 @@ before_or_same (Take a) (Take x) is = numbers Take a x is
 before_or_same (Pull a) (Pull x) is = numbers Pull a x is
 before_or_same (Ship a b) (Ship x y) is = pairs Ship a b x y is
 before_or_same (Go a b) second is = inr tt
-before_or_same (Take a) (Go x y) is = absurd (cc)
+before_or_same (Take a) (Go x y) is = absurd (true≢false is)
 before_or_same (Take a) second is = inr tt
 before_or_same (Pull a) (Ship x y) is = inr tt
-before_or_same (Pull a) second is = absurd (cc)
-before_or_same (Ship a b) second is = absurd (cc)
+before_or_same (Pull a) second is = absurd (true≢false is)
+before_or_same (Ship a b) second is = absurd (true≢false is)
 
 -- ---- sleepers
 
@@ -118,7 +119,7 @@ awaited_exact (Version a b) (Version x y) is =
     let parts = equal_parts (nat_cmp a x) (nat_cmp b y) is in
     λ i. Version (exact_unsigned a x parts.0 i) (exact_unsigned b y parts.1 i)
 awaited_exact Writing Writing is = refl
-awaited_exact first second is = absurd (cc)
+awaited_exact first second is = absurd (false≢true (ap is_eq is))
 
 abbrev pub sleeper_cmp : Sleeper → Sleeper → Ordering
 sleeper_cmp = sleeper_order.ghosts.cmp

@@ -155,7 +155,12 @@ fn first_dot(word: &[u8]) -> Option<usize>
     ensures place { result ≡ position (λ b. b == dot) word.now }
     ensures within { IfSome result (λ dot. dot < length word.now) }
 {
-    word.iter().position(|b| *b == b'.')
+    for (place, byte) in word.iter().enumerate() {
+        if *byte == b'.' {
+            return Some(place);
+        }
+    }
+    None
 }
 
 // The choice `go OBJECT.PLACE`.

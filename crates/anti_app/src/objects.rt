@@ -12,7 +12,7 @@ use anti_lang::Statement;
 use std::alloc::Global;
 
 /// What the object of a number is.
-#[derive(Clone, Copy, PartialEq, Eq)]
+#[derive(Clone, Copy)]
 pub enum ObjectAt {
     /// The store of a number.
     Store(u32),
@@ -165,7 +165,12 @@ pub fn handler_number(app: &App, service: usize, name: &Name) -> usize
 fn has_named(handlers: &[HandlerDef], name: &Name) -> bool
     ensures { result ≡ has_named name.now handlers.now }
 {
-    handlers.iter().any(|handler| handler.name == *name)
+    for handler in handlers {
+        if handler.name == *name {
+            return true;
+        }
+    }
+    false
 }
 
 /// Whether a service has a handler with a name.
@@ -205,12 +210,10 @@ pub fn store_number(app: &App, name: &Name) -> u32
 pub fn store_names(alloc: Global, app: &App) -> Result<Vec<Name>, NoMemory>
     ensures { IfOk result (λ names. names.items ≡ store_names app.now) }
 {
-    let names = app
-        .stores
-        .as_slice()
-        .iter()
-        .map(|store| store.name)
-        .collect(alloc)?;
+    let mut names = Vec::new(alloc);
+    for store in app.stores.as_slice() {
+        names.push(store.name)?;
+    }
     Ok(names)
 }
 
@@ -218,11 +221,12 @@ pub fn store_names(alloc: Global, app: &App) -> Result<Vec<Name>, NoMemory>
 fn is_here(region: u32, store: &StoreDef) -> bool
     ensures { result ≡ is_here region store.now }
 {
-    store
-        .replicas
-        .as_slice()
-        .iter()
-        .any(|replica| *replica == region)
+    for replica in store.replicas.as_slice() {
+        if *replica == region {
+            return true;
+        }
+    }
+    false
 }
 
 /// The numbers of the stores with a replica in a region, ascending.

@@ -26,7 +26,12 @@ pub fn regions_of(alloc: Global, values: &[Value]) -> Result<Names, NoMemory>
 fn region_place(regions: &[Name], text: &[u8]) -> Option<usize>
     ensures { result ≡ position (λ name. bytes_eq name text.now) regions.now }
 {
-    regions.iter().position(|name| name.bytes() == text)
+    for (place, name) in regions.iter().enumerate() {
+        if name.bytes() == text {
+            return Some(place);
+        }
+    }
+    None
 }
 
 /// The number of the region of a name.

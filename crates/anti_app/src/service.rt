@@ -88,9 +88,12 @@ pub fn services_of(
 pub fn service_place(services: &[ServiceDef], text: &[u8]) -> Option<usize>
     ensures { result ≡ service_place services.now text.now }
 {
-    services
-        .iter()
-        .position(|service| service.name.bytes() == text)
+    for (place, service) in services.iter().enumerate() {
+        if service.name.bytes() == text {
+            return Some(place);
+        }
+    }
+    None
 }
 
 /// The number of the service of a name.
@@ -107,9 +110,12 @@ pub fn service_number(services: &[ServiceDef], text: &[u8]) -> Option<u32>
 fn handler_place(handlers: &[HandlerDef], text: &[u8]) -> Option<usize>
     ensures { result ≡ position (λ handler. bytes_eq handler.name text.now) handlers.now }
 {
-    handlers
-        .iter()
-        .position(|handler| handler.name.bytes() == text)
+    for (place, handler) in handlers.iter().enumerate() {
+        if handler.name.bytes() == text {
+            return Some(place);
+        }
+    }
+    None
 }
 
 // The number of the handler of a name among those of a service.

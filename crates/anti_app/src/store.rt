@@ -65,7 +65,12 @@ pub fn stores_of(alloc: Global, regions: &[Name], values: &[Value]) -> Result<St
 pub fn store_place(stores: &[StoreDef], text: &[u8]) -> Option<usize>
     ensures { result ≡ store_place stores.now text.now }
 {
-    stores.iter().position(|store| store.name.bytes() == text)
+    for (place, store) in stores.iter().enumerate() {
+        if store.name.bytes() == text {
+            return Some(place);
+        }
+    }
+    None
 }
 
 /// The number of the store of a name.

@@ -26,12 +26,11 @@ fn sub_of(app: &App, sub: &SubDef) -> Sub
 pub fn subs_on(alloc: Global, app: &App, store: u32) -> Result<Vec<Sub>, NoMemory>
     ensures { IfOk result (λ subs. subs.items ≡ subs_on app.now store) }
 {
-    let subs = app
-        .subs
-        .as_slice()
-        .iter()
-        .filter(|sub| sub.store == store)
-        .map(|sub| sub_of(app, sub))
-        .collect(alloc)?;
+    let mut subs = Vec::new(alloc);
+    for sub in app.subs.as_slice() {
+        if sub.store == store {
+            subs.push(sub_of(app, sub))?;
+        }
+    }
     Ok(subs)
 }

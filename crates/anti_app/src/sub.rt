@@ -48,7 +48,12 @@ pub fn subs_of(
 fn sub_place(subs: &[SubDef], text: &[u8]) -> Option<usize>
     ensures { result ≡ position (λ sub. bytes_eq sub.name text.now) subs.now }
 {
-    subs.iter().position(|sub| sub.name.bytes() == text)
+    for (place, sub) in subs.iter().enumerate() {
+        if sub.name.bytes() == text {
+            return Some(place);
+        }
+    }
+    None
 }
 
 /// The number of the subscription of a name.

@@ -130,15 +130,29 @@ fn work_four<M: Machine + Send, R: Threads + Wait + Sync + AllocGlobal>(
     Some(first)
 }
 
+// So many threads, which are one, two or four, make all calls.
+fn work_all<M: Machine + Send, R: Threads + Wait + Sync + AllocGlobal>(
+    rt: &R,
+    shared: &Shared<M>,
+    first: Pass<M>,
+    threads: u32,
+    key: Name,
+) -> Option<Pass<M>>
+    requires { first.id ≡ shared.now.id }
+    ensures { IfSome result (λ pass. pass.id ≡ shared.now.id) }
+{
+    match threads {
+        1 => Some(work(rt, shared, first, key, CALLS / 4)),
+        2 => work_two(rt, shared, first, key, CALLS / 8),
+        _ => work_four(rt, shared, first, key, CALLS / 16),
+    }
+}
+
 // So many threads, which are one, two or four, make all calls on a new store. It gives how many were made.
 fn round<R: Threads + Wait + Sync + AllocGlobal>(rt: &R, threads: u32, key: Name) -> Option<usize> {
     let store = Kv::new(rt.alloc(), 0, &[0]).ok()?;
     let (shared, first) = Shared::new(rt.alloc(), 0, store).ok()?;
-    let pass = match threads {
-        1 => work(rt, &shared, first, key, CALLS / 4),
-        2 => work_two(rt, &shared, first, key, CALLS / 8)?,
-        _ => work_four(rt, &shared, first, key, CALLS / 16)?,
-    };
+    let pass = work_all(rt, &shared, first, threads, key)?;
     let kept = shared.close(pass).ok()?;
     Some(kept.history().len())
 }

@@ -1,7 +1,10 @@
 ghost use Rattle.std.specs.Prelude.{◌≡◌, ◌<◌, ◌≤◌, ◌∷◌, ◌++◌, length, take, drop, slice_get, OnOk, OnErr, IfOk};
+ghost use Rattle.std.specs.Arc.{arc_value};
 ghost use Rattle.anti_ids.specs.Ids.{IsAscending};
+ghost use Rattle.anti_ids.specs.inner.Parts.{joined, put_at};
 ghost use Rattle.anti_ids.specs.inner.Places.{IsPlace};
 
+use crate::copies::Copies;
 use crate::id::WriteId;
 use crate::memory::NoMemory;
 use crate::part::Part;
@@ -93,6 +96,20 @@ impl Block {
         parts::place_of(self.parts.as_slice(), self.len, id)
     }
 
+    // Its parts with an id at an index, in a list of their own.
+    fn parts_with(&self, at: usize, id: WriteId) -> Result<Arc<Vec<Part>>, NoMemory>
+        requires { at ≤ length self.now }
+        ensures { IfOk result (λ parts. joined (arc_value parts).items ≡ put_at at id self.now) }
+    {
+        let alloc = self.allocator();
+        let mut parts = Part::copy_all(self.parts.as_slice(), 1, alloc)?;
+        parts::put(&mut parts, self.len, at, id)?;
+        match Arc::new(alloc, parts) {
+            Ok(parts) => Ok(parts),
+            Err(_) => Err(NoMemory),
+        }
+    }
+
     // Puts an id at an index: in place where nobody else holds the block, else in a block of its own.
     pub(crate) fn grow(&mut self, at: usize, id: WriteId) -> Result<(), NoMemory>
         requires { at ≤ length self.old }
@@ -104,15 +121,7 @@ impl Block {
         };
         match Arc::get_mut(&mut self.parts) {
             Some(parts) => parts::put(parts, self.len, at, id)?,
-            None => {
-                let alloc = self.allocator();
-                let mut parts = parts::shared(alloc, self.parts.as_slice())?;
-                parts::put(&mut parts, self.len, at, id)?;
-                let Ok(parts) = Arc::new(alloc, parts) else {
-                    return Err(NoMemory);
-                };
-                self.parts = parts;
-            }
+            None => self.parts = self.parts_with(at, id)?,
         }
         self.len = len;
         Ok(())

@@ -1,4 +1,4 @@
-ghost use Rattle.std.specs.Prelude.{◌≡◌, ◌<◌, ◌≤◌, [], ◌∷◌, ◌++◌, length, take, slice_get, ◌==◌, OnOk, OnErr, IsOk, IfOk, IfErr, IfNone, IfSome};
+ghost use Rattle.std.specs.Prelude.{◌≡◌, ◌<◌, ◌≤◌, [], ◌∷◌, ◌++◌, length, slice_get, ◌==◌, OnOk, OnErr, IsOk, IfOk, IfErr, IfNone, IfSome};
 ghost use Rattle.anti_ids.specs.List.{empty, plain, pushed, reserved, extended};
 
 use crate::copies::Copies;
@@ -45,16 +45,6 @@ impl Drop for Bytes {
     }
 }
 
-// A list of the bytes at the front of a text.
-fn front_of(text: &Text, len: usize) -> Result<List<u8>, NoMemory>
-    requires { len ≤ length text.now }
-    ensures { IfOk result (λ list. list ≡ plain (take len text.now)) }
-{
-    let mut list = List::new(text.allocator());
-    list.append(&text.bytes()[..len])?;
-    Ok(list)
-}
-
 impl Bytes {
     /// No bytes. They take no memory.
     pub fn new(alloc: Global) -> Bytes
@@ -74,13 +64,13 @@ impl Bytes {
     {
         match &mut self.memory {
             ByteMemory::Own(list) => list.push(byte),
-            ByteMemory::Front(text, len) => match front_with(text, *len, &[byte]) {
-                Ok(list) => {
-                    self.memory = ByteMemory::Own(list);
-                    Ok(())
+            ByteMemory::Front(text, _) => {
+                let alloc = text.allocator();
+                match self.own_with(alloc, &[byte], 0) {
+                    Ok(()) => Ok(()),
+                    Err(fault) => Err((byte, fault)),
                 }
-                Err(fault) => Err((byte, fault)),
-            },
+            }
         }
     }
 
@@ -94,9 +84,11 @@ impl Bytes {
         match &mut self.memory {
             ByteMemory::Own(list) => list.pop(),
             ByteMemory::Front(text, len) => {
-                let before = len.checked_sub(1)?;
-                *len = before;
-                Some(text.bytes()[before])
+                if *len == 0 {
+                    return None;
+                }
+                *len -= 1;
+                Some(text.bytes()[*len])
             }
         }
     }
@@ -144,13 +136,12 @@ impl Bytes {
     {
         match &mut self.memory {
             ByteMemory::Own(list) => list.reserve(more),
-            ByteMemory::Front(text, len) => {
-                if more > 0 {
-                    let mut list = front_of(text, *len)?;
-                    list.reserve(more)?;
-                    self.memory = ByteMemory::Own(list);
+            ByteMemory::Front(text, _) => {
+                if more == 0 {
+                    return Ok(());
                 }
-                Ok(())
+                let alloc = text.allocator();
+                self.own_with(alloc, &[], more)
             }
         }
     }
@@ -163,13 +154,31 @@ impl Bytes {
     {
         match &mut self.memory {
             ByteMemory::Own(list) => list.append(bytes),
-            ByteMemory::Front(text, len) => {
-                if !bytes.is_empty() {
-                    self.memory = ByteMemory::Own(front_with(text, *len, bytes)?);
+            ByteMemory::Front(text, _) => {
+                if bytes.is_empty() {
+                    return Ok(());
                 }
-                Ok(())
+                let alloc = text.allocator();
+                self.own_with(alloc, bytes, 0)
             }
         }
+    }
+
+    // Puts the bytes into a list that nobody else holds, with further ones behind them and room for `more`.
+    fn own_with(&mut self, alloc: Global, bytes: &[u8], more: u32) -> Result<(), NoMemory>
+        ensures items { OnOk result (self.new.items ≡ self.old.items ++ bytes.now) }
+        ensures spare { OnOk result (self.new.spare ≡ more) }
+        ensures err { OnErr result (self.new ≡ self.old) }
+    {
+        let mut list = List::new(alloc);
+        if list.append(self.bytes()).is_err()
+            || list.append(bytes).is_err()
+            || list.reserve(more).is_err()
+        {
+            return Err(NoMemory);
+        }
+        self.memory = ByteMemory::Own(list);
+        Ok(())
     }
 }
 
@@ -181,16 +190,6 @@ impl From<List<u8>> for Bytes {
             memory: ByteMemory::Own(list),
         }
     }
-}
-
-// A list of the bytes at the front of a text, and further ones.
-fn front_with(text: &Text, len: usize, bytes: &[u8]) -> Result<List<u8>, NoMemory>
-    requires { len ≤ length text.now }
-    ensures { IfOk result (λ list. list ≡ plain (take len text.now ++ bytes.now)) }
-{
-    let mut list = front_of(text, len)?;
-    list.append(bytes)?;
-    Ok(list)
 }
 
 // Bytes without room that their copies share.

@@ -23,7 +23,7 @@ pub trait Copies: Drop {
 }
 
 // An empty list with room for these and more items.
-fn room_for<T>(count: usize, more: usize, alloc: Global) -> Result<Vec<T>, NoMemory>
+pub(crate) fn room_for<T>(count: usize, more: usize, alloc: Global) -> Result<Vec<T>, NoMemory>
     ensures items { IfOk result (λ v. v.items ≡ []) }
     ensures room { IfOk result (λ v. count + more ≤ vec_capacity v) }
 {

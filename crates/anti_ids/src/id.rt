@@ -38,7 +38,7 @@ impl Ord for WriteId {
     fn cmp(&self, other: &WriteId) -> Ordering {
         self.store
             .cmp(&other.store)
-            .then_with(|| self.version.cmp(&other.version))
+            .then(self.version.cmp(&other.version))
             .then_with(|| self.key.cmp(&other.key))
     }
 }

@@ -1,5 +1,6 @@
 ghost use Rattle.std.specs.Prelude.{◌≡◌, ◌≤◌, ◌∷◌, ◌++◌, [], length, take, drop, OnOk, OnErr, IfOk};
 
+use crate::copies::Copies;
 use crate::id::WriteId;
 use crate::memory::NoMemory;
 use std::alloc::Global;
@@ -25,29 +26,6 @@ impl Model for Part {
     ghost view = { λ p. (arc_value p.ids).items };
 }
 
-// Two runs of ids with an id between, in a list of their own.
-fn with_between(
-    alloc: Global,
-    front: &[WriteId],
-    id: WriteId,
-    back: &[WriteId],
-) -> Result<Vec<WriteId>, NoMemory>
-    ensures { IfOk result (λ v. v.items ≡ front.now ++ id ∷ back.now) }
-{
-    let Some(room) = front.len().checked_add(1) else {
-        return Err(NoMemory);
-    };
-    let mut ids = Vec::new(alloc);
-    if ids.reserve(room).is_err()
-        || ids.extend_from_slice(front).is_err()
-        || ids.push(id).is_err()
-        || ids.extend_from_slice(back).is_err()
-    {
-        return Err(NoMemory);
-    }
-    Ok(ids)
-}
-
 impl Part {
     // A part of ids that nobody else holds.
     fn holding(alloc: Global, ids: Vec<WriteId>) -> Result<Part, NoMemory>
@@ -69,13 +47,36 @@ impl Part {
         }
     }
 
-    // The part for one more block. It takes no memory.
-    pub(crate) fn share(&self) -> Result<Part, NoMemory>
-        ensures { IfOk result (λ p. p ≡ self.now) }
+    // A part of an id with ids in front of it and behind it.
+    fn around(
+        alloc: Global,
+        front: &[WriteId],
+        id: WriteId,
+        back: &[WriteId],
+    ) -> Result<Part, NoMemory>
+        ensures { IfOk result (λ p. p ≡ front.now ++ id ∷ back.now) }
     {
-        match Arc::try_clone(&self.ids) {
-            Ok(ids) => Ok(Part { ids }),
-            Err(_) => Err(NoMemory),
+        let Some(room) = front.len().checked_add(1) else {
+            return Err(NoMemory);
+        };
+        let mut ids = Vec::new(alloc);
+        if ids.reserve(room).is_err()
+            || ids.extend_from_slice(front).is_err()
+            || ids.push(id).is_err()
+            || ids.extend_from_slice(back).is_err()
+        {
+            return Err(NoMemory);
+        }
+        Part::holding(alloc, ids)
+    }
+
+    // The part, and behind it one of these ids.
+    fn before(self, alloc: Global, ids: &[WriteId]) -> Result<(Part, Part), NoMemory>
+        ensures { IfOk result (λ two. (two.0 ≡ self) × (two.1 ≡ ids.now)) }
+    {
+        match Part::of(alloc, ids) {
+            Ok(behind) => Ok((self, behind)),
+            Err(fault) => Err(fault),
         }
     }
 
@@ -112,8 +113,7 @@ impl Part {
             None => {
                 let alloc = self.allocator();
                 let (front, back) = self.ids().split_at(at);
-                let ids = with_between(alloc, front, id, back)?;
-                *self = Part::holding(alloc, ids)?;
+                *self = Part::around(alloc, front, id, back)?;
                 Ok(())
             }
         }
@@ -126,11 +126,19 @@ impl Part {
     {
         let alloc = self.allocator();
         if at == self.len() {
-            let last = Part::of(alloc, &[id])?;
-            return Ok((self.share()?, last));
+            return self.copy(alloc)?.before(alloc, &[id]);
         }
         let (front, back) = self.ids().split_at(at);
-        let front = Part::holding(alloc, with_between(alloc, front, id, &[])?)?;
-        Ok((front, Part::of(alloc, back)?))
+        Part::around(alloc, front, id, &[])?.before(alloc, back)
+    }
+}
+
+impl Copies for Part {
+    // The part for one more block. It takes no memory.
+    fn copy(&self, _alloc: Global) -> Result<Part, NoMemory> {
+        match Arc::try_clone(&self.ids) {
+            Ok(ids) => Ok(Part { ids }),
+            Err(_) => Err(NoMemory),
+        }
     }
 }

@@ -7,28 +7,20 @@ ghost use Rattle.anti_ids.specs.inner.Parts.{Seats, joined, put_at, put_in, shif
 ghost use Rattle.anti_ids.specs.inner.Places.{IsPlace};
 
 use crate::ascending;
+use crate::copies::room_for;
 use crate::id::WriteId;
 use crate::memory::NoMemory;
 use crate::part::{MOST_IN_PART, Part};
 use std::alloc::Global;
 
-// Adds a part at the end.
-fn add(parts: &mut Vec<Part>, part: Part) -> Result<(), NoMemory>
-    ensures ok { OnOk result (parts.new.items ≡ parts.old.items ++ part ∷ []) }
+// Adds a part of these ids at the end.
+fn add_part(parts: &mut Vec<Part>, ids: &[WriteId]) -> Result<(), NoMemory>
+    ensures ok { OnOk result (parts.new.items ≡ parts.old.items ++ ids.now ∷ []) }
     ensures err { OnErr result (parts.new.items ≡ parts.old.items) }
 {
+    let part = Part::of(*parts.allocator(), ids)?;
     match parts.push(part) {
         Ok(()) => Ok(()),
-        Err(_) => Err(NoMemory),
-    }
-}
-
-// An empty list with room for so many parts.
-fn room_for(alloc: Global, count: usize) -> Result<Vec<Part>, NoMemory>
-    ensures { IfOk result (λ v. v.items ≡ []) }
-{
-    match Vec::with_capacity(alloc, count) {
-        Ok(parts) => Ok(parts),
         Err(_) => Err(NoMemory),
     }
 }
@@ -37,25 +29,14 @@ fn room_for(alloc: Global, count: usize) -> Result<Vec<Part>, NoMemory>
 pub(crate) fn parts_of(alloc: Global, ids: &[WriteId]) -> Result<Vec<Part>, NoMemory>
     ensures { IfOk result (λ v. joined v.items ≡ ids.now) }
 {
-    let mut parts = room_for(alloc, ids.len() / MOST_IN_PART + 1)?;
+    let mut parts = room_for(ids.len() / MOST_IN_PART, 1, alloc)?;
     let mut rest = ids;
     while !rest.is_empty() {
         let (front, behind) = rest.split_at(rest.len().min(MOST_IN_PART));
-        add(&mut parts, Part::of(alloc, front)?)?;
+        add_part(&mut parts, front)?;
         rest = behind;
     }
     Ok(parts)
-}
-
-// The parts for one more block, in a list with room for one more.
-pub(crate) fn shared(alloc: Global, parts: &[Part]) -> Result<Vec<Part>, NoMemory>
-    ensures { IfOk result (λ v. v.items ≡ parts.now) }
-{
-    let mut again = room_for(alloc, parts.len().saturating_add(1))?;
-    for part in parts {
-        add(&mut again, part.share()?)?;
-    }
-    Ok(again)
 }
 
 // The id at an index of a list of this length. It looks from the end.
@@ -173,8 +154,7 @@ pub(crate) fn put(parts: &mut Vec<Part>, len: usize, at: usize, id: WriteId) -> 
     ensures err { OnErr result (parts.new.items ≡ parts.old.items) }
 {
     let Some((number, at)) = seat(parts.as_slice(), len, at) else {
-        let part = Part::of(*parts.allocator(), &[id])?;
-        return add(parts, part);
+        return add_part(parts, &[id]);
     };
     if parts[number].len() < MOST_IN_PART {
         put_in(parts, number, at, id)

@@ -21,22 +21,15 @@ impl Model for Text {
 }
 
 impl Text {
-    // The text of these bytes.
-    pub(crate) fn of(alloc: Global, bytes: Vec<u8>) -> Result<Text, NoMemory>
-        ensures { IfOk result (λ text. text ≡ bytes.items) }
-    {
-        match Arc::new(alloc, bytes) {
-            Ok(bytes) => Ok(Text { bytes }),
-            Err(_) => Err(NoMemory),
-        }
-    }
-
     // The text of a copy of these bytes.
     pub(crate) fn copied(alloc: Global, bytes: &[u8]) -> Result<Text, NoMemory>
         ensures { IfOk result (λ text. text ≡ bytes.now) }
     {
-        match Vec::from_slice(alloc, bytes) {
-            Ok(bytes) => Text::of(alloc, bytes),
+        let Ok(bytes) = Vec::from_slice(alloc, bytes) else {
+            return Err(NoMemory);
+        };
+        match Arc::new(alloc, bytes) {
+            Ok(bytes) => Ok(Text { bytes }),
             Err(_) => Err(NoMemory),
         }
     }

@@ -52,11 +52,15 @@ impl<'a> Iterator for Walk<'a> {
 
     fn next(&mut self) -> Option<WriteId> {
         while self.part.is_empty() {
-            let (first, behind) = self.parts.split_first()?;
+            let [first, behind @ ..] = self.parts else {
+                return None;
+            };
             self.part = first.ids();
             self.parts = behind;
         }
-        let (first, behind) = self.part.split_first()?;
+        let [first, behind @ ..] = self.part else {
+            return None;
+        };
         self.part = behind;
         Some(*first)
     }

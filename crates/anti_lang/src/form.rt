@@ -259,8 +259,5 @@ fn if_of(variable: &[u8], last: &[u8]) -> Option<Line>
 pub fn lone_form(words: &[&[u8]], line: Line) -> Option<Line>
     ensures { result ≡ no_word_form line (map (λ word. word.now) words.now) }
 {
-    match words {
-        [] => Some(line),
-        _ => None,
-    }
+    words.is_empty().then_some(line)
 }

@@ -2,7 +2,7 @@ ghost use Rattle.std.specs.Prelude.{◌≡◌};
 ghost use Rattle.anti_lang.specs.Keywords.{keyword_text, keywords, keyword_of};
 
 /// The first word of a line. It says which form the line has.
-#[derive(Clone, Copy, PartialEq, Eq)]
+#[derive(Clone, Copy)]
 pub enum Keyword {
     Write,
     Append,

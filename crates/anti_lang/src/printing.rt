@@ -193,8 +193,8 @@ fn statement_text(alloc: Global, statement: &Statement) -> Result<Bytes, NoMemor
         Statement::Append(variable) => spaced(alloc, &[b"append", variable.bytes()]),
         Statement::Remove(variable) => spaced(alloc, &[b"remove", variable.bytes()]),
         Statement::Transfer(variable) => spaced(alloc, &[b"transfer", variable.bytes()]),
-        Statement::Barrier => spaced(alloc, &[b"barrier"]),
-        Statement::DryRun => spaced(alloc, &[b"dryrun"]),
+        Statement::Barrier => plain_text(alloc, b"barrier"),
+        Statement::DryRun => plain_text(alloc, b"dryrun"),
         Statement::Read {
             store,
             key,
@@ -222,9 +222,9 @@ fn statement_text(alloc: Global, statement: &Statement) -> Result<Bytes, NoMemor
             value,
         } => send_text(alloc, service, handler, value),
         Statement::Reply(value) => pair_text(alloc, b"reply", &value_text(alloc, value)?),
-        Statement::Nack => spaced(alloc, &[b"nack"]),
-        Statement::Root => spaced(alloc, &[b"root"]),
-        Statement::Stop => spaced(alloc, &[b"stop"]),
+        Statement::Nack => plain_text(alloc, b"nack"),
+        Statement::Root => plain_text(alloc, b"root"),
+        Statement::Stop => plain_text(alloc, b"stop"),
         Statement::Repeat { count, .. } => pair_text(alloc, b"repeat", &count_text(alloc, *count)?),
         Statement::IfAbsent { variable, .. } => spaced(
             alloc,
@@ -240,20 +240,36 @@ fn add_line(lines: &mut Lines, text: Bytes) -> Result<(), NoMemory>
     lines.add(text)
 }
 
+// Adds the line of a statement; of one with a block the line that opens it.
+fn add_statement(alloc: Global, lines: &mut Lines, statement: &Statement) -> Result<(), NoMemory>
+    ensures { OnOk result (texts_of lines.new ≡ texts_of lines.old ++ spaced (statement_words (step_of statement.now)) ∷ []) }
+{
+    let text = statement_text(alloc, statement)?;
+    add_line(lines, text)
+}
+
+// Adds the line that ends a block.
+fn add_end(alloc: Global, lines: &mut Lines) -> Result<(), NoMemory>
+    ensures { OnOk result (texts_of lines.new ≡ texts_of lines.old ++ codes "end" ∷ []) }
+{
+    let text = plain_text(alloc, b"end")?;
+    add_line(lines, text)
+}
+
 // Adds the lines of statements, with their blocks.
 fn add_lines(alloc: Global, lines: &mut Lines, statements: &[Statement]) -> Result<(), NoMemory>
     ensures { OnOk result (texts_of lines.new ≡ texts_of lines.old ++ printed (block_from (map step_of statements.now))) }
 {
     for statement in statements {
-        add_line(lines, statement_text(alloc, statement)?)?;
+        add_statement(alloc, lines, statement)?;
         match statement {
             Statement::Repeat { body, .. } => {
                 add_lines(alloc, lines, body.as_slice())?;
-                add_line(lines, plain_text(alloc, b"end")?)?;
+                add_end(alloc, lines)?;
             }
             Statement::IfAbsent { body, .. } => {
                 add_lines(alloc, lines, body.as_slice())?;
-                add_line(lines, plain_text(alloc, b"end")?)?;
+                add_end(alloc, lines)?;
             }
             _ => {}
         }

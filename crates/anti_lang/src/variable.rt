@@ -9,7 +9,7 @@ use crate::statement::{KeyWord, Statement, ValueWord};
 use anti_ids::Name;
 
 /// What a variable holds.
-#[derive(Clone, Copy, PartialEq, Eq)]
+#[derive(Clone, Copy)]
 pub(crate) enum Holds {
     /// The write of a `write`.
     Write,

@@ -70,7 +70,12 @@ fn literal_of(alloc: Global, word: &[u8]) -> Result<Option<Value>, NoMemory>
 fn all_literal(word: &[u8]) -> bool
     ensures { result ≡ list_all is_literal_byte word.now }
 {
-    word.iter().all(|b| *b > b' ' && *b != 127)
+    for byte in word {
+        if *byte <= b' ' || *byte == 127 {
+            return false;
+        }
+    }
+    true
 }
 
 // What a word of `$` and these bytes is for a value.

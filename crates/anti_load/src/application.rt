@@ -5,8 +5,8 @@ ghost use Rattle.anti_load.specs.Load.{load_application};
 use crate::drawing::requests_drawn;
 use crate::lists::{one, two};
 use crate::names::name_of;
-use crate::services::{poster, reader};
-use crate::stores::{fans, notes, posts};
+use crate::services::services;
+use crate::stores::{fans, stores};
 use anti_app::{App, Choice};
 use anti_ids::{MOST_REQUESTS, NoMemory};
 use std::alloc::Global;
@@ -18,8 +18,8 @@ fn load_application(alloc: Global, n: u32) -> Result<App, NoMemory>
 {
     Ok(App {
         regions: two(alloc, name_of("us"), name_of("eu"))?,
-        stores: two(alloc, posts(alloc)?, notes(alloc)?)?,
-        services: two(alloc, poster(alloc)?, reader(alloc)?)?,
+        stores: stores(alloc)?,
+        services: services(alloc)?,
         subs: one(alloc, fans())?,
         requests: requests_drawn(alloc, n)?,
         choices: one(alloc, Choice::Finish)?,

@@ -1,14 +1,22 @@
-ghost use Rattle.std.specs.Prelude.{◌≡◌, ◌≤◌, length, map, IfOk, IsOk};
+ghost use Rattle.std.specs.Prelude.{◌≡◌, ◌≤◌, [], ◌∷◌, length, map, IfOk, IsOk};
+ghost use Rattle.anti_ids.specs.List.{plain};
 ghost use Rattle.anti_lang.specs.Parsing.{parsed, texts_of};
 ghost use Rattle.anti_app.specs.Parts.{body_in};
 ghost use Rattle.anti_load.specs.Load.{poster, reader, service};
 
-use crate::lists::one;
+use crate::lists::{one, two};
 use crate::names::name_of;
 use anti_app::{HandlerDef, ServiceDef};
 use anti_ids::{Bytes, List, MOST_LINES, Name, NoMemory};
 use anti_lang::{Body, LangFault, Lines, parse};
 use std::alloc::Global;
+
+/// The services: the poster, and the reader of its notes.
+pub fn services(alloc: Global) -> Result<List<ServiceDef>, NoMemory>
+    ensures { IfOk result (λ services. services ≡ plain (poster ∷ reader ∷ [])) }
+{
+    two(alloc, poster(alloc)?, reader(alloc)?)
+}
 
 // The lines of some texts.
 fn lines_of(alloc: Global, texts: &[&str]) -> Result<Lines, NoMemory>
@@ -61,8 +69,8 @@ fn service(
     })
 }
 
-/// The service that writes posts and notes of them.
-pub fn poster(alloc: Global) -> Result<ServiceDef, NoMemory>
+// The service that writes posts and notes of them.
+fn poster(alloc: Global) -> Result<ServiceDef, NoMemory>
     ensures { IfOk result (λ made. made ≡ poster) }
 {
     let body = body_of(
@@ -77,8 +85,8 @@ pub fn poster(alloc: Global) -> Result<ServiceDef, NoMemory>
     service(alloc, name_of("poster"), 0, name_of("post"), body)
 }
 
-/// The service that the notes start.
-pub fn reader(alloc: Global) -> Result<ServiceDef, NoMemory>
+// The service that the notes start.
+fn reader(alloc: Global) -> Result<ServiceDef, NoMemory>
     ensures { IfOk result (λ made. made ≡ reader) }
 {
     let body = body_of(alloc, &["barrier", "read posts $in as y"])?;

@@ -65,7 +65,12 @@ fn holds_row(lineage: &Lineage, store: u32, row: &Row) -> bool
 fn holds_rows(lineage: &Lineage, store: u32, rows: &[Row]) -> bool
     ensures { result ≡ list_all (λ row. holds lineage.now (row_ids store row)) rows.now }
 {
-    rows.iter().all(|row| holds_row(lineage, store, row))
+    for row in rows {
+        if !holds_row(lineage, store, row) {
+            return false;
+        }
+    }
+    true
 }
 
 // The lineage that a message states; one that states none brings the empty lineage.

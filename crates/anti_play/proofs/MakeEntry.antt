@@ -1,6 +1,7 @@
 -- The objects of a world when the call of an entry is made at its object.
 use Rattle.std.proofs.Common.{◌≡◌, ℕ, ◌<◌, ◌++◌, inl, inr, List, [], ◌∷◌, length, get_or, refl, sym, ap, ◌∙◌, subst, arith}
-use Rattle.std.specs.Prelude.{Some, slice_get, slice_set, Result, Ok, Err, OnErr}
+use Rattle.std.specs.Prelude.{Some, slice_get, slice_set, Result, Ok, Err, OnOk, OnErr}
+use Rattle.std.specs.Result.{result_and}
 use Rattle.std.proofs.lemmas.List.{length-set, get_or-set_same, get_or-set_other}
 use Rattle.std.proofs.lemmas.Option.{slice_get-get_or}
 use Rattle.anti_kind.specs.declared.entry.Entry.{Entry}
@@ -72,3 +73,34 @@ module _ (objects : List (Record Object)) (e : Entry) (r n : Record Object) (is 
 pub on_err : {T E : Type 0} (r : Result T E) (P : Type 0) → P → OnErr r P
 on_err (Ok x) P p = tt
 on_err (Err e) P p = p
+
+-- what is so of a call where a value was kept behind it by `and`, or was given up
+module _ {T U E : Type 0} (r : Result U E) (s : T) (x : Result T E) (is : x ≡ result_and r (Ok s)) where
+  pub kept_behind : (t : T) → x ≡ Ok t → t ≡ s
+  kept_behind t came = go r is
+    where
+      go : (r : Result U E) → x ≡ result_and r (Ok s) → t ≡ s
+      go (Ok u) is = let both : Ok t ≡ Ok s = sym came ∙ is in cc
+      go (Err e) is = absurd (let both : Ok t ≡ Err e = sym came ∙ is in cc)
+
+  pub done_before : {P : Type 0} (t : T) → x ≡ Ok t → OnOk r P → P
+  done_before {P} t came = go r is
+    where
+      go : (r : Result U E) → x ≡ result_and r (Ok s) → OnOk r P → P
+      go (Ok u) is p = p
+      go (Err e) is p = absurd (let both : Ok t ≡ Err e = sym came ∙ is in cc)
+
+  pub lost_before : {P : Type 0} (e : E) → x ≡ Err e → OnErr r P → P
+  lost_before {P} e came = go r is
+    where
+      go : (r : Result U E) → x ≡ result_and r (Ok s) → OnErr r P → P
+      go (Ok u) is p = absurd (let both : Err e ≡ Ok s = sym came ∙ is in cc)
+      go (Err d) is p = p
+
+  -- what is so of both
+  pub by_and : {Q : Type 0} (P : Result T E → Type 0) → OnOk r Q → (Q → P (Ok s)) → ((e : E) → P (Err e)) → P x
+  by_and {Q} P fact done lost = subst P (sym is) (go r fact)
+    where
+      go : (r : Result U E) → OnOk r Q → P (result_and r (Ok s))
+      go (Ok u) q = done q
+      go (Err e) q = lost e

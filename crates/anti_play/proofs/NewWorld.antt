@@ -1,9 +1,9 @@
 -- The objects of an application before anything has happened.
-use Rattle.std.proofs.Common.{◌≡◌, ℕ, ◌+◌, ◌<◌, ◌≤◌, max, ◌-◌, ◌++◌, ◌∷◌, List, [], length, refl, sym, ap, ◌∙◌, subst, arith, inl, inr}
+use Rattle.std.proofs.Common.{◌≡◌, ℕ, ◌+◌, ◌<◌, ◌≤◌, ◌-◌, ◌++◌, ◌∷◌, List, [], length, refl, sym, ap, ◌∙◌, subst, arith, inl, inr}
 use Rattle.std.specs.Prelude.{Option, None, Some, MatchOption}
 use Rattle.std.proofs.lemmas.Bool.{cases_lt}
 use Rattle.std.proofs.lemmas.List.{length_push, get_or_push, get_or_append_left}
-use Rattle.anti_ids.specs.List.{Listed, plain, pushed, reserved}
+use Rattle.anti_ids.specs.List.{Listed, plain, pushed}
 use Rattle.anti_kind.specs.Objects.{Start}
 use Rattle.anti_app.specs.declared.app.App.{App}
 use Rattle.anti_object.specs.declared.object.Object.{Object}
@@ -19,11 +19,11 @@ use Rattle.anti_trace.specs.inner.Living.{NoneBorn, lists}
 use Rattle.anti_play.specs.inner.Closing.{AreFirst}
 use Rattle.anti_trace.proofs.NoneBorn.{none_are}
 
--- an item put into the room that was made for it leaves no room
-pub added : {T : Type 0} (l : Listed T) (x : T) (more : List T) → l.spare ≡ 0 → x ∷ [] ≡ more → pushed (reserved l 1) x ≡ plain (l.items ++ more)
-added {T} l x more full is =
-    let spare : max l.spare 1 - 1 ≡ 0 = omega arith in
-    ap (λ (n : ℕ). record { items = l.items ++ x ∷ []; spare = n }) spare ∙ ap (λ (xs : List T). plain (l.items ++ xs)) is
+-- an item more in a list that has no room, which has none then
+pub added : {T : Type 0} (l : Listed T) (x : T) → l.spare ≡ 0 → pushed l x ≡ plain (l.items ++ x ∷ [])
+added {T} l x full =
+    let spare : l.spare - 1 ≡ 0 = omega arith in
+    ap (λ (n : ℕ). record { items = l.items ++ x ∷ []; spare = n }) spare
 
 -- an object on which nothing has happened yet
 abbrev pub at_first : Object → Record Object

@@ -2,13 +2,14 @@ ghost use Rattle.std.specs.Prelude.{◌≡◌, ◌++◌, ◌∷◌, [], IfOk, On
 ghost use Rattle.anti_app.specs.Sound.{is_sound};
 ghost use Rattle.anti_app.specs.Objects.{object_count};
 ghost use Rattle.anti_play.specs.inner.Standing.{WorldStands};
+ghost use Rattle.anti_kind.specs.Objects.{StandsFor};
 ghost use Rattle.anti_object.specs.Standing.{ObjectAt};
 ghost use Rattle.anti_play.specs.inner.Closing.{AreFirst};
 
 use crate::world::World;
 use anti_app::App;
 use anti_ids::NoMemory;
-use anti_kind::Recorded;
+use anti_kind::{Machine, Recorded};
 use anti_object::Object;
 use anti_trace::Processes;
 use std::alloc::Global;
@@ -48,10 +49,26 @@ fn keep(alloc: Global, objects: &mut Vec<Recorded<Object>>, object: Object) -> R
     ensures { OnOk result (objects.new.items
         ≡ objects.old.items ++ record { machine = object; history = [] } ∷ []) }
 {
-    let Ok(recorded) = Recorded::new(alloc, object) else {
-        return Err(NoMemory);
-    };
-    match objects.push(recorded) {
+    let recorded = recorded(alloc, object)?;
+    add(objects, recorded)
+}
+
+// A machine of which nothing is recorded yet. Where there is no memory it is given up.
+fn recorded<M: Machine + Drop>(alloc: Global, machine: M) -> Result<Recorded<M>, NoMemory>
+    requires { StandsFor (M.start machine) (M.Stands machine) [] }
+    ensures { IfOk result (λ r. r ≡ record { machine = machine; history = [] }) }
+{
+    match Recorded::new(alloc, machine) {
+        Ok(recorded) => Ok(recorded),
+        Err((_, fault)) => Err(fault),
+    }
+}
+
+// Adds an item at the end. Where there is no memory it is given up.
+fn add<T: Drop>(items: &mut Vec<T>, item: T) -> Result<(), NoMemory>
+    ensures { OnOk result (items.new.items ≡ items.old.items ++ item ∷ []) }
+{
+    match items.push(item) {
         Ok(()) => Ok(()),
         Err(_) => Err(NoMemory),
     }

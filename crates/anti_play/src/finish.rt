@@ -113,16 +113,13 @@ impl World {
         };
         let asked_at = asked.object;
         if let Some(awaited) = self.awaits(asked_at, asked.call) {
-            agenda.sleep(offer, asked_at, awaited)?;
-            return Ok(false);
+            return agenda.sleep(offer, asked_at, awaited).and(Ok(false));
         }
         let brought = asked.call.brought();
         if !self.go_on(app, birth, at)? {
-            agenda.idle(offer)?;
-            return Ok(false);
+            return agenda.idle(offer).and(Ok(false));
         }
-        agenda.stir(asked_at, brought)?;
-        Ok(true)
+        agenda.stir(asked_at, brought).and(Ok(true))
     }
 
     // A call by which a process is born. The newborn is awake behind it.
@@ -148,18 +145,15 @@ impl World {
         ensures fewer { result ≡ Ok false → length (keys agenda.new.awake) < length (keys agenda.old.awake) }
     {
         if let Some(awaited) = self.awaits(object, &call) {
-            agenda.sleep(offer, object, awaited)?;
-            return Ok(false);
+            return agenda.sleep(offer, object, awaited).and(Ok(false));
         }
         let at = self.processes.born_count(object);
         let brought = call.brought();
         if !self.bear(app, object, call)? {
-            agenda.idle(offer)?;
-            return Ok(false);
+            return agenda.idle(offer).and(Ok(false));
         }
         agenda.stir(object, brought)?;
-        agenda.wake(Offer::Go { object, at })?;
-        Ok(true)
+        agenda.wake(Offer::Go { object, at }).and(Ok(true))
     }
 
     // The next shipment of a store to a region.
@@ -183,8 +177,7 @@ impl World {
     {
         let recorded = &self.objects[store as usize];
         let Some((version, part)) = recorded.machine().next_ship(region) else {
-            agenda.sleep(offer, store, Awaited::Writing)?;
-            return Ok(false);
+            return agenda.sleep(offer, store, Awaited::Writing).and(Ok(false));
         };
         let ship = Call::Ship {
             region,
@@ -193,11 +186,9 @@ impl World {
         };
         let brought = ship.brought();
         if !self.carry(store, ship)? {
-            agenda.idle(offer)?;
-            return Ok(false);
+            return agenda.idle(offer).and(Ok(false));
         }
-        agenda.stir(store, brought)?;
-        Ok(true)
+        agenda.stir(store, brought).and(Ok(true))
     }
 
     // What a call waits for at its object, where that is known.

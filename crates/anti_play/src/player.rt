@@ -1,11 +1,11 @@
-ghost use Rattle.std.specs.Prelude.{◌≡◌, ℕ, IfOk, IsTrue};
+ghost use Rattle.std.specs.Prelude.{◌≡◌, ℕ, ◌+◌, ◌<◌, [], length, IfOk, OnOk, IsTrue};
 ghost use Rattle.anti_ids.specs.List.{plain};
 ghost use Rattle.anti_app.specs.Sound.{is_sound, is_sound_choice};
 ghost use Rattle.anti_play.specs.Schedule.{Run, trace_of, waits_of};
 ghost use Rattle.anti_trace.specs.Ends.{ends_of};
 ghost use Rattle.anti_trace.specs.Legal.{IsLegalTrace};
 ghost use Rattle.anti_play.specs.inner.Standing.{IsWorldOf, WorldStands};
-ghost use Rattle.anti_play.specs.inner.Closing.{Steps};
+ghost use Rattle.anti_play.specs.inner.Closing.{HasPlayed, Steps};
 
 use crate::world::World;
 use anti_app::{App, Choice, Waits};
@@ -41,6 +41,32 @@ impl World {
             _ => self.choose(app, choice),
         }
     }
+
+    // Makes the choice behind so many others, and adds its number to the waits if it is one.
+    fn step(&mut self, app: &App, before: usize, waits: &mut Waits) -> Result<(), NoMemory>
+        requires sound { IsTrue (is_sound app.now) }
+        requires there { before < length app.now.choices.items }
+        requires played { HasPlayed app.now before self.old waits.old }
+        ensures { OnOk result (HasPlayed app.now (before + 1) self.new waits.new) }
+    {
+        if self.make(app, app.choices.at(before))? {
+            return Ok(());
+        }
+        waits.add(before as u32 + 1)
+    }
+
+    // Makes all choices, and tells which were waits.
+    fn step_all(&mut self, app: &App) -> Result<Waits, NoMemory>
+        requires sound { IsTrue (is_sound app.now) }
+        requires world { WorldStands app.now self.old [] }
+        ensures { IfOk result (λ waits. HasPlayed app.now (length app.now.choices.items) self.new waits) }
+    {
+        let mut waits = List::new(self.alloc);
+        for before in 0..app.choices.len() {
+            self.step(app, before, &mut waits)?;
+        }
+        Ok(waits)
+    }
 }
 
 /// Makes all choices of a sound application, in their order.
@@ -52,13 +78,7 @@ pub fn play(alloc: Global, app: &App) -> Result<Played, NoMemory>
     ensures legal { IfOk result (λ p. IsLegalTrace app.now p.trace) }
 {
     let mut world = World::new(alloc, app)?;
-    let mut waits = List::new(alloc);
-    for (before, choice) in app.choices.as_slice().iter().enumerate() {
-        if !world.make(app, choice)? {
-            waits.reserve(1)?;
-            waits.put(before as u32 + 1);
-        }
-    }
+    let waits = world.step_all(app)?;
     let ends = world.ends(alloc)?;
     let trace = world.into_trace(alloc)?;
     Ok(Played { trace, waits, ends })

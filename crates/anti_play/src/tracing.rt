@@ -8,7 +8,7 @@ ghost use Rattle.anti_play.specs.inner.Closing.{histories_of};
 
 use crate::world::World;
 use anti_ids::{List, NoMemory};
-use anti_kind::{Call, Machine, Recorded};
+use anti_kind::{Call, History, Machine, Recorded};
 use anti_object::Object;
 use anti_trace::{Ends, Histories, Objects, Trace, merge};
 use std::alloc::Global;
@@ -50,9 +50,15 @@ fn histories(alloc: Global, objects: Vec<Recorded<Object>>) -> Result<Histories,
 {
     let mut histories = List::new(alloc);
     for recorded in objects {
-        let (_, history) = recorded.into_parts();
-        histories.reserve(1)?;
-        histories.put(history);
+        histories.add(history_of(recorded))?;
     }
     Ok(histories)
+}
+
+// The history of a machine, which is given up.
+fn history_of<M: Machine + Drop>(recorded: Recorded<M>) -> History
+    ensures { result.items ≡ recorded.history }
+{
+    let (_, history) = recorded.into_parts();
+    history
 }

@@ -76,10 +76,11 @@ impl World {
         let Ok(entry) = self.next_entry(asking)? else {
             return Ok(false);
         };
+        // where there is no memory `and` gives up the process
         let process = born(self.alloc, app, &entry)?;
         let object = entry.object;
-        self.processes.reserve(object)?;
-        make_entry(&mut self.objects, entry)?;
+        let process = self.processes.reserve(object).and(Ok(process))?;
+        let process = make_entry(&mut self.objects, entry).and(Ok(process))?;
         self.processes.put(object, process);
         Ok(true)
     }

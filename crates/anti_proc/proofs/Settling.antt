@@ -1,5 +1,5 @@
 -- A handler goes on from statement to statement.
-use Rattle.std.proofs.Common.{◌≡◌, ℕ, ◌+◌, ◌*◌, ◌<◌, ◌≤◌, List, ◌∷◌, ◌++◌, Option, None, refl, sym, ap, ◌∙◌, subst, true, arith}
+use Rattle.std.proofs.Common.{◌≡◌, ℕ, ◌+◌, ◌*◌, ◌<◌, ◌≤◌, List, ◌∷◌, ◌++◌, None, refl, sym, ap, ◌∙◌, subst, true, arith}
 use Rattle.anti_lang.specs.Bodies.{block_from, list_of}
 use Rattle.anti_lang.specs.Program.{Block, Step}
 use Rattle.anti_lang.specs.Spans.{spans_in, spans_of}
@@ -10,14 +10,11 @@ use Rattle.anti_app.proofs.Blocks.{block_again}
 use Rattle.anti_proc.specs.declared.cursor.Cursor.{Cursor}
 use Rattle.anti_proc.specs.declared.end.BodyEnd.TheVariants.{Fine}
 use Rattle.anti_proc.specs.declared.given.Given.{Given}
-use Rattle.anti_proc.specs.declared.next.Next.{Next}
 use Rattle.anti_proc.specs.declared.next.Stage.{Stage}
-use Rattle.anti_proc.specs.declared.next.Stage.TheVariants.{Asks}
 use Rattle.anti_proc.specs.declared.run.Advance.{Advance}
 use Rattle.anti_proc.specs.declared.run.Advance.TheVariants.{Goes, Over, Full}
 use Rattle.anti_proc.specs.declared.run.Life.TheVariants.{Runs}
 use Rattle.anti_proc.specs.declared.run.Run.{Run}
-use Rattle.anti_proc.specs.declared.variables.Variable.{Variable}
 use Rattle.anti_proc.specs.declared.state.Draft.{Draft}
 use Rattle.anti_proc.specs.declared.statements.Does.{Does}
 use Rattle.anti_proc.specs.declared.statements.Does.TheVariants as does
@@ -26,7 +23,7 @@ use Rattle.anti_proc.specs.Local.{Local}
 use Rattle.anti_proc.specs.Meaning.{Go, body_tree, leave, step_tree}
 use Rattle.anti_proc.specs.inner.Cursors.{Enters, IsStart, again, block_in, block_weight, last_opened, left_at, step_weight, weight}
 use Rattle.anti_proc.specs.inner.Running.{AdvanceHasSpans, HasSpans}
-use Rattle.anti_proc.specs.inner.Standing.{body_in, does_tree, full_by, going, left_to_run, local_by, local_in, next_tree, setting, spans_done, stage_or, stage_tree, weight_done}
+use Rattle.anti_proc.specs.inner.Standing.{body_in, does_tree, full_by, going, left_to_run, local_in, setting, spans_done, stage_tree, weight_done}
 use Rattle.anti_proc.proofs.Running.{run_again, spans_again, spans_append, spans_block, weight_again, weight_append}
 
 -- a handler that passed a statement, of which something comes, and now stands at a cursor with a draft
@@ -112,17 +109,6 @@ begins_spans app role cursor can start =
     omega arith
 
 -- ---- a reply more
-
--- what comes of a reply is what came of the way to the next call
-pub gone_on : (app : App) (r : Run) (draft way : Draft) (cursor : Cursor) (stage : Stage) (next : Next) (o : Option Stage)
-    → way.before.now ≡ r.state.variables.items → stage ≡ Asks next
-    → stage_tree stage (setting app r.given) (local_in way) (going app r.given cursor) ≡ stage_or o (setting app r.given) (local_in draft) (going app r.given r.cursor)
-    → next_tree next (setting app r.given) (local_by way.changes r.state.variables.items) (going app r.given cursor)
-    ≡ stage_or o (setting app r.given) (local_in draft) (going app r.given r.cursor)
-gone_on app r draft way cursor stage next o before is goes =
-    ap (λ (vs : List Variable). next_tree next (setting app r.given) (local_by way.changes vs) (going app r.given cursor)) (sym before)
-    ∙ ap (λ (s : Stage). stage_tree s (setting app r.given) (local_in way) (going app r.given cursor)) (sym is)
-    ∙ goes
 
 -- one that goes on was not ended as full
 pub goes_on : (app : App) (r : Run) (a : Advance) → AdvanceHasSpans app (Runs r) a → full_by a ≡ None

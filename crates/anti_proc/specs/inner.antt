@@ -1,5 +1,6 @@
 pub mod Adding
 pub mod Cursors
+pub mod Going
 pub mod Running
 pub mod Standing
 pub mod Statements

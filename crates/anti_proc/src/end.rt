@@ -5,7 +5,7 @@ use anti_ids::NoMemory;
 use thiserror::Error;
 
 /// How a process ends by its body.
-#[derive(Clone, Copy, Debug, PartialEq, Eq)]
+#[derive(Clone, Copy)]
 pub enum BodyEnd {
     /// It came to the end of its body, or to `nack`.
     Fine,
@@ -18,7 +18,7 @@ pub enum BodyEnd {
 }
 
 /// How a process ends.
-#[derive(Clone, Copy, Debug, PartialEq, Eq)]
+#[derive(Clone, Copy, PartialEq, Eq)]
 pub enum End {
     /// It came to the end of its body, or to `nack`.
     Fine,

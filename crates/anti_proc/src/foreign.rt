@@ -27,7 +27,12 @@ pub fn has_stores(app: &App, lineage: &Lineage) -> bool
 fn have_stores(app: &App, rows: &[Row]) -> bool
     ensures { result ≡ list_all (λ row. has_stores app.now row.lineage) rows.now }
 {
-    rows.iter().all(|row| has_stores(app, &row.lineage))
+    for row in rows {
+        if !has_stores(app, &row.lineage) {
+            return false;
+        }
+    }
+    true
 }
 
 // The empty lineage, unless the reply is foreign.

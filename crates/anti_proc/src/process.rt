@@ -165,8 +165,8 @@ impl Process {
     {
         self.clock = stamp;
         match advance {
-            Advance::Over(end) => self.life = Life::Over(end),
-            Advance::Full(object) => self.life = Life::Full(object),
+            Advance::Over(end) => self.end(Life::Over(end)),
+            Advance::Full(object) => self.end(Life::Full(object)),
             Advance::Goes(going) => match &mut self.life {
                 Life::Runs(run) => run.take(Box::into_inner(going)),
                 Life::Over(_) | Life::Full(_) => {}
@@ -207,7 +207,14 @@ impl Process {
         ensures birth { birth_of self.new ≡ birth_of self.old }
         ensures role { its_role self.new ≡ its_role self.old }
     {
-        self.life = Life::Full(object);
+        self.end(Life::Full(object));
+    }
+
+    // Ends it so. What it held is let go.
+    fn end(&mut self, life: Life)
+        ensures { self.new ≡ record self.old { life = life } }
+    {
+        self.life = life;
     }
 
     /// The stamp of its last entry. It takes no memory.

@@ -1,10 +1,13 @@
 ghost use Rattle.std.specs.Prelude.{◌≡◌, ◌<◌, Some, None, Err, true, false, IfOk, OnOk, OnErr, Ok};
 ghost use Rattle.anti_app.specs.declared.app.App.{App};
+ghost use Rattle.anti_app.specs.Objects.{body_of};
 ghost use Rattle.anti_app.specs.Running.{CanRun};
+ghost use Rattle.anti_proc.specs.declared.given.Given.{Given};
 ghost use Rattle.anti_proc.specs.Foreign.{is_foreign};
-ghost use Rattle.anti_proc.specs.Meaning.{after_read, after_reply, after_write, task_tree, wrote};
+ghost use Rattle.anti_proc.specs.Meaning.{after_read, after_reply, after_write, body_tree, task_tree, wrote};
 ghost use Rattle.anti_proc.specs.Local.{set_or};
 ghost use Rattle.anti_proc.specs.Trees.{branch};
+ghost use Rattle.anti_proc.specs.inner.Going.{going_tree};
 ghost use Rattle.anti_proc.specs.inner.Running.{AdvanceHasSpans, HasSpans, LifeHasSpans};
 ghost use Rattle.anti_proc.specs.inner.Standing.{full_in, going, life_tree, local_by, local_in, local_of, run_after, run_going, run_of, setting, stage_or, stage_tree, variables_in};
 ghost use Rattle.anti_proc.specs.inner.Statements.{came_by};
@@ -98,6 +101,30 @@ impl<'g, 'o> Way<'g, 'o> {
         }
         leave(self.given, &self.draft, app, true, BodyEnd::Fine)
     }
+
+    // How it goes on to the call that is next, or how it ends.
+    fn going(self, stage: Stage) -> Result<Going, BodyEnd>
+        ensures goes { (app : App) (given : Given) → let way = self.entry in
+            going_tree app given way.draft.before.now result
+            ≡ stage_tree stage (setting app given) (local_in way.draft)
+            (going app given way.cursor) }
+        ensures spans { let way = self.entry in IfOk result (λ g. (g.cursor ≡ way.cursor)
+            × (g.changes.span ≡ way.draft.changes.span)) }
+    {
+        let Way {
+            given: _,
+            cursor,
+            draft,
+        } = self;
+        match stage {
+            Stage::Over(end) => Err(end),
+            Stage::Asks(next) => Ok(Going {
+                cursor,
+                changes: draft.changes,
+                next,
+            }),
+        }
+    }
 }
 
 // What a process is that begins a task, with the message with which it came.
@@ -121,19 +148,39 @@ pub fn begun(
         return Ok(Life::Over(BodyEnd::LineageFull));
     };
     let given = Given { alloc, role, input };
-    let mut state = State::first(alloc, carried);
-    let mut way = Way {
-        given: &given,
-        cursor: Cursor::start(alloc),
-        draft: state.draft(alloc, Since::Same, baggage_of(&posted))?,
+    run_from(app, given, State::first(alloc, carried), posted)
+}
+
+// What a process is that begins its body with a state, in its first span.
+fn run_from(
+    app: &App,
+    given: Given,
+    mut state: State,
+    posted: Option<Handle<Message>>,
+) -> Result<Life, NoMemory>
+    requires app { CanRun app.now }
+    requires first { state.span ≡ 1 }
+    ensures tree { IfOk result (λ life. life_tree app.now life
+        ≡ body_tree (body_of app.now given.role.service given.role.handler)
+        (setting app.now given) (local_of state)) }
+    ensures spans { IfOk result (λ life. LifeHasSpans app.now life) }
+    ensures full { IfOk result (λ life. full_in life ≡ None) }
+{
+    let Ok(gone) = set_out(app, &given, &state, baggage_of(&posted)) else {
+        return Err(NoMemory);
     };
-    let stage = way.settle(app)?;
-    let (cursor, changes) = (way.cursor, way.draft.changes);
-    match stage {
-        Stage::Over(end) => Ok(Life::Over(end)),
-        Stage::Asks(next) => {
-            state.make_room()?;
-            state.take(alloc, changes);
+    match gone {
+        Err(end) => Ok(Life::Over(end)),
+        Ok(going) => {
+            let Going {
+                cursor,
+                changes,
+                next,
+            } = going;
+            let Ok(()) = state.make_room() else {
+                return Err(NoMemory);
+            };
+            state.take(given.alloc, changes);
             Ok(Life::Runs(Run {
                 given,
                 cursor,
@@ -143,6 +190,33 @@ pub fn begun(
             }))
         }
     }
+}
+
+// How a process that begins its body goes on to its first call, or how it ends before.
+fn set_out(
+    app: &App,
+    given: &Given,
+    state: &State,
+    posted: Option<&Baggage>,
+) -> Result<Result<Going, BodyEnd>, NoMemory>
+    requires app { CanRun app.now }
+    requires first { state.now.span ≡ 1 }
+    ensures tree { IfOk result (λ gone.
+        going_tree app.now given.now state.now.variables.items gone
+        ≡ body_tree (body_of app.now given.now.role.service given.now.role.handler)
+        (setting app.now given.now) (local_of state.now)) }
+    ensures spans { IfOk result (λ gone. IfOk gone (λ g.
+        HasSpans app.now given.now.role g.cursor g.changes.span)) }
+{
+    let draft = state.draft(given.alloc, Since::Same, posted)?;
+    let cursor = Cursor::start(given.alloc);
+    let mut way = Way {
+        given,
+        cursor,
+        draft,
+    };
+    let stage = way.settle(app)?;
+    Ok(way.going(stage))
 }
 
 // The baggage of a message, where there is one.
@@ -192,7 +266,9 @@ impl Run {
             (going app.now self.now.given self.now.cursor)) }
         ensures spans { IfOk result (λ a. AdvanceHasSpans app.now (Life.Runs self.now) a) }
     {
-        let cursor = self.cursor.copy(self.given.alloc)?;
+        let Ok(cursor) = self.cursor.copy(self.given.alloc) else {
+            return Err(NoMemory);
+        };
         let mut way = Way {
             given: &self.given,
             cursor,
@@ -202,16 +278,12 @@ impl Run {
             Some(stage) => stage,
             None => way.settle(app)?,
         };
-        match stage {
-            Stage::Over(end) => Ok(Advance::Over(end)),
-            Stage::Asks(next) => {
-                let going = Going {
-                    cursor: way.cursor,
-                    changes: way.draft.changes,
-                    next,
-                };
-                Ok(Advance::Goes(Box::new(self.given.alloc, going)?))
-            }
+        match way.going(stage) {
+            Ok(going) => match Box::new(self.given.alloc, going) {
+                Ok(going) => Ok(Advance::Goes(going)),
+                Err(_) => Err(NoMemory),
+            },
+            Err(end) => Ok(Advance::Over(end)),
         }
     }
 

@@ -1,4 +1,4 @@
-ghost use Rattle.std.specs.Prelude.{◌≡◌, ◌+◌, ◌^◌, ◌<◌, ◌≤◌, true, IfOk};
+ghost use Rattle.std.specs.Prelude.{◌≡◌, ◌+◌, ◌^◌, ◌<◌, ◌≤◌, true, false, IfOk, OnOk};
 ghost use Rattle.anti_app.specs.declared.app.App.{App};
 ghost use Rattle.anti_lang.specs.Bodies.{step_of};
 ghost use Rattle.anti_lang.specs.Program as program;
@@ -10,7 +10,7 @@ ghost use Rattle.anti_app.specs.Objects.{inbox_of};
 ghost use Rattle.anti_proc.specs.inner.Cursors.{block_in, step_weight};
 ghost use Rattle.anti_app.specs.Running.{CanRun};
 ghost use Rattle.anti_proc.specs.inner.Standing.{does_or, does_tree, local_in, setting, spans_done, stage_or, stage_tree, weight_done};
-ghost use Rattle.anti_proc.specs.inner.Statements.{is_at_store};
+ghost use Rattle.anti_proc.specs.inner.Statements.{is_at_store, is_call, opens_block};
 
 use crate::end::BodyEnd;
 use crate::given::Given;
@@ -229,6 +229,78 @@ fn call_of(
     }
 }
 
+// The call of a statement that makes one in any case, or the end.
+fn call_or_end(
+    given: &Given,
+    draft: &Draft,
+    app: &App,
+    statement: &Statement,
+) -> Result<Stage, NoMemory>
+    requires app { CanRun app.now }
+    requires call { is_call (step_of statement.now) ≡ true }
+    ensures { IfOk result (λ stage. (go : Go)
+        → stage_tree stage (setting app.now given.now) (local_in draft.now) go
+        ≡ step_tree (step_of statement.now) (setting app.now given.now) (local_in draft.now) go) }
+{
+    match statement {
+        Statement::Call {
+            service,
+            handler,
+            value,
+            variable,
+        } => post(given, draft, app, service, handler, value, Some(*variable)),
+        Statement::Send {
+            service,
+            handler,
+            value,
+        } => post(given, draft, app, service, handler, value, None),
+        Statement::Nack => leave(given, draft, app, false, BodyEnd::Fine),
+        _ => call_of(given, draft, app, statement),
+    }
+}
+
+// Runs a statement that opens no block, as far as its first call.
+fn run_line(
+    given: &Given,
+    draft: &mut Draft,
+    app: &App,
+    statement: &Statement,
+) -> Result<Option<Stage>, NoMemory>
+    requires app { CanRun app.now }
+    requires block { opens_block (step_of statement.now) ≡ false }
+    requires spans { draft.old.changes.span + spans_in (step_of statement.now) < 2 ^ 32 }
+    ensures goes { IfOk result (λ stage. (go : Go)
+        → stage_or stage (setting app.now given.now) (local_in draft.new) go
+        ≡ step_tree (step_of statement.now) (setting app.now given.now) (local_in draft.old) go) }
+    ensures spans { OnOk result
+        (draft.new.changes.span ≤ draft.old.changes.span + spans_in (step_of statement.now)) }
+    ensures before { draft.new.before ≡ draft.old.before }
+{
+    match statement {
+        Statement::Append(variable) => draft.add(variable),
+        Statement::Transfer(variable) => draft.add(variable),
+        Statement::Remove(variable) => {
+            draft.remove(variable);
+            Ok(None)
+        }
+        Statement::Barrier => first_look(given, draft, app, false),
+        Statement::DryRun => first_look(given, draft, app, true),
+        Statement::Reply(value) => {
+            draft.changes.reply = text_of(given, draft, value)?;
+            Ok(None)
+        }
+        Statement::Root => {
+            draft.root(given.alloc);
+            Ok(None)
+        }
+        Statement::Stop => {
+            draft.stop(given.alloc);
+            Ok(None)
+        }
+        _ => Ok(Some(call_or_end(given, draft, app, statement)?)),
+    }
+}
+
 /// Runs a statement as far as its first call or its block.
 pub fn run(
     given: &Given,
@@ -250,44 +322,9 @@ pub fn run(
     ensures before { draft.new.before ≡ draft.old.before }
 {
     match statement {
-        Statement::Append(variable) => Ok(does_or(draft.add(variable)?)),
-        Statement::Remove(variable) => {
-            draft.remove(variable);
-            Ok(Does::On)
-        }
-        Statement::Transfer(variable) => Ok(does_or(draft.add(variable)?)),
-        Statement::Barrier => Ok(does_or(first_look(given, draft, app, false)?)),
-        Statement::DryRun => Ok(does_or(first_look(given, draft, app, true)?)),
-        Statement::Call {
-            service,
-            handler,
-            value,
-            variable,
-        } => Ok(Does::Stage(post(given, draft, app, service, handler, value, Some(*variable))?)),
-        Statement::Send {
-            service,
-            handler,
-            value,
-        } => Ok(Does::Stage(post(given, draft, app, service, handler, value, None)?)),
-        Statement::Reply(value) => {
-            draft.changes.reply = text_of(given, draft, value)?;
-            Ok(Does::On)
-        }
-        Statement::Nack => Ok(Does::Stage(leave(given, draft, app, false, BodyEnd::Fine)?)),
-        Statement::Root => {
-            draft.root(given.alloc);
-            Ok(Does::On)
-        }
-        Statement::Stop => {
-            draft.stop(given.alloc);
-            Ok(Does::On)
-        }
         Statement::Repeat { count, .. } => Ok(Does::Block(*count)),
         Statement::IfAbsent { variable, .. } if draft.is_absent(variable) => Ok(Does::Block(1)),
         Statement::IfAbsent { .. } => Ok(Does::On),
-        Statement::Write { .. }
-        | Statement::Read { .. }
-        | Statement::Scan { .. }
-        | Statement::Poll { .. } => Ok(Does::Stage(call_of(given, draft, app, statement)?)),
+        _ => Ok(does_or(run_line(given, draft, app, statement)?)),
     }
 }

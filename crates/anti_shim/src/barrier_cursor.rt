@@ -43,10 +43,12 @@ impl Barrier {
     pub(crate) fn has(&self, store: u32) -> bool
         ensures { result ≡ has_sight self.now store }
     {
-        self.seen
-            .as_slice()
-            .iter()
-            .any(|sight| sight.store == store)
+        for sight in self.seen.as_slice() {
+            if sight.store == store {
+                return true;
+            }
+        }
+        false
     }
 
     // Gives up the sights.
@@ -70,8 +72,12 @@ impl Barrier {
         ensures fixed { (o : ℕ) → P.start port.new o ≡ P.start port.old o }
         ensures waits { A.waits ≡ true → is_some (P.start port.old look.now.store) ≡ true → result ≡ Err ShimFault.NotYet → ⊥ }
     {
-        let ids = look.ids.share()?;
-        self.seen.reserve(1)?;
+        let Ok(ids) = look.ids.share() else {
+            return Err(ShimFault::NoMemory);
+        };
+        let Ok(()) = self.seen.reserve(1) else {
+            return Err(ShimFault::NoMemory);
+        };
         let sight = see::<P, A>(port, who, look.store, region, ids)?;
         self.seen.put(sight);
         Ok(())

@@ -35,12 +35,16 @@ pub fn dry_run<P: Port>(
     ensures caller { CallerAfter (between P.Port port.old port.new who.old who.new) }
     ensures fixed { (o : ℕ) → P.start port.new o ≡ P.start port.old o }
 {
-    let looks = plan(alloc, here, lineage)?;
+    let Ok(looks) = plan(alloc, here, lineage) else {
+        return Err(ShimFault::NoMemory);
+    };
     let Ok(mut named) = Lineage::root(alloc).reserve(lineage.len()) else {
         return Err(ShimFault::NoMemory);
     };
     for look in looks.as_slice() {
-        let ids = look.ids.share()?;
+        let Ok(ids) = look.ids.share() else {
+            return Err(ShimFault::NoMemory);
+        };
         let missing = see_dry(port, who, look.store, region, ids)?;
         match named.transfer(missing.get()) {
             Ok(()) => {}

@@ -2,7 +2,7 @@ use anti_ids::{NoMemory, WriteId};
 use thiserror::Error;
 
 /// Why a call of a shim gives nothing.
-#[derive(Clone, Copy, Debug, PartialEq, Eq, Error)]
+#[derive(Clone, Copy, Debug, Error)]
 pub enum ShimFault {
     /// The port answered that the call was not ready.
     #[error("the call was not ready")]

@@ -1,5 +1,5 @@
-ghost use Rattle.std.specs.Prelude.{◌≡◌, IfOk};
-ghost use Rattle.anti_ids.specs.List.{plain};
+ghost use Rattle.std.specs.Prelude.{◌≡◌, IfOk, OnOk};
+ghost use Rattle.anti_ids.specs.List.{plain, pushed};
 ghost use Rattle.anti_shim.specs.Plans.{plan};
 
 use anti_ids::{Copies, Lineage, List, NoMemory};
@@ -37,11 +37,15 @@ pub fn plan(alloc: Global, here: &[u32], lineage: &Lineage) -> Result<Looks, NoM
         if ids.is_empty() {
             continue;
         }
-        let look = PlannedLook {
-            store: *store,
-            ids: Handle::new(alloc, ids)?,
-        };
-        looks.add(look)?;
+        add_look(alloc, &mut looks, *store, ids)?;
     }
     Ok(looks)
+}
+
+// Adds the look at a store for these ids.
+fn add_look(alloc: Global, looks: &mut Looks, store: u32, ids: Lineage) -> Result<(), NoMemory>
+    ensures { OnOk result (looks.new ≡ pushed looks.old (record { store = store; ids = ids })) }
+{
+    let ids = Handle::new(alloc, ids)?;
+    looks.add(PlannedLook { store, ids })
 }

@@ -11,7 +11,7 @@ use std::alloc::Global;
 
 /// A look that found nothing missing: the number of the store, and the place and the stamp of the
 /// look.
-#[derive(Clone, Copy, Debug, PartialEq, Eq)]
+#[derive(Clone, Copy)]
 pub struct Sight {
     pub store: u32,
     pub place: u32,

@@ -91,12 +91,11 @@ impl<K> StoreShim<K> {
             value,
             lineage: stored,
         };
-        let made = who.ask(port, self.store, write)?;
-        match &made.reply {
+        match who.ask(port, self.store, write)?.reply {
             Reply::Written { key, version } => Ok(WriteId {
                 store: self.store,
                 key: *key.get(),
-                version: *version,
+                version,
             }),
             _ => unreachable!(),
         }

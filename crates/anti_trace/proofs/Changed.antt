@@ -7,7 +7,7 @@ use Rattle.std.proofs.lemmas.Option.{slice_get_past, slice_get_within, slice_get
 use Rattle.anti_proc.specs.declared.process.Process.{Process}
 use Rattle.anti_proc.specs.declared.run.Advance.{Advance}
 use Rattle.anti_trace.specs.declared.processes.AtObject.{AtObject}
-use Rattle.anti_trace.specs.inner.Living.{Becomes, Changes, MakesRoom, TakesOver, born_at, born_in}
+use Rattle.anti_trace.specs.inner.Living.{Becomes, Changes, IsAt, MakesRoom, TakesOver, born_at, born_in}
 
 -- ---- one item of a list
 
@@ -65,6 +65,10 @@ module _ (all : List AtObject) (o : ℕ) (here new : AtObject) (is : here ≡ ge
     others = λ k other. ap born_in (set_other all o new k other);
   }
 
+  -- they may be the same as before
+  pub changes_same : new.born.items ≡ here.born.items → Changes all (slice_set all o new) o (born_at all o)
+  changes_same same = subst (Changes all (slice_set all o new) o) (same ∙ sym (born_here all o here is within)) changes_set
+
   -- one process of it
   module _ (By : Process → Process → Type 0) (i : ℕ) (old then : Process) (at : old ≡ get_or here.born.items i old) (low : i < length here.born.items) where
     pub becomes_set : new.born.items ≡ slice_set here.born.items i then → By old then → Becomes By all (slice_set all o new) o i
@@ -76,6 +80,14 @@ module _ (all : List AtObject) (o : ℕ) (here new : AtObject) (is : here ≡ ge
           (items ∙ ap (λ (ps : List Process). slice_set ps i then) (sym (born_here all o here is within))) changes_set;
       by = by;
     }
+
+  -- and what is known of it
+  pub is_at_set : (Is : Process → Type 0) (i : ℕ) (then : Process) → i < length here.born.items → new.born.items ≡ slice_set here.born.items i then
+      → Is then → IsAt Is (slice_set all o new) o i
+  is_at_set Is i then low items known = λ p there.
+      let both : Some p ≡ Some then =
+      sym there ∙ ap (λ (ps : List Process). slice_get ps i) (changes_set.here_are ∙ items) ∙ set_here here.born.items i then low in
+      let same : then ≡ p = cc in subst Is same known
 
 -- ---- changes one after another
 

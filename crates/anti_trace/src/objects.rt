@@ -35,16 +35,6 @@ pub struct ObjectsAfter {
     objects: Vec<Object>,
 }
 
-// Adds an object behind others.
-fn add(objects: &mut Vec<Object>, object: Object) -> Result<(), NoMemory>
-    ensures { OnOk result (objects.new.items ≡ objects.old.items ++ object ∷ []) }
-{
-    match objects.push(object) {
-        Ok(()) => Ok(()),
-        Err(_) => Err(NoMemory),
-    }
-}
-
 // The object with a number, on which nothing has happened yet.
 fn first_object(alloc: Global, app: &App, number: u32) -> Result<Object, NoMemory>
     requires sound { IsTrue (is_sound app.now) }
@@ -62,9 +52,10 @@ fn first_objects(alloc: Global, app: &App) -> Result<Vec<Object>, NoMemory>
     requires { IsTrue (is_sound app.now) }
     ensures { IfOk result (λ objects. AreFirst app.now (object_count app.now) objects.items) }
 {
-    let mut objects = Vec::new(alloc);
-    for number in 0..object_count(app) {
-        add(&mut objects, first_object(alloc, app, number)?)?;
+    let count = object_count(app);
+    let mut objects = Vec::with_capacity(alloc, count as usize)?;
+    for number in 0..count {
+        objects.push_reserved(first_object(alloc, app, number)?);
     }
     Ok(objects)
 }

@@ -70,12 +70,9 @@ impl Processes {
     pub fn new(alloc: Global, count: usize) -> Result<Processes, NoMemory>
         ensures { IfOk result (λ all. NoneBorn count (lists all)) }
     {
-        let mut at = Vec::new(alloc);
+        let mut at = Vec::with_capacity(alloc, count)?;
         for _ in 0..count {
-            match at.push(AtObject::new(alloc)) {
-                Ok(()) => {}
-                Err(_) => return Err(NoMemory),
-            }
+            at.push_reserved(AtObject::new(alloc));
         }
         Ok(Processes { at })
     }

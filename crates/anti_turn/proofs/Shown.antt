@@ -6,8 +6,8 @@ use Rattle.anti_turn.specs.Lists.{times, longer_of, GoesOn}
 use Rattle.anti_turn.specs.Places.{TableId, Place, numbers_of, with_count, IsJoined, IsClosed}
 use Rattle.anti_turn.specs.inner.Views.{view_numbers, place_of}
 use Rattle.atomic_table.specs.Table.{rest, step}
-use Rattle.anti_turn.specs.inner.Seats.{held_slots}
-use Rattle.anti_turn.specs.inner.Steps.{Hand, Takes, joined_view, lowered_view, Lowers}
+use Rattle.anti_turn.specs.inner.Seats.{held_slots, Sits}
+use Rattle.anti_turn.specs.inner.Steps.{Hand, Takes, freed_view, joined_view, lowered_view, Lowers}
 use Rattle.anti_turn.proofs.Counting.{live_numbers}
 
 module _ {E F : Type 0} (by : E → ℕ) where
@@ -54,3 +54,24 @@ module _ {T E F : Type 0} where
   filled_slot m m' x slots holds same =
       let one : rest m.1 ≡ [] = ap rest (slots ∙ ap held_slots holds) in
       same ∙ ap (λ (ys : List (ℕ × Option T)). let z : Hand T E F = (m.0, (0, Some x) ∷ ys) in z) one
+
+  -- a seat that gave the value and the turn back is at rest
+  pub freed_sits : (list : T → List E) (m m' m'' : Hand T E F) (x : T) (room number : ℕ) → Sits m room number → m' ≡ (m.0, (0, Some x) ∷ [])
+      → ((y : T) → m'.1 ≡ (0, Some y) ∷ [] → m'' ≡ (freed_view m'.0 (list y), [])) → Sits m'' room number
+  freed_sits list m m' m'' x room number sits filled frees =
+      let freed = frees x (ap (λ (z : Hand T E F). z.1) filled) in
+      let same : m'' ≡ (freed_view m.0 (list x), []) = freed ∙ ap (λ (z : Hand T E F). let w : Hand T E F = (freed_view z.0 (list x), []) in w) filled in
+      subst (λ (z : Hand T E F). Sits z room number) (sym same) record {
+        rest = record {
+          live = sits.rest.live;
+          drawn = sits.rest.drawn;
+          owed = sits.rest.owed;
+          host = sits.rest.host;
+          guest = sits.rest.guest;
+        };
+        room_is = sits.room_is;
+        few = sits.few;
+        number_is = sits.number_is;
+        positive = sits.positive;
+        slots = refl;
+      }

@@ -1,11 +1,14 @@
 ghost use Rattle.std.specs.Prelude.{◌≡◌, true, false, Some};
 ghost use Rattle.anti_turn.specs.Lists.{Adds, GoesOn};
 ghost use Rattle.anti_turn.specs.Places.{numbers_of, with_turn, without_turn};
+ghost use Rattle.anti_turn.specs.inner.Views.{IsAtRest};
+ghost use Rattle.anti_turn.specs.inner.Steps.{Takes};
 
 use crate::listed::Listed;
 use crate::plays::{Free, Take};
 use crate::seat::Seat;
 use crate::turn::{FREE, Held, TAKEN, TURN, Turn, VALUE};
+use crate::view::View;
 use std::sync::Wait;
 
 impl<T: Listed> Turn<T> {
@@ -18,13 +21,28 @@ impl<T: Listed> Turn<T> {
         ensures list { GoesOn T.by (numbers_of seat.old) seat.old.seen (T.list result.value) }
         ensures fixed { seat.old.fixed ≡ Some (T.fixed result.value) }
     {
+        self.take(rt, &mut seat.seat);
+        let slot = self.table.shared.exchange(&mut seat.seat, VALUE, None);
+        let Some(value) = slot else { unreachable!() };
+        Held { value }
+    }
+
+    // Waits until the turn is free, and takes it. The value still lies in its slot, which is the seat's now.
+    fn take<R: Wait>(
+        &self,
+        rt: &R,
+        seat: &mut atomic_table::Seat<Option<T>, View<T::Entry, T::Fixed>>,
+    )
+        requires turn { seat.old.table_id ≡ self.now.id }
+        requires rest { IsAtRest seat.old.me.0 }
+        ensures turn { seat.new.table_id ≡ seat.old.table_id }
+        ensures taken { Takes T.list T.by T.fixed seat.old.me seat.new.me }
+    {
         let shared = &self.table.shared;
         for _ in rt.forever() {
-            let found = shared.compare_exchange::<Take<T>>(&mut seat.seat, TURN, FREE, TAKEN);
+            let found = shared.compare_exchange::<Take<T>>(seat, TURN, FREE, TAKEN);
             if found == FREE {
-                let slot = shared.exchange(&mut seat.seat, VALUE, None);
-                let Some(value) = slot else { unreachable!() };
-                return Held { value };
+                return;
             }
             shared.park(rt, TURN, TAKEN as u32);
         }

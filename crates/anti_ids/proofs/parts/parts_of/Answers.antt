@@ -6,9 +6,9 @@ use Rattle.anti_ids.proofs.parts.parts_of.Goals as goal
 
 pub loop-rest-preserved : goal.loop-rest-preserved
 loop-rest-preserved c =
-    let part = c.in_ok-of.field-0 in
+    let part = c.split_at.result.0.now in
     let behind = c.split_at.result.1.now in
-    let now : c.add.new.parts.items ≡ c.loop-rest.parts.items ++ part ∷ [] = search rules in
+    let now : c.add_part.new.parts.items ≡ c.loop-rest.parts.items ++ part ∷ [] = search rules in
     let halves : c.loop-rest.rest.now ≡ part ++ behind = search rules in
     ap (λ (x : List (List WriteId)). joined x ++ behind) now ∙ joined_push c.loop-rest.parts.items part behind
     ∙ sym (ap (λ (x : List WriteId). joined c.loop-rest.parts.items ++ x) halves)

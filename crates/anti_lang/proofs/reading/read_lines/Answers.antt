@@ -17,3 +17,6 @@ loop-i-preserved c =
           read_to_next c.loop-i.found c.add.new.self _ c.index-lines-i.result.items _ c.loop-i.i c.in-Some.line before states c.in_ok-add-in-Some.ensures.ok;
       count = grind (arith, common_steps);
     }
+
+pub returns-in-None : goal.returns-in-None
+returns-in-None c = grind (arith, common_steps)

@@ -1,5 +1,6 @@
-use Rattle.std.proofs.Common.{◌≡◌, ◌+◌, List, ◌∷◌, drop, sym, ap, ◌∙◌, subst}
+use Rattle.std.proofs.Common.{◌≡◌, ◌+◌, List, ◌∷◌, drop, sym, ap, ◌∙◌, subst, arith}
 use Rattle.std.proofs.lemmas.List.{drop_more}
+use Rattle.std.proofs.lemmas.Grind.{common_steps}
 use Rattle.anti_kind.specs.declared.row.Row.{Row}
 use Rattle.anti_proc.specs.Local.{row_ids, rows_ids}
 use Rattle.anti_order.specs.inner.Fresh.{AddsFresh}
@@ -20,3 +21,6 @@ loop-row-preserved c = λ all rest.
     (subst (λ (rs : List Row). AddsFresh writes listed (rows_ids store rs) c.loop-row.fresh all) (sym cut)
     (adds_both writes listed (row_ids store row) (rows_ids store (drop (k + 1) rows)) c.loop-row.fresh c.add_row.new.fresh all
     c.in_ok-add_row.ensures rest))
+
+pub returns : goal.returns
+returns c = grind (arith, common_steps)

@@ -1,5 +1,6 @@
-use Rattle.std.proofs.Common.{ℕ, List, map, sym, ap, ◌∙◌}
+use Rattle.std.proofs.Common.{ℕ, List, map, sym, ap, ◌∙◌, arith}
 use Rattle.std.specs.Prelude.{Some}
+use Rattle.std.proofs.lemmas.Grind.{common_steps}
 use Rattle.anti_trace.specs.declared.mark.Mark.{Mark}
 use Rattle.anti_order.proofs.MarksKnown.{never_none, places_more}
 use Rattle.anti_order.proofs.marking.places_of.Goals as goal
@@ -15,3 +16,6 @@ loop-mark-preserved c =
     ap (λ (is : List ℕ). map Some is) c.in_ok-push-in-Some.ensures.items
     ∙ places_more c.args.known.now c.args.marks.now c.loop-mark.mark-index d c.loop-mark.places.items c.in-Some.place c.loop-mark-test.true
     c.loop-mark.invariant (sym c.in-Some.is ∙ c.find.ensures)
+
+pub returns : goal.returns
+returns c = grind (arith, common_steps)

@@ -24,7 +24,7 @@ use Rattle.anti_shim.proofs.dry_run_call.dry_run.Goals.{After-see_dry}
 turn : (g : given.Over) (c : After-see_dry g)
     → DryTurn (between g.P.Port c.args.port.now c.loop-look.port c.args.who.now c.loop-look.who) c.args.region (plan c.args.here.now c.args.lineage.now) c.loop-look.look-index c.look-item.result
 turn g c =
-    let items : c.as_slice-look-items.result.now ≡ plan c.args.here.now c.args.lineage.now = c.as_slice-look-items.ensures ∙ ap (λ l. l.items) c.in_ok-looks.ensures in
+    let items : c.as_slice-look-items.result.now ≡ plan c.args.here.now c.args.lineage.now = c.as_slice-look-items.ensures ∙ ap (λ l. l.items) c.in-Ok.ensures in
     record {
       right = plan_right (g.P.Port.start c.args.port.now) c.args.region c.args.here.now c.args.lineage.now c.requires;
       ascends = plan_ascends c.args.here.now c.args.lineage.now c.requires.ascending;
@@ -41,16 +41,16 @@ seen g c result gave =
     let s = last (between g.P.Port c.args.port.now c.loop-look.port c.args.who.now c.loop-look.who) (g.P.Port.view c.see_dry.new.port) c.see_dry.new.who in
     let look = c.look-item.result in
     subst (λ (r : Result (List WriteId) ShimFault). SeesDry s look.store c.args.region look.ids r) gave
-    (subst (λ (ids : List WriteId). SeesDry s look.store c.args.region ids c.see_dry.result) c.in_ok-ids.ensures
-    (subst (λ starts. SeesDry (record s { starts = starts }) look.store c.args.region c.in_ok-ids.ids c.see_dry.result) (λ i o. c.loop-look.invariant.fixed o i) c.see_dry.ensures.answer))
+    (subst (λ (ids : List WriteId). SeesDry s look.store c.args.region ids c.see_dry.result) c.in-Ok-share.ensures
+    (subst (λ starts. SeesDry (record s { starts = starts }) look.store c.args.region c.in-Ok-share.ids c.see_dry.result) (λ i o. c.loop-look.invariant.fixed o i) c.see_dry.ensures.answer))
 
 pub returns-in_err-missing-clause-answer : goal.returns-in_err-missing-clause-answer
 returns-in_err-missing-clause-answer g c =
     let a = (goal.at.returns-in_err-missing-clause-answer g c).After-see_dry in
     let planned = plan c.args.here.now c.args.lineage.now in
     let fault = c.in_err-missing.field-0.0 in
-    let p = err_from_is_err_and c.from_residual-in_err-missing.result c.from_residual-in_err-missing.ensures.1 in
-    let is : c.from_residual-in_err-missing.result ≡ Err fault = p.1 ∙ ap Err p.2 in
+    let p = err_from_is_err_and c.from_residual.result c.from_residual.ensures.1 in
+    let is : c.from_residual.result ≡ Err fault = p.1 ∙ ap Err p.2 in
     let gives = dry_gives (turn g a) (seen g a (Err fault) c.in_err-missing.was) in
     subst (λ (r : Result (List WriteId) ShimFault). DryRunGives (between g.P.Port c.args.port.now c.see_dry.new.port c.args.who.now c.see_dry.new.who) c.args.region planned r) (sym is) gives
 
@@ -117,12 +117,6 @@ loop-look-preserved g c =
 pub returns-clause-answer : goal.returns-clause-answer
 returns-clause-answer g c = grind (arith, common_steps)
 
-pub returns-in_err-looks-clause-caller : goal.returns-in_err-looks-clause-caller
-returns-in_err-looks-clause-caller g c = grind (arith, common_steps)
-
-pub returns-in_err-ids-clause-made : goal.returns-in_err-ids-clause-made
-returns-in_err-ids-clause-made g c = grind (arith, common_steps)
-
 pub returns-clause-made : goal.returns-clause-made
 returns-clause-made g c = grind (arith, common_steps)
 
@@ -131,3 +125,9 @@ loop-look-init g c = grind (arith, common_steps)
 
 pub returns-in_default-clause-caller : goal.returns-in_default-clause-caller
 returns-in_default-clause-caller g c = grind (arith, common_steps)
+
+pub returns-in_default-reserve-clause-caller : goal.returns-in_default-reserve-clause-caller
+returns-in_default-reserve-clause-caller g c = grind (arith, common_steps)
+
+pub returns-in_default-share-clause-made : goal.returns-in_default-share-clause-made
+returns-in_default-share-clause-made g c = grind (arith, common_steps)

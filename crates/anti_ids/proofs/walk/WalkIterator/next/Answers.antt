@@ -4,6 +4,3 @@ use Rattle.anti_ids.proofs.walk.WalkIterator.next.Goals as goal
 
 pub loop-self-preserved : goal.loop-self-preserved
 loop-self-preserved c = grind (arith, common_steps)
-
-pub returns-in_err-first-clause-steps : goal.returns-in_err-first-clause-steps
-returns-in_err-first-clause-steps c = grind (arith, common_steps)

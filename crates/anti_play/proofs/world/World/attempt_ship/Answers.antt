@@ -1,5 +1,7 @@
-use Rattle.std.proofs.Common.{◌≡◌, ◌<◌, List, length, true, false, sym, subst, ap, ◌∙◌, arith}
-use Rattle.std.specs.Prelude.{Bool, IsTrue, Ok, Err}
+use Rattle.std.proofs.Common.{refl, ◌≡◌, ◌<◌, List, length, true, false, sym, subst, ap, ◌∙◌, arith}
+use Rattle.std.specs.Prelude.{Bool, IsTrue, Ok, Err, Result, OnOk}
+use Rattle.std.specs.BTreeSet.{keys}
+use Rattle.anti_ids.specs.declared.memory.NoMemory.{NoMemory}
 use Rattle.anti_kind.specs.declared.call.Call.TheVariants.{Ship}
 use Rattle.anti_kind.specs.declared.entry.Entry.{Entry}
 use Rattle.anti_kind.specs.Objects.{StandsFor, next_ship}
@@ -10,10 +12,11 @@ use Rattle.anti_object.specs.declared.object.Object.{Object}
 use Rattle.anti_object.specs.Standing.{ObjectStands, object_start}
 use Rattle.anti_trace.specs.Traces.{entries_on}
 use Rattle.anti_play.specs.Schedule.{carrying, made_at}
-use Rattle.anti_play.specs.inner.Attending.{entry_by_offer}
+use Rattle.anti_play.specs.inner.Attending.{Attends, Turned, entry_by_offer, with_entry}
 use Rattle.anti_play.specs.inner.Standing.{Chose, IsObject, WorldStands}
-use Rattle.anti_play.proofs.Attempting.{chosen_lost, turned_lost, vain_lost, went_nowhere}
-use Rattle.anti_play.proofs.Shipping.{carried_is, route_attends, shipped_attends, shipped_lost, unshipped_attends}
+use Rattle.anti_play.proofs.Attempting.{chosen_lost, vain_lost, went_nowhere}
+use Rattle.anti_play.proofs.MakeEntry.{by_and}
+use Rattle.anti_play.proofs.Shipping.{carried_is, route_attends, route_turned, shipped_attends, shipped_lost, unshipped_attends}
 use Rattle.anti_play.proofs.Tried.{came_as}
 use Rattle.anti_play.proofs.world.World.attempt_ship.Goals as goal
 use Rattle.anti_play.proofs.world.World.attempt_ship.Goals.{After-next_ship, In_ok-carry}
@@ -33,22 +36,31 @@ told c =
     c.next_ship.ensures r.history (subst (λ (m : Object). StandsFor (object_start m) (ObjectStands m) r.history) (sym c.machine.ensures.machine) c.machine.ensures.stands)
     ∙ ap (λ (m : Object). next_ship (object_start m) r.history c.args.region) c.machine.ensures.machine
 
-pub returns-in_err-sleep-clause-chose : goal.returns-in_err-sleep-clause-chose
-returns-in_err-sleep-clause-chose c = λ app trace replica sound s a is to.
-    turned_lost app trace (entry_by_offer app trace c.args.offer) c.from_residual.result c.args.self.now c.from_residual.ensures.0 (went_nowhere app trace c.args.self.now s)
-
 pub returns-in_default-clause-attends : goal.returns-in_default-clause-attends
 returns-in_default-clause-attends c = λ app trace replica sound s a is to.
     let at = (goal.at.returns-in_default-clause-attends c).After-next_ship in
+    by_and c.sleep.result false c.and.result c.and.ensures
+    (λ (r : Result Bool NoMemory). OnOk r (Attends app (with_entry (entry_by_offer app trace c.args.offer) trace) c.sleep.new.self))
+    c.sleep.ensures
+    (λ put.
     route_attends app sound c.args.self.now trace s c.args.offer c.args.store replica c.args.region is to c.index-recorded.result.now (here at app trace s)
-    (sym c.in_default.is ∙ told at) c.args.agenda.now c.sleep.new.self a c.requires.awake c.in_ok-sleep.ensures
+    (sym c.in_default.is ∙ told at) c.args.agenda.now c.sleep.new.self a c.requires.awake put)
+    (λ lost. tt)
+
+pub returns-in_default-clause-fewer : goal.returns-in_default-clause-fewer
+returns-in_default-clause-fewer c =
+    by_and c.sleep.result false c.and.result c.and.ensures
+    (λ (r : Result Bool NoMemory). r ≡ Ok false → length (keys c.sleep.new.self.awake) < length (keys c.args.agenda.now.awake))
+    c.sleep.ensures
+    (λ put same. put.left.fewer c.requires.awake)
+    (λ lost same. absurd (cc))
 
 pub returns-in_err-carry-clause-chose : goal.returns-in_err-carry-clause-chose
 returns-in_err-carry-clause-chose c = λ app trace replica sound s a is to.
     let at = (goal.at.returns-in_err-carry-clause-chose c).After-next_ship in
     let n = c.carry.new.self in
     let x = c.in_err-carry.field-0.0 in
-    chosen_lost app trace (entry_by_offer app trace c.args.offer) x c.from_residual-in_err-carry.result n c.from_residual-in_err-carry.ensures.0
+    chosen_lost app trace (entry_by_offer app trace c.args.offer) x c.from_residual.result n c.from_residual.ensures.0
     (carried_is app sound c.args.self.now trace s c.args.offer c.args.store replica c.args.region is to c.index-recorded.result.now (here at app trace s)
     c.in-Some.version c.in-Some.part (sym c.in-Some.is ∙ told at) (Err x) n (c.in_err-carry.ensures app trace sound s))
 
@@ -59,52 +71,79 @@ came c app trace sound s made is =
     came_as app trace (made_at app trace (carrying trace c.args.store (Ship c.args.region c.in-Some.version c.in-Some.part))) c.carry.new.self c.in_ok-carry.field-0 made is
     (c.in_ok-carry.ensures app trace sound s)
 
-pub returns-in_err-idle-clause-chose : goal.returns-in_err-idle-clause-chose
-returns-in_err-idle-clause-chose c = λ app trace replica sound s a is to.
-    let at = (goal.at.returns-in_err-idle-clause-chose c).After-next_ship in
-    let n = c.carry.new.self in
-    vain_lost app trace (entry_by_offer app trace c.args.offer) c.from_residual-in_err-idle.result n c.from_residual-in_err-idle.ensures.0
-    (carried_is app sound c.args.self.now trace s c.args.offer c.args.store replica c.args.region is to c.index-recorded.result.now (here at app trace s)
-    c.in-Some.version c.in-Some.part (sym c.in-Some.is ∙ told at) (Ok false) n
-    (came ((goal.at.returns-in_err-idle-clause-chose c).In_ok-carry) app trace sound s false c.if-not-branch.true))
-
 pub returns-then-not-branch-clause-chose : goal.returns-then-not-branch-clause-chose
 returns-then-not-branch-clause-chose c = λ app trace replica sound s a is to.
     let at = (goal.at.returns-then-not-branch-clause-chose c).After-next_ship in
+    by_and c.idle.result false c.and-then-not-branch.result c.and-then-not-branch.ensures
+    (λ (r : Result Bool NoMemory). Turned app trace (entry_by_offer app trace c.args.offer) r c.carry.new.self)
+    c.idle.ensures
+    (λ idled.
     carried_is app sound c.args.self.now trace s c.args.offer c.args.store replica c.args.region is to c.index-recorded.result.now (here at app trace s)
     c.in-Some.version c.in-Some.part (sym c.in-Some.is ∙ told at) (Ok false) c.carry.new.self
-    (came ((goal.at.returns-then-not-branch-clause-chose c).In_ok-carry) app trace sound s false c.if-not-branch.true)
+    (came ((goal.at.returns-then-not-branch-clause-chose c).In_ok-carry) app trace sound s false c.if-not-branch.true))
+    (λ lost.
+    vain_lost app trace (entry_by_offer app trace c.args.offer) (Err lost) c.carry.new.self refl
+    (carried_is app sound c.args.self.now trace s c.args.offer c.args.store replica c.args.region is to c.index-recorded.result.now (here at app trace s)
+    c.in-Some.version c.in-Some.part (sym c.in-Some.is ∙ told at) (Ok false) c.carry.new.self
+    (came ((goal.at.returns-then-not-branch-clause-chose c).In_ok-carry) app trace sound s false c.if-not-branch.true)))
 
 pub returns-then-not-branch-clause-attends : goal.returns-then-not-branch-clause-attends
 returns-then-not-branch-clause-attends c = λ app trace replica sound s a is to.
     let at = (goal.at.returns-then-not-branch-clause-attends c).After-next_ship in
+    by_and c.idle.result false c.and-then-not-branch.result c.and-then-not-branch.ensures
+    (λ (r : Result Bool NoMemory). OnOk r (Attends app (with_entry (entry_by_offer app trace c.args.offer) trace) c.idle.new.self))
+    c.idle.ensures
+    (λ idled.
     unshipped_attends app sound c.args.self.now trace s c.args.offer c.args.store replica c.args.region is to c.index-recorded.result.now (here at app trace s)
     c.in-Some.version c.in-Some.part (sym c.in-Some.is ∙ told at) c.carry.new.self
     (came ((goal.at.returns-then-not-branch-clause-attends c).In_ok-carry) app trace sound s false c.if-not-branch.true)
-    c.args.agenda.now c.idle.new.self a c.requires.awake c.in_ok-idle.ensures
+    c.args.agenda.now c.idle.new.self a c.requires.awake idled)
+    (λ lost. tt)
 
-pub returns-in_err-stir-clause-chose : goal.returns-in_err-stir-clause-chose
-returns-in_err-stir-clause-chose c = λ app trace replica sound s a is to.
-    let at = (goal.at.returns-in_err-stir-clause-chose c).After-next_ship in
-    shipped_lost app sound c.args.self.now trace s c.args.offer c.args.store replica c.args.region is to c.index-recorded.result.now (here at app trace s)
-    c.in-Some.version c.in-Some.part (sym c.in-Some.is ∙ told at) c.carry.new.self
-    (came ((goal.at.returns-in_err-stir-clause-chose c).In_ok-carry) app trace sound s true c.if-not-branch.false)
-    c.from_residual-in_err-stir.result c.from_residual-in_err-stir.ensures.0
+pub returns-then-not-branch-clause-fewer : goal.returns-then-not-branch-clause-fewer
+returns-then-not-branch-clause-fewer c =
+    by_and c.idle.result false c.and-then-not-branch.result c.and-then-not-branch.ensures
+    (λ (r : Result Bool NoMemory). r ≡ Ok false → length (keys c.idle.new.self.awake) < length (keys c.args.agenda.now.awake))
+    c.idle.ensures
+    (λ idled same. idled.left.fewer c.requires.awake)
+    (λ lost same. absurd (cc))
 
 pub returns-clause-chose : goal.returns-clause-chose
 returns-clause-chose c = λ app trace replica sound s a is to.
     let at = (goal.at.returns-clause-chose c).After-next_ship in
+    by_and c.stir.result true c.and-2.result c.and-2.ensures
+    (λ (r : Result Bool NoMemory). Turned app trace (entry_by_offer app trace c.args.offer) r c.carry.new.self)
+    c.stir.ensures
+    (λ stirred.
     carried_is app sound c.args.self.now trace s c.args.offer c.args.store replica c.args.region is to c.index-recorded.result.now (here at app trace s)
     c.in-Some.version c.in-Some.part (sym c.in-Some.is ∙ told at) (Ok true) c.carry.new.self
+    (came ((goal.at.returns-clause-chose c).In_ok-carry) app trace sound s true c.if-not-branch.false))
+    (λ lost.
+    shipped_lost app sound c.args.self.now trace s c.args.offer c.args.store replica c.args.region is to c.index-recorded.result.now (here at app trace s)
+    c.in-Some.version c.in-Some.part (sym c.in-Some.is ∙ told at) c.carry.new.self
     (came ((goal.at.returns-clause-chose c).In_ok-carry) app trace sound s true c.if-not-branch.false)
+    (Err lost) refl)
 
 pub returns-clause-attends : goal.returns-clause-attends
 returns-clause-attends c = λ app trace replica sound s a is to.
     let at = (goal.at.returns-clause-attends c).After-next_ship in
+    by_and c.stir.result true c.and-2.result c.and-2.ensures
+    (λ (r : Result Bool NoMemory). OnOk r (Attends app (with_entry (entry_by_offer app trace c.args.offer) trace) c.stir.new.self))
+    c.stir.ensures
+    (λ stirred.
     shipped_attends app sound c.args.self.now trace s c.args.offer c.args.store replica c.args.region is to c.index-recorded.result.now (here at app trace s)
     c.in-Some.version c.in-Some.part (sym c.in-Some.is ∙ told at) c.carry.new.self
     (came ((goal.at.returns-clause-attends c).In_ok-carry) app trace sound s true c.if-not-branch.false)
-    c.args.agenda.now c.stir.new.self a c.brought-brought.result c.brought-brought.ensures c.in_ok-stir.ensures
+    c.args.agenda.now c.stir.new.self a c.brought-brought.result c.brought-brought.ensures stirred)
+    (λ lost. tt)
 
 pub returns-in_default-clause-chose : goal.returns-in_default-clause-chose
-returns-in_default-clause-chose c = grind arith
+returns-in_default-clause-chose c = λ app trace replica sound s a is to.
+    let at = (goal.at.returns-in_default-clause-chose c).After-next_ship in
+    by_and c.sleep.result false c.and.result c.and.ensures
+    (λ (r : Result Bool NoMemory). Turned app trace (entry_by_offer app trace c.args.offer) r c.args.self.now)
+    c.sleep.ensures
+    (λ put.
+    route_turned app sound c.args.self.now trace s c.args.offer c.args.store replica c.args.region is to c.index-recorded.result.now (here at app trace s)
+    (sym c.in_default.is ∙ told at))
+    (λ lost. went_nowhere app trace c.args.self.now s)

@@ -1,3 +1,5 @@
+use Rattle.std.proofs.Common.{arith}
+use Rattle.std.proofs.lemmas.Grind.{common_steps}
 use Rattle.std.proofs.Common.{refl}
 use Rattle.anti_kind.specs.declared.actor.Actor.TheVariants.{Process as Acting}
 use Rattle.anti_trace.specs.inner.Living.{lists}
@@ -33,3 +35,6 @@ returns-then-is_not_ready-clause-ended c = λ trace s.
     stops_waits c.args.app.now c.args.self.now trace c.args.birth c.args.at c.get.result.now s (goes ((goal.at.returns-then-is_not_ready-clause-ended c).After-get))
     asked.object asked.span asked.call.now c.in-Some.ensures.going (c.in-Some.ensures.some c.args.app.now) (lists c.args.self.now.processes)
     (c.is_not_ready.ensures c.args.app.now trace (asking_at trace asked.object (Acting c.args.birth) asked.span asked.call.now) c.requires.sound s refl refl c.if-is_not_ready.true).1
+
+pub get-requires-clause-at : goal.get-requires-clause-at
+get-requires-clause-at c = grind (arith, common_steps)

@@ -1,3 +1,5 @@
+use Rattle.std.proofs.Common.{arith}
+use Rattle.std.proofs.lemmas.Grind.{common_steps}
 use Rattle.std.proofs.Common.{◌≡◌, ◌∙◌, ap, subst, sym}
 use Rattle.anti_kind.specs.declared.asking.Asking.{Asking}
 use Rattle.anti_kind.specs.Ports.{Answered}
@@ -15,3 +17,6 @@ returns-in-Ok-clause-answer g c =
     let same : c.loop.asking ≡ asked = c.loop.invariant.0 ∙ (λ i. record asked { object = here i }) in
     subst (λ (q : Asking). Answered (start_of start old.id) q (view_of old) (view_of c.visit.new.pass) c.in-Ok.answer) same
     (since_answered start c.loop.asking old c.loop.pass c.visit.new.pass c.in-Ok.answer c.loop.invariant.1 c.in-Ok.ensures.waits c.in-Ok.ensures.answered)
+
+pub loop-preserved : goal.loop-preserved
+loop-preserved g c = grind (arith, common_steps)

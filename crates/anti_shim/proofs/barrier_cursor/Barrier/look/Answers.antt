@@ -4,7 +4,7 @@ use Rattle.anti_kind.specs.declared.call.Call.TheVariants.{Look}
 use Rattle.anti_shim.specs.declared.fault.ShimFault.TheVariants.{NoMemory}
 use Rattle.anti_shim.specs.Steps.{between}
 use Rattle.anti_shim.specs.Shims.{Sees}
-use Rattle.anti_shim.proofs.NextCall.{unasked, no_memory_of}
+use Rattle.anti_shim.proofs.NextCall.{unasked}
 use Rattle.anti_shim.proofs.barrier_cursor.Barrier.look.Given as given
 use Rattle.anti_shim.proofs.barrier_cursor.Barrier.look.Goals as goal
 use Rattle.anti_shim.proofs.barrier_cursor.Barrier.look.Goals.{After-share}
@@ -20,18 +20,18 @@ unseen g c =
       gives = refl;
     }
 
-pub returns-in_err-ids-clause-answer : goal.returns-in_err-ids-clause-answer
-returns-in_err-ids-clause-answer g c =
+pub returns-in_default-clause-answer : goal.returns-in_default-clause-answer
+returns-in_default-clause-answer g c =
     record {
       sight = Err NoMemory;
-      seen = unseen g (goal.at.returns-in_err-ids-clause-answer g c).After-share;
-      kept = (no_memory_of c.from_residual.result c.from_residual.ensures.1, refl);
+      seen = unseen g (goal.at.returns-in_default-clause-answer g c).After-share;
+      kept = (refl, refl);
     }
 
-pub returns-in_err-reserve-clause-answer : goal.returns-in_err-reserve-clause-answer
-returns-in_err-reserve-clause-answer g c =
+pub returns-in_default-reserve-clause-answer : goal.returns-in_default-reserve-clause-answer
+returns-in_default-reserve-clause-answer g c =
     record {
       sight = Err NoMemory;
-      seen = unseen g (goal.at.returns-in_err-reserve-clause-answer g c).After-share;
-      kept = (no_memory_of c.from_residual-in_err-reserve.result c.from_residual-in_err-reserve.ensures.1, ap (λ l. l.items) c.in_err-reserve.ensures.err ∙ c.self.view_is);
+      seen = unseen g (goal.at.returns-in_default-reserve-clause-answer g c).After-share;
+      kept = (refl, ap (λ l. l.items) c.in_default-reserve.ensures.err ∙ c.self.view_is);
     }

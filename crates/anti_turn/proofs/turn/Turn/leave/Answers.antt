@@ -2,7 +2,7 @@ use Rattle.std.proofs.Common.{rules, ◌≡◌, true, Some, ap, ◌∙◌, sym, 
 use Rattle.anti_turn.specs.Lists.{Adds}
 use Rattle.anti_turn.specs.Places.{Place}
 use Rattle.anti_turn.proofs.Keeps.{frees_turn}
-use Rattle.anti_turn.proofs.Shown.{filled_slot}
+use Rattle.anti_turn.proofs.Shown.{filled_slot, freed_sits}
 use Rattle.anti_turn.proofs.turn.Turn.leave.Goals as goal
 
 pub store-requires : goal.store-requires
@@ -19,3 +19,11 @@ store-requires g c =
       frees_turn l.list l.by l.fixed _ _ _ me.0 value c.seat.invariant.rest holds adds fixed _
           (filled_slot me c.exchange-nothing.new.seat.me value c.seat.invariant.slots holds c.exchange-nothing.ensures.3),
     )
+
+pub invariant_of-seat : goal.invariant_of-seat
+invariant_of-seat g c =
+    let value = c.args.held.value in
+    let me = c.seat.inside.seat.me in
+    let holds : me.0.holds ≡ true = ap (λ (p : Place g.row.T-Entry.Denot g.row.T-Fixed.Denot). p.holds) c.seat.view_is ∙ c.requires.holds in
+    let filled = filled_slot me c.exchange-nothing.new.seat.me value c.seat.invariant.slots holds c.exchange-nothing.ensures.3 in
+    freed_sits g.T.Listed.list me _ c.store.new.seat.me value _ _ c.seat.invariant filled c.store.ensures.2

@@ -1,0 +1,15 @@
+use Rattle.std.proofs.Common.{arith}
+use Rattle.std.proofs.lemmas.Grind.{common_steps}
+use Rattle.anti_app.proofs.choice.part_of.Goals as goal
+
+pub returns-in_err-number_of-in-len1 : goal.returns-in_err-number_of-in-len1
+returns-in_err-number_of-in-len1 c = grind (arith, common_steps)
+
+pub returns-in-empty : goal.returns-in-empty
+returns-in-empty c = grind (arith, common_steps)
+
+pub returns-in_ok-number_of-in-len1 : goal.returns-in_ok-number_of-in-len1
+returns-in_ok-number_of-in-len1 c = grind (arith, common_steps)
+
+pub returns-in_default : goal.returns-in_default
+returns-in_default c = grind (arith, common_steps)

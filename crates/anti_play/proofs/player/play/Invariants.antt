@@ -1,6 +1,0 @@
-use Rattle.anti_play.specs.inner.Closing.{HasPlayed}
-use Rattle.anti_play.proofs.player.play.Given as goal
-
--- the run of the choices so far
-abbrev pub invariant-loop-before : goal.invariant-loop-before
-invariant-loop-before l = HasPlayed l.app l.before l.world l.waits
