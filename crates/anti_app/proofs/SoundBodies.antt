@@ -1,11 +1,9 @@
 -- What a document without a breach says of the bodies of its handlers.
 use Rattle.std.proofs.Common.{◌≡◌, ℕ, suc, ◌+◌, ◌≤◌, codes, List, [], ◌∷◌, Bool, true, false, ◌||◌, nat_le, length, Option, None, Some, is_none, Result, Ok, Err, if◌then◌else◌, refl, sym, ap, ◌∙◌, arith}
 use Rattle.std.specs.List.{list_all}
-use Rattle.std.specs.Str.{bytes_eq}
 use Rattle.std.proofs.lemmas.Bool.{and_from, leb-true, le-leb}
 use Rattle.anti_ids.specs.declared.limits.TheConstants.{MOST_LINES}
 use Rattle.anti_ids.specs.List.{empty}
-use Rattle.anti_kind.specs.declared.store_kind.StoreKind.{StoreKind}
 use Rattle.anti_lang.specs.Words.{words}
 use Rattle.anti_lang.specs.Program.{Block, Write, Read, Scan, Poll}
 use Rattle.anti_lang.specs.Bodies.{block_of}
@@ -17,8 +15,7 @@ use Rattle.anti_lang.specs.Parsing.{parsed, parsed_or, body_or, lines_from, read
 use Rattle.anti_lang.proofs.BodyLaws.{lines_stated as lines_read, few_spans}
 use Rattle.anti_lang.proofs.PlainLemmas.{block_again}
 use Rattle.toml.specs.Data.{Data, Members}
-use Rattle.anti_rules.specs.StoreWords.{kind_of}
-use Rattle.anti_rules.specs.Trees.{text_of, is_one_of}
+use Rattle.anti_rules.specs.Trees.{text_of}
 use Rattle.anti_rules.specs.Statements.{body_in as lines_stated, store_fits, handler_exists}
 use Rattle.anti_rules.specs.Order.{first_breach}
 use Rattle.anti_rules.specs.declared.rule.Rule.TheVariants.{Statements, Blocks, Variables, StatementStores, StatementHandlers}
@@ -26,41 +23,10 @@ use Rattle.anti_rules.specs.declared.place.Part.TheVariants.{Handler}
 use Rattle.anti_rules.proofs.AllParse.{few_lines}
 use Rattle.anti_rules.proofs.Holds.{states_block, lines_pass}
 use Rattle.anti_app.specs.Parts.{number_or_0, regions_of, region_number, stores_of, services_of, body_in, body_or_empty, lines_in}
-use Rattle.anti_kind.specs.Store.{has_keys, is_table, is_queue, is_topic}
 use Rattle.anti_app.specs.Sound.{fits_stores, fits_services, is_sound_body}
-use Rattle.anti_app.proofs.Lookups.{same_text}
 use Rattle.anti_app.proofs.Kept.{FailsNone, length_made, each_passes}
 use Rattle.anti_app.proofs.SoundStores.{stored_is, read_near}
 use Rattle.anti_app.proofs.Served.{line_served}
-
--- ---- kinds that words name
-kv_or : (text : List ℕ) (P : StoreKind → Bool) → P (kind_of (codes "kv")) ≡ true → bytes_eq text (codes "kv") ≡ true → P (kind_of text) ≡ true
-kv_or text P h same = ap (λ (t : List ℕ). P (kind_of t)) (same_text text (codes "kv") same) ∙ h
-
-word_or : (word text : List ℕ) (P : StoreKind → Bool) (others : Bool) → P (kind_of word) ≡ true → (others ≡ true → P (kind_of text) ≡ true) → (bytes_eq text word || others) ≡ true → P (kind_of text) ≡ true
-word_or word text P others here more h = by_first (bytes_eq text word) refl h
-  where
-    by_first : (b : Bool) → bytes_eq text word ≡ b → (b || others) ≡ true → P (kind_of text) ≡ true
-    by_first true same h = ap (λ (t : List ℕ). P (kind_of t)) (same_text text word same) ∙ here
-    by_first false same h = more h
-
-none_left : (b : Bool) → false ≡ true → b ≡ true
-none_left b h = cc
-
-read_kinds : (text : List ℕ) → is_one_of (codes "kv" ∷ codes "table" ∷ codes "blob" ∷ []) text ≡ true → has_keys (kind_of text) ≡ true
-read_kinds text h =
-    word_or (codes "kv") text has_keys _ refl
-    (word_or (codes "table") text has_keys _ refl (word_or (codes "blob") text has_keys _ refl (none_left _))) h
-
-scanned_kinds : (text : List ℕ) → is_one_of (codes "table" ∷ []) text ≡ true → is_table (kind_of text) ≡ true
-scanned_kinds text h = word_or (codes "table") text is_table _ refl (none_left _) h
-
-pub handed_kinds : (text : List ℕ) → is_one_of (codes "queue" ∷ codes "topic" ∷ []) text ≡ true → (is_queue (kind_of text) || is_topic (kind_of text)) ≡ true
-handed_kinds text h =
-    let P : StoreKind → Bool = λ kind. is_queue kind || is_topic kind in word_or (codes "queue") text P _ refl (word_or (codes "topic") text P _ refl (none_left _)) h
-
-polled_kinds : (text : List ℕ) → is_one_of (codes "topic" ∷ []) text ≡ true → is_topic (kind_of text) ≡ true
-polled_kinds text h = word_or (codes "topic") text is_topic _ refl (none_left _) h
 
 -- ---- lines
 -- as many lines are read as there are texts
@@ -95,9 +61,9 @@ module _ (doc : Members) (fine : first_breach doc ≡ None) (home : List ℕ) wh
   line_fits : (line : Line) → store_fits doc home line ≡ true → fits_stores (stores_of doc) region line ≡ true
   unfolding fits_stores
   line_fits (Does (Write store key value variable untracked)) fits = stored_is doc fine store ∙ fits
-  line_fits (Does (Read store key variable)) fits = read_near doc fine home store (codes "kv" ∷ codes "table" ∷ codes "blob" ∷ []) has_keys read_kinds fits
-  line_fits (Does (Scan store prefix variable)) fits = read_near doc fine home store (codes "table" ∷ []) is_table scanned_kinds fits
-  line_fits (Does (Poll store key variable)) fits = read_near doc fine home store (codes "topic" ∷ []) is_topic polled_kinds fits
+  line_fits (Does (Read store key variable)) fits = read_near doc fine home store (λ facts. facts.keyed) fits
+  line_fits (Does (Scan store prefix variable)) fits = read_near doc fine home store (λ facts. facts.scanned) fits
+  line_fits (Does (Poll store key variable)) fits = read_near doc fine home store (λ facts. facts.polled) fits
   line_fits line fits = refl
 
   -- the body of a handler is sound

@@ -14,7 +14,7 @@ use Rattle.anti_lang.specs.Blocks.{lines_of}
 use Rattle.anti_lang.specs.Faults.{block_fault, variable_fault}
 use Rattle.anti_lang.specs.Spans.{spans_of}
 use Rattle.anti_ids.specs.declared.limits.TheConstants.{GREATEST_SEED, LONGEST_VALUE, MOST_CHOICES, MOST_COUNTED, MOST_HANDLERS, MOST_LINES, MOST_REGIONS, MOST_REPLICAS, MOST_REQUESTS, MOST_SERVICES, MOST_STORES, MOST_SUBS, MOST_TRIES, MOST_WORKERS}
-use Rattle.anti_kind.specs.Store.{is_queue, is_topic}
+use Rattle.anti_kind.specs.Store.{is_pulled}
 use Rattle.anti_app.specs.Sound.{are_distinct, is_few, is_sound_store, is_stored, fits_stores, fits_services, is_sound_body, is_sound_handler, is_sound_service, has_handler, hands_out, hands_to, is_sound_sub, is_sound_request, is_countable, is_part, is_shipment, is_sound_choice, are_sound_regions, are_sound_stores, are_sound_services, are_sound_subs, are_sound_requests, are_sound_choices, are_sound_numbers, is_sound}
 use Rattle.anti_app.proofs.Kept.{some_passes}
 use Rattle.anti_app.specs.declared.app.App.{App}
@@ -172,7 +172,7 @@ pub record SoundSub (stores : List StoreDef) (services : List ServiceDef) (sub :
   pub handler : sub.handler < length service.handlers.items
   pub store : StoreDef
   pub stored : slice_get stores sub.store ≡ Some store
-  pub kind : (is_queue store.kind || is_topic store.kind) ≡ true
+  pub kind : is_pulled store.kind ≡ true
   pub near : Contains store.replicas.items service.region
 
 pub sub_known : (stores : List StoreDef) (services : List ServiceDef) (sub : SubDef) → is_sound_sub stores services sub ≡ true → SoundSub stores services sub
@@ -182,7 +182,7 @@ sub_known stores services sub h =
     let service = some_passes (λ (found : ServiceDef). nat_lt sub.handler (length found.handlers.items)) (slice_get services sub.service) three.0 in
     let hands : hands_to stores sub.store service.0 ≡ true = sym (ap (λ (o : Option ServiceDef). option_map_or (hands_to stores sub.store) o false) service.1) ∙ three.1 in
     let store = some_passes (hands_out service.0.region) (slice_get stores sub.store) hands in
-    let parts = and_parts (is_queue store.0.kind || is_topic store.0.kind) (list_any (λ r. r == service.0.region) store.0.replicas.items) store.2 in
+    let parts = and_parts (is_pulled store.0.kind) (list_any (λ r. r == service.0.region) store.0.replicas.items) store.2 in
     record {
       name = one.0;
       channel = two.0;

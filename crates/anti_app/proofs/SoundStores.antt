@@ -1,18 +1,20 @@
 -- What a document without a breach says of its stores.
-use Rattle.std.proofs.Common.{◌≡◌, ℕ, ◌^◌, ◌≤◌, codes, List, [], Bool, true, not, ◌&&◌, ◌==◌, nat_eq, nat_lt, nat_le, length, map, Option, None, Some, option_map, slice_get, refl, sym, ap, ◌∙◌, arith}
+use Rattle.std.proofs.Common.{◌≡◌, ℕ, ◌^◌, ◌≤◌, codes, List, [], Bool, true, false, not, if◌then◌else◌, ◌&&◌, ◌==◌, nat_eq, nat_lt, nat_le, length, map, Option, None, Some, option_map, slice_get, refl, sym, ap, ◌∙◌, arith}
 use Rattle.std.specs.Option.{option_and_then, option_map_or}
 use Rattle.std.specs.Str.{bytes_eq}
-use Rattle.std.proofs.lemmas.Bool.{and_parts, and_from, not-true, eq-eqb, eqb-true, leb-true}
+use Rattle.std.proofs.lemmas.Bool.{and_parts, and_from, false≢true, not-true, eq-eqb, eqb-true, leb-true}
 use Rattle.std.proofs.lemmas.List.{length-map}
 use Rattle.std.specs.List.{list_any, find}
 use Rattle.anti_ids.specs.declared.limits.TheConstants.{MOST_REPLICAS, MOST_STORES, MOST_TRIES}
 use Rattle.anti_ids.specs.Names.{is_plain}
 use Rattle.anti_kind.specs.declared.store_kind.StoreKind.{StoreKind}
 use Rattle.toml.specs.Data.{Data, Members, get_member, as_table, as_integer}
-use Rattle.anti_rules.specs.StoreWords.{kind_of}
-use Rattle.anti_rules.specs.Trees.{text_of, text_at, things_at, things_in, member_in, has_text, is_one_of, is_among, are_among, are_distinct as texts_differ, name_in, is_named, named, stores_in, regions_in}
+use Rattle.anti_kind.specs.declared.store_kind.Facts.{Facts}
+use Rattle.anti_kind.specs.Kinds.{facts_of, kind_named, kind_of}
+use Rattle.anti_rules.specs.StoreFacts.{facts_at, facts_named}
+use Rattle.anti_rules.specs.Trees.{text_of, text_at, things_at, things_in, member_in, has_text, is_among, are_among, are_distinct as texts_differ, name_in, is_named, named, stores_in, regions_in}
 use Rattle.anti_rules.specs.Keys.{keys_of, all_fit, has_count, are_there}
-use Rattle.anti_rules.specs.Statements.{is_read_at, is_read}
+use Rattle.anti_rules.specs.Statements.{near, near_at}
 use Rattle.anti_rules.specs.Rules.{table_line, rule_line}
 use Rattle.anti_rules.specs.Order.{first_breach}
 use Rattle.anti_rules.specs.declared.rule.Rule.TheVariants.{There, Typed, Counted, PlainNames, DistinctObjects, Replicas}
@@ -23,6 +25,26 @@ use Rattle.anti_app.specs.Sound.{are_distinct, is_few, is_sound_store, is_stored
 use Rattle.anti_app.proofs.Lookups.{same_text, text_same, name_stays, first_passes, first_good, first_made, first_numbered, any_made, all_made, some_made, any_found, distinct_made}
 use Rattle.anti_app.proofs.Kept.{FailsNone, each_sound, each_true, counts_at, is_there, table_kept, texts_apart, length_made, names_back, few_is_few, some_passes}
 use Rattle.anti_app.proofs.SoundRegions.{counted, region_same, region_below}
+
+-- what holds of the kind that a word names
+pub kind_has : (test : Facts → Bool) (word : List ℕ) → option_map_or test (facts_named word) false ≡ true → test (facts_of (kind_of word)) ≡ true
+kind_has test word h = by_kind (kind_named word) h
+  where
+    by_kind : (kind : Option StoreKind) → option_map_or test (option_map facts_of kind) false ≡ true → test (facts_of (option_map_or (λ kind. kind) kind (kind_of []))) ≡ true
+    by_kind None h = absurd (false≢true h)
+    by_kind (Some kind) h = h
+
+-- a store that is near: it is there, it has a replica in the region, and its kind passes the test
+near_parts : (home : List ℕ) (test : Facts → Bool) (found : Option Data) → option_map_or test (option_and_then (near_at home) found) false ≡ true
+    → (d : Data) × (found ≡ Some d) × (is_among home (things_in (codes "replicas") d) ≡ true) × (option_map_or test (facts_at d) false ≡ true)
+near_parts home test None h = absurd (false≢true h)
+near_parts home test (Some d) h =
+    let both = by_among (is_among home (things_in (codes "replicas") d)) refl h in (d, refl, both.0, both.1)
+  where
+    by_among : (among : Bool) → is_among home (things_in (codes "replicas") d) ≡ among → option_map_or test (if among then facts_at d else None) false ≡ true
+        → (is_among home (things_in (codes "replicas") d) ≡ true) × (option_map_or test (facts_at d) false ≡ true)
+    by_among true on h = (on, h)
+    by_among false off h = absurd (false≢true h)
 
 module _ (doc : Members) (fine : first_breach doc ≡ None) where
   store_table : (earlier : List Data) (d : Data) → FailsNone doc [] Store earlier d → (ms : Members) × (as_table d ≡ Some ms) × (table_line Typed Store ms ≡ None)
@@ -107,15 +129,15 @@ module _ (doc : Members) (fine : first_breach doc ≡ None) where
       (λ e same. eq-eqb _ _ (ap (λ (t : List ℕ). number_or_0 (region_number (regions_of doc) t)) (same_text (text_of e) home same))) (things_in (codes "replicas") d) among
 
   -- a store that the rules find for a read is found
-  pub read_near : (home name : List ℕ) (kinds : List (List ℕ)) (test : StoreKind → Bool) → ((text : List ℕ) → is_one_of kinds text ≡ true → test (kind_of text) ≡ true)
-      → is_read doc home kinds name ≡ true → is_near test (stores_of doc) name (number_or_0 (region_number (regions_of doc) home)) ≡ true
+  pub read_near : (home name : List ℕ) (test : Facts → Bool) → option_map_or test (near doc home name) false ≡ true
+      → is_near (λ kind. test (facts_of kind)) (stores_of doc) name (number_or_0 (region_number (regions_of doc) home)) ≡ true
   unfolding store_of serves
-  read_near home name kinds test kind read =
-      let found = some_passes (is_read_at home kinds) (named name (stores_in doc)) read in
+  read_near home name test read =
+      let found = near_parts home test (named name (stores_in doc)) read in
       let d : Data = found.0 in
       let plain : is_plain (name_in d) ≡ true = first_good (λ e. is_plain (name_in e)) (has_text (codes "name") name) (stores_in doc) d (stores_plain doc fine) found.1 in
-      let both = and_parts (is_one_of kinds (text_at (codes "kind") d)) (is_among home (things_in (codes "replicas") d)) found.2 in
-      any_found (has_text (codes "name") name) (store_of (regions_of doc)) (serves test name (number_or_0 (region_number (regions_of doc) home))) (stores_in doc) d found.1
+      any_found (has_text (codes "name") name) (store_of (regions_of doc)) (serves (λ kind. test (facts_of kind)) name (number_or_0 (region_number (regions_of doc) home)))
+      (stores_in doc) d found.1
       (and_from _ _ (ap (λ (x : List ℕ). bytes_eq x name) (name_stays (name_in d) plain) ∙ first_passes (has_text (codes "name") name) (stores_in doc) d found.1)
-      (and_from _ _ (kind (text_at (codes "kind") d) both.0)
-      (replica_there home d both.1)))
+      (and_from _ _ (kind_has test (text_at (codes "kind") d) found.3)
+      (replica_there home d found.2)))

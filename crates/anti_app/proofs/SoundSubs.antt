@@ -6,7 +6,6 @@ use Rattle.std.specs.Str.{bytes_eq}
 use Rattle.std.proofs.lemmas.Bool.{and_parts, and_from, not-true}
 use Rattle.anti_ids.specs.declared.limits.TheConstants.{MOST_SUBS}
 use Rattle.anti_ids.specs.Names.{is_plain}
-use Rattle.anti_kind.specs.Store.{is_queue, is_topic}
 use Rattle.toml.specs.Data.{Data, Members, get_member}
 use Rattle.anti_rules.specs.Trees.{text_at, things_at, things_in, is_among, name_in, is_named, named, stores_in, services_in}
 use Rattle.anti_rules.specs.Statements.{has_handler as handler_stated}
@@ -22,8 +21,7 @@ use Rattle.anti_app.specs.Sound.{are_distinct, hands_out, hands_to, is_sound_sub
 use Rattle.anti_app.proofs.Lookups.{name_stays, distinct_made}
 use Rattle.anti_app.proofs.Kept.{FailsNone, each_sound, length_made, names_back, some_passes}
 use Rattle.anti_app.proofs.SoundRegions.{counted}
-use Rattle.anti_app.proofs.SoundStores.{store_found, replica_there}
-use Rattle.anti_app.proofs.SoundBodies.{handed_kinds}
+use Rattle.anti_app.proofs.SoundStores.{kind_has, store_found, replica_there}
 use Rattle.anti_app.proofs.SoundServices.{service_found, handler_there}
 
 module _ (doc : Members) (fine : first_breach doc ≡ None) where
@@ -46,7 +44,7 @@ module _ (doc : Members) (fine : first_breach doc ≡ None) where
       ∙ (sym (ap (λ (o : Option Data). is_among (option_map_or (text_at (codes "region")) o [])
       (option_map_or (things_in (codes "replicas")) (named store (stores_in doc)) [])) a_service.1) ∙ near) in
       let hands : hands_out (number_or_0 (region_number (regions_of doc) home)) (store_of (regions_of doc) a_store.0) ≡ true =
-      and_from _ _ (handed_kinds (text_at (codes "kind") a_store.0) a_store.2) (replica_there doc fine home a_store.0 among) in
+      and_from _ _ (kind_has (λ facts. facts.pulled) (text_at (codes "kind") a_store.0) a_store.2) (replica_there doc fine home a_store.0 among) in
       ap (λ (i : ℕ). option_map_or (hands_to (stores_of doc) (number_or_0 (store_number (stores_of doc) store))) (slice_get (services_of doc) i) false)
       (ap number_or_0 at_service.1)
       ∙ (ap (λ (o : Option ServiceDef). option_map_or (hands_to (stores_of doc) (number_or_0 (store_number (stores_of doc) store))) o false) at_service.2

@@ -14,7 +14,7 @@ use Rattle.anti_lang.specs.Parsing.{parsed}
 use Rattle.anti_lang.specs.declared.statement.Statement.{Statement}
 use Rattle.anti_lang.specs.declared.fault.LangFault.{LangFault}
 use Rattle.toml.specs.Data.{Data, Members, get_member, as_integer}
-use Rattle.anti_rules.specs.StoreWords.{kind_of}
+use Rattle.anti_kind.specs.Kinds.{kind_of}
 use Rattle.anti_rules.specs.Trees.{things_at, things_in, text_of, member_in, text_at}
 use Rattle.anti_app.specs.declared.app.StoreDef.{StoreDef}
 use Rattle.anti_app.specs.declared.app.HandlerDef.{HandlerDef}

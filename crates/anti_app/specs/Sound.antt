@@ -5,7 +5,7 @@ use Rattle.std.specs.Option.{option_map_or}
 use Rattle.std.specs.Str.{bytes_eq}
 use Rattle.anti_ids.specs.Names.{is_plain}
 use Rattle.anti_kind.specs.declared.store_kind.StoreKind.{StoreKind}
-use Rattle.anti_kind.specs.Store.{has_keys, is_table, is_queue, is_topic}
+use Rattle.anti_kind.specs.Store.{has_keys, is_pulled, is_scanned, is_topic}
 use Rattle.anti_lang.specs.Program.{Block, Write, Read, Scan, Poll, Call, Send}
 use Rattle.anti_lang.specs.Bodies.{block_of}
 use Rattle.anti_lang.specs.Lines.{Line, Does}
@@ -56,7 +56,7 @@ is_near test stores name region = list_any (serves test name region) stores
 unfoldable pub fits_stores : List StoreDef → ℕ → Line → Bool
 fits_stores stores region (Does (Write store key value variable untracked)) = is_stored stores store
 fits_stores stores region (Does (Read store key variable)) = is_near has_keys stores store region
-fits_stores stores region (Does (Scan store prefix variable)) = is_near is_table stores store region
+fits_stores stores region (Does (Scan store prefix variable)) = is_near is_scanned stores store region
 fits_stores stores region (Does (Poll store key variable)) = is_near is_topic stores store region
 fits_stores stores region line = true
 
@@ -95,9 +95,9 @@ abbrev pub has_handler : List ServiceDef → ℕ → ℕ → Bool
 has_handler services service handler = option_map_or (λ found. nat_lt handler (length found.handlers.items)) (slice_get services service) false
 
 -- ---- subscriptions
--- a queue or a topic with a replica in this region
+-- a store that subscriptions pull from, with a replica in this region
 unfoldable pub hands_out : ℕ → StoreDef → Bool
-hands_out region store = (is_queue store.kind || is_topic store.kind) && list_any (λ r. r == region) store.replicas.items
+hands_out region store = is_pulled store.kind && list_any (λ r. r == region) store.replicas.items
 
 -- whether the store of this number is there and hands out in the region of a service
 abbrev pub hands_to : List StoreDef → ℕ → ServiceDef → Bool

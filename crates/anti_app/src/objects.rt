@@ -7,7 +7,6 @@ ghost use Rattle.anti_app.specs.Objects.{body_among, body_of, handler_among, han
 
 use crate::app::{App, HandlerDef, ServiceDef, StoreDef};
 use anti_ids::{Name, NoMemory};
-use anti_kind::StoreKind;
 use anti_lang::Statement;
 use std::alloc::Global;
 
@@ -61,7 +60,7 @@ pub fn is_queue_at(app: &App, store: u32) -> bool
     ensures { result ≡ is_queue_at app.now store }
 {
     match app.stores.as_slice().get(store as usize) {
-        Some(store) => store.kind == StoreKind::Queue,
+        Some(store) => store.kind.facts().tried,
         None => false,
     }
 }

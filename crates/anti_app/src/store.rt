@@ -8,7 +8,8 @@ use crate::app::{Numbers, StoreDef, Stores};
 use crate::reading::{few_or, integer_at, name_at, small};
 use crate::region::region_number;
 use anti_ids::{List, MOST_TRIES, Name, NoMemory};
-use anti_rules::{kind_of, text_at, text_of, things_in};
+use anti_kind::StoreKind;
+use anti_rules::{text_at, text_of, things_in};
 use std::alloc::Global;
 use toml::Value;
 
@@ -42,7 +43,7 @@ fn store_of(alloc: Global, regions: &[Name], value: &Value) -> Result<StoreDef, 
     let replicas = replicas_of(alloc, regions, things_in(value, "replicas"))?;
     Ok(StoreDef {
         name: name_at(value, "name"),
-        kind: kind_of(text_at(value, "kind")),
+        kind: StoreKind::of_word(text_at(value, "kind")),
         replicas,
         tries: few_or(MOST_TRIES, TRIES, integer_at(value, "tries")),
     })

@@ -10,7 +10,8 @@ use Rattle.anti_kind.specs.declared.call.Call.TheVariants.{Read, Scan, Poll, Loo
 use Rattle.anti_kind.specs.declared.entry.Entry.{Entry}
 use Rattle.anti_kind.specs.declared.row.Row.{Row}
 use Rattle.anti_kind.specs.Stored.{rows, row_of, is_shipped, shows_of}
-use Rattle.anti_kind.specs.Store.{Store, is_table, is_replica, is_visible, is_written, or_absent, shown_row, scanned}
+use Rattle.anti_kind.proofs.FactLaws.{scanned_ordered}
+use Rattle.anti_kind.specs.Store.{Store, is_scanned, is_table, is_replica, is_visible, is_written, or_absent, shown_row, scanned}
 use Rattle.anti_kind.specs.Objects.{store, due, ready, IsLegal}
 use Rattle.anti_kind.specs.Laws.{ShowsWritten, named_missing, LooksRight, is_read_at, speaks_of, shown, IsRight, ReadsRight, OwnAfter, IsTogether, ReadsTogether, KeepsLaws}
 use Rattle.anti_kind.proofs.Rows.{versions_grow}
@@ -111,7 +112,7 @@ together_by s is h g (Poll region key) l own can here =
     subst (λ (n : ℕ). All (IsTogether s h n (Poll region key)) (shown_row s h region key ∷ [])) (eqb-true region g here) (read_together s h region key (Poll region key) (λ x. refl) l own)
 together_by s is h g (Scan region prefix) l own can here =
     subst (λ (n : ℕ). All (IsTogether s h n (Scan region prefix)) (scanned s h region prefix)) (eqb-true region g here)
-    (scan_together s is (and_parts (is_table s.kind) (is_replica s region) can).0 h l own region prefix)
+    (scan_together s is (scanned_ordered s.kind (and_parts (is_scanned s.kind) (is_replica s region) can).0) h l own region prefix)
 together_by s is h g _ l own can here = absurd (cc)
 
 pub reads_together : (s : Store) → s.shows ≡ shows_of s.kind → ReadsTogether s

@@ -1,3 +1,5 @@
+-- kinds
+pub mod FactLaws
 -- lists
 pub mod Finding
 pub mod Sums

@@ -107,8 +107,8 @@ module _ (start : Start) (h : List Entry) (q : Asking) (before now : ℕ) (in_ra
   given_answers new (Full a b n) gives = rw gives.0 (refused, gives.1)
   given_answers new (Spent clock) gives = rw gives.0 (refused, gives.1)
   given_answers new NoMemory gives = record {
-    front = subst (IsFront h) (sym gives) (whole_front h);
-    made = gives;
+    front = subst (IsFront h) (sym gives.0) (whole_front h);
+    made = gives.0;
     visits = omega arith;
   }
 

@@ -19,7 +19,7 @@ use Rattle.anti_kind.specs.declared.store_kind.Sub.{Sub}
 use Rattle.anti_kind.specs.declared.store_kind.StoreKind.{StoreKind}
 use Rattle.anti_kind.specs.declared.store_kind.StoreKind.TheVariants.{Queue, Topic}
 use Rattle.anti_kind.specs.Stored.{rows, row_of, is_whole, is_in}
-use Rattle.anti_kind.specs.Store.{Store, has_keys, is_table, is_topic, is_replica, absent, or_absent, shown_row, is_pull_by, gives, is_free, if_whole, cursor, next_of, pulled_next, next, is_there, was_pulled, store_ready, store_due}
+use Rattle.anti_kind.specs.Store.{Store, has_keys, is_scanned, is_topic, is_replica, absent, or_absent, shown_row, is_pull_by, gives, is_free, if_whole, cursor, next_of, pulled_next, next, is_there, was_pulled, store_ready, store_due}
 use Rattle.anti_kind.specs.Objects.{store, Follows, IsLegal}
 use Rattle.anti_kind.specs.Laws.{IsOfWrite, RowsHaveSources, CallsNameOwn}
 use Rattle.anti_kind.proofs.Finding.{Found, find_found, filter_contains}
@@ -131,7 +131,7 @@ replica_in s g is =
 
 pub calls_name_own : (s : Store) → CallsNameOwn s
 calls_name_own s h (Read g k) l can = replica_in s g (and_parts (has_keys s.kind) (is_replica s g) can).1
-calls_name_own s h (Scan g prefix) l can = replica_in s g (and_parts (is_table s.kind) (is_replica s g) can).1
+calls_name_own s h (Scan g prefix) l can = replica_in s g (and_parts (is_scanned s.kind) (is_replica s g) can).1
 calls_name_own s h (Poll g k) l can = replica_in s g (and_parts (is_topic s.kind) (is_replica s g) can).1
 calls_name_own s h (Look g ids dry) l can =
     let first = and_parts (is_replica s g) _ can in

@@ -9,10 +9,10 @@ use Rattle.anti_kind.specs.declared.call.Call.{Call}
 use Rattle.anti_kind.specs.declared.entry.Entry.{Entry}
 use Rattle.anti_kind.specs.declared.row.Row.{Row}
 use Rattle.anti_kind.specs.declared.store_kind.StoreKind.{StoreKind}
-use Rattle.anti_kind.specs.declared.store_kind.StoreKind.TheVariants.{Table, Blob}
 use Rattle.anti_kind.specs.Stored.{rows, row_of, is_ship, is_shipped, is_whole, parts_of, parts, shows_of}
 use Rattle.anti_kind.specs.Store.{Store, is_table, is_replica, has_part, is_next, can_ship, is_visible, is_written, absent, store_ready}
 use Rattle.anti_kind.specs.Objects.{store, Follows, IsLegal}
+use Rattle.anti_kind.proofs.FactLaws.{has_parts, one_is_whole}
 use Rattle.anti_kind.proofs.Finding.{Found, find_found}
 use Rattle.anti_kind.proofs.Histories.{by_entries}
 use Rattle.anti_kind.proofs.Rows.{shipped_more, version_at}
@@ -56,14 +56,10 @@ in_order s table h l = by_entries (store s) InOrder (λ g v p w on some less. ab
 
 -- A version that is shown came to its region.
 
-some_part : (kind : StoreKind) (value : List ℕ) → 1 ≤ parts_of kind value
-some_part Blob value = omega arith
-some_part _ value = omega arith
-
 pub whole_came : (kind : StoreKind) (h : List Entry) (g : ℕ) (r : Row) → is_whole kind h g r ≡ true → is_shipped h g r.version 1 ≡ true
 whole_came kind h g r whole =
     let n : ℕ = parts_of kind r.value in
-    let some : 0 < n = omega (arith, some_part kind r.value) in
+    let some : 0 < n = omega (arith, has_parts kind r.value) in
     let passes : is_shipped h g r.version (get_or (parts kind r) 0 0) ≡ true = AllPass-from_list_all (λ (p : ℕ). is_shipped h g r.version p) (parts kind r) whole 0 0 (omega (arith, length-range_with_len 1 n)) in
     subst (λ (p : ℕ). is_shipped h g r.version p ≡ true) (get_or-range_with_len 1 n 0 0 some) passes
 
@@ -75,8 +71,7 @@ shown_came kind h g k some =
 -- An id that was written and is below a version that came is visible there.
 
 table_whole : (kind : StoreKind) (h : List Entry) (g : ℕ) (r : Row) → is_table kind ≡ true → is_shipped h g r.version 1 ≡ true → is_whole kind h g r ≡ true
-table_whole Table h g r table came = and_from (is_shipped h g r.version 1) true came refl
-table_whole _ h g r table came = absurd (cc)
+table_whole kind h g r table came = one_is_whole kind h g r table ∙ and_from (is_shipped h g r.version 1) true came refl
 
 pub visible_below : (s : Store) → s.shows ≡ shows_of s.kind → is_table s.kind ≡ true → (h : List Entry) → IsLegal (store s) h → (g v p : ℕ) (id : WriteId) → is_shipped h g v p ≡ true → id.version < v → is_written h id ≡ true
     → is_visible s h g id ≡ true

@@ -1,3 +1,4 @@
+pub mod Kinds
 pub mod Stored
 pub mod Store
 pub mod Cells

@@ -34,11 +34,11 @@ IsRefusal start h q (refusals.Full a b n) = IsFull start h q.call a b n
 IsRefusal start h q (refusals.Spent clock) = IsSpent start h q clock
 
 -- What is answered where the history h has become a new one: the entry that was made, which has the number of the pass that asked, or the
--- cause why none was.
+-- cause why none was. Memory is only ever wanted for what goes.
 abbrev pub Gives : Start → List Entry → ℕ → Asking → List Entry → Answer → Type 0
 Gives start h seat q new (Made place stamp reply) =
     Follows start h (entry_of q seat place stamp reply) × (stamp ≡ max q.clock (last_stamp h) + 1) × (new ≡ h ++ entry_of q seat place stamp reply ∷ [])
 Gives start h seat q new NotYet = (new ≡ h) × (ready start h q.call ≡ false)
 Gives start h seat q new (Full a b n) = (new ≡ h) × IsFull start h q.call a b n
 Gives start h seat q new (Spent clock) = (new ≡ h) × IsSpent start h q clock
-Gives start h seat q new NoMemory = new ≡ h
+Gives start h seat q new NoMemory = (new ≡ h) × Goes start h q

@@ -16,6 +16,7 @@ use Rattle.anti_kind.specs.declared.row.Row.{Row}
 use Rattle.anti_kind.specs.declared.store_kind.Sub.{Sub}
 use Rattle.anti_kind.specs.declared.store_kind.StoreKind.{StoreKind}
 use Rattle.anti_kind.specs.declared.store_kind.StoreKind.TheVariants.{Kv, Table, Blob, Queue, Topic}
+use Rattle.anti_kind.specs.Kinds.{facts_of}
 use Rattle.anti_kind.specs.Stored.{rows, row_of, is_shipped, parts_of, parts, is_whole, shows_of, is_in}
 
 -- What a store starts as: its kind, its number, the regions of its replicas, its subscriptions, how many times a message of a
@@ -51,22 +52,22 @@ topic_store number regions subs = store_of Topic number regions subs 0
 -- Kinds.
 
 abbrev pub has_keys : StoreKind → Bool
-has_keys Kv = true
-has_keys Table = true
-has_keys Blob = true
-has_keys _ = false
+has_keys kind = (facts_of kind).keyed
+
+abbrev pub is_scanned : StoreKind → Bool
+is_scanned kind = (facts_of kind).scanned
 
 abbrev pub is_table : StoreKind → Bool
-is_table Table = true
-is_table _ = false
+is_table kind = (facts_of kind).ordered
 
 abbrev pub is_queue : StoreKind → Bool
-is_queue Queue = true
-is_queue _ = false
+is_queue kind = (facts_of kind).tried
 
 abbrev pub is_topic : StoreKind → Bool
-is_topic Topic = true
-is_topic _ = false
+is_topic kind = (facts_of kind).polled
+
+abbrev pub is_pulled : StoreKind → Bool
+is_pulled kind = (facts_of kind).pulled
 
 -- Writing.
 
@@ -241,7 +242,7 @@ store_ready s h (Ship g v p) = can_ship s h g v p
 store_ready s h (Again g v p) = is_shipped h g v p
 store_ready s h (Look g ids dry) = can_look s h g ids dry
 store_ready s h (Read g k) = has_keys s.kind && is_replica s g
-store_ready s h (Scan g prefix) = is_table s.kind && is_replica s g
+store_ready s h (Scan g prefix) = is_scanned s.kind && is_replica s g
 store_ready s h (Poll g k) = is_topic s.kind && is_replica s g
 store_ready s h (Pull n) = is_there (next s h n)
 store_ready s h (Repull n v) = is_topic s.kind && was_pulled h n v

@@ -11,7 +11,7 @@ use Rattle.anti_kind.specs.declared.call.Reply.TheVariants.{Written}
 use Rattle.anti_kind.specs.declared.entry.Entry.{Entry}
 use Rattle.anti_kind.specs.declared.row.Row.{Row}
 use Rattle.anti_kind.specs.declared.store_kind.StoreKind.{StoreKind}
-use Rattle.anti_kind.specs.declared.store_kind.StoreKind.TheVariants.{Blob}
+use Rattle.anti_kind.specs.Kinds.{facts_of}
 
 -- the lineage that is kept beside a write
 abbrev pub stored : Call → Reply → List WriteId
@@ -46,8 +46,7 @@ is_shipped h g v p = list_any (λ e. is_ship g v p e.call) h
 
 -- how many parts a value has: one, but in a blob one for each `PART_BYTES` bytes begun, and one where there is none
 abbrev pub parts_of : StoreKind → List ℕ → ℕ
-parts_of Blob value = max 1 ((length value + 63) / PART_BYTES)
-parts_of _ value = 1
+parts_of kind value = cond (facts_of kind).parted (max 1 ((length value + 63) / PART_BYTES)) 1
 
 -- the parts of a row, counted from 1
 abbrev pub parts : StoreKind → Row → List ℕ

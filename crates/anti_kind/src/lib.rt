@@ -37,4 +37,4 @@ pub use message::{Message, MessageKind, Messages};
 pub use port::{Answer, Port, WaitPort};
 pub use recorded::{Recorded, Refusal};
 pub use row::{Row, Rows};
-pub use store_kind::{StoreKind, Sub};
+pub use store_kind::{Facts, StoreKind, Sub};

@@ -51,13 +51,16 @@ pub trait Port {
 /// A port whose calls may wait until they are ready.
 pub trait WaitPort: Port {
     ghost use Rattle.std.specs.Prelude.{◌≡◌, ℕ, Some, is_some, true};
+    ghost use Rattle.anti_kind.specs.Objects.{IsShip};
     ghost use Rattle.anti_kind.specs.Ports.{Answered};
 
-    /// Makes a call on an object that the port has, once it is ready. It may wait, and never answers `NotYet`.
+    /// Makes a call on an object that the port has, once it is ready. It may wait, and never answers `NotYet`. A `Ship` is never refused
+    /// for want of memory.
     fn call_wait(&mut self, object: u32, actor: Actor, span: u32, clock: u64, c: Call) -> Answer
         requires { is_some (Self.start self.old object) ≡ true }
         ensures answer { Answered (Self.start self.old object) (record { object = object; actor = actor; span = span; clock = clock; call = c }) (Self.view self.old object) (Self.view self.new object) result }
         ensures waits { result ≡ Answer.NotYet → ⊥ }
         ensures others { (o : ℕ) → (o ≡ object → ⊥) → Self.view self.new o ≡ Self.view self.old o }
-        ensures fixed { (o : ℕ) → Self.start self.new o ≡ Self.start self.old o };
+        ensures fixed { (o : ℕ) → Self.start self.new o ≡ Self.start self.old o }
+        ensures ship { IsShip c → result ≡ Answer.NoMemory → ⊥ };
 }

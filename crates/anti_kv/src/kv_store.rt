@@ -36,22 +36,7 @@ impl Machine for Kv {
     ghost Stands = { KvStands };
 
     fn ready(&self, c: &Call) -> bool {
-        match c {
-            Call::Write { .. } => true,
-            Call::Ship {
-                region,
-                version,
-                part,
-            } => self.base.can_ship(*region, *version, *part),
-            Call::Again {
-                region,
-                version,
-                part,
-            } => self.base.was_shipped(*region, *version, *part),
-            Call::Look { region, ids, dry } => self.base.can_look(*region, ids.get(), *dry),
-            Call::Read { region, .. } => self.base.is_replica(*region),
-            _ => false,
-        }
+        self.base.keyed_ready(c)
     }
 
     fn need(&self, c: &Call) -> u32 {
@@ -75,49 +60,15 @@ impl Machine for Kv {
     }
 
     fn awaits(&self, c: &Call) -> Option<Awaited> {
-        match c {
-            Call::Look { region, ids, dry } => self.base.look_awaits(*region, ids.get(), *dry),
-            _ => None,
-        }
+        self.base.keyed_awaits(c)
     }
 
     fn due(&self, c: &Call) -> Result<Reply, NoMemory> {
-        match c {
-            Call::Write { key, .. } => Ok(Reply::Written {
-                key: key.share()?,
-                version: self.base.next_version(),
-            }),
-            Call::Ship { .. } => Ok(Reply::Moved),
-            Call::Again { .. } => Ok(Reply::Moved),
-            Call::Look { region, ids, .. } => self.base.look(*region, ids.get()),
-            Call::Read { region, key } => self.base.read(*region, key),
-            _ => unreachable!(),
-        }
+        self.base.keyed_due(c)
     }
 
     fn apply(&mut self, c: &Call) -> Result<(), NoMemory> {
-        match c {
-            Call::Write {
-                key,
-                value,
-                lineage,
-            } => {
-                self.base.write(*key.get(), value, lineage.get())?;
-                Ok(())
-            }
-            Call::Ship {
-                region,
-                version,
-                part,
-            } => {
-                self.base.ship(*region, *version, *part);
-                Ok(())
-            }
-            _ => {
-                self.base.note(1);
-                Ok(())
-            }
-        }
+        self.base.keyed_apply(c)
     }
 }
 

@@ -13,9 +13,9 @@ use Rattle.anti_kind.specs.declared.message.MessageKind.TheVariants as kinds
 use Rattle.anti_kind.specs.declared.store_kind.Sub.{Sub}
 use Rattle.anti_ids.specs.Names.{is_plain}
 use Rattle.anti_kind.specs.declared.store_kind.StoreKind.{StoreKind}
-use Rattle.anti_kind.specs.declared.store_kind.StoreKind.TheVariants.{Kv, Table, Blob, Queue, Topic}
-use Rattle.anti_kind.specs.Store.{store_of, has_keys, is_queue, is_topic}
-use Rattle.anti_kind.specs.Objects.{Start, store, IsStart, IsStore, HasTries}
+use Rattle.anti_kind.proofs.FactLaws.{keyed_or_pulled, tries_fit}
+use Rattle.anti_kind.specs.Store.{store_of, has_keys, is_pulled, is_queue}
+use Rattle.anti_kind.specs.Objects.{Start, store, IsStart, IsStore}
 use Rattle.anti_kind.specs.Fulls.{ShowsStay}
 use Rattle.anti_kind.proofs.Fullness.{shown_stays}
 use Rattle.anti_app.specs.declared.app.App.{App}
@@ -86,13 +86,6 @@ start_known app o start there =
 
 -- ---- stores
 
-tries_fit : (kind : StoreKind) (tries : ℕ) → 1 ≤ tries → tries ≤ 8 → HasTries kind (cond (is_queue kind) tries 0)
-tries_fit Queue tries some few = (some, few)
-tries_fit Kv tries some few = tt
-tries_fit Table tries some few = tt
-tries_fit Blob tries some few = tt
-tries_fit Topic tries some few = tt
-
 -- the region of a subscription has a replica of the store, and its channel is plain
 abbrev IsHeld : StoreDef → Sub → Type 0
 IsHeld s sub = Contains s.replicas.items sub.region × (is_plain sub.channel ≡ true)
@@ -114,14 +107,6 @@ store_found app o s sound found =
     let known : SoundApp app = app_known app sound in
     subst (SoundStore (length app.regions.items)) (get_or_from_slice_get app.stores.items o s s found) (known.stores o s (slice_get_within app.stores.items o s found))
 
--- a store that is read by its keys hands nothing out
-reads_or_hands : (kind : StoreKind) → has_keys kind ≡ true → (is_queue kind || is_topic kind) ≡ true → ⊥
-reads_or_hands Kv keyed hands = absurd (cc)
-reads_or_hands Table keyed hands = absurd (cc)
-reads_or_hands Blob keyed hands = absurd (cc)
-reads_or_hands Queue keyed hands = absurd (cc)
-reads_or_hands Topic keyed hands = absurd (cc)
-
 no_elements : {T : Type 0} (xs : List T) → All (λ (x : T). ⊥) xs → xs ≡ []
 no_elements [] none = refl
 no_elements (x ∷ xs) none = absurd (All-head (λ y. ⊥) x xs none)
@@ -129,7 +114,7 @@ no_elements (x ∷ xs) none = absurd (All-head (λ y. ⊥) x xs none)
 module _ (app : App) (o : ℕ) (s : StoreDef) (sound : IsTrue (is_sound app)) (found : slice_get app.stores.items o ≡ Some s) where
   -- what is known of a subscription on the store
   abbrev IsOn : SubDef → Type 0
-  IsOn sub = IsHeld s (sub_of app sub) × ((is_queue s.kind || is_topic s.kind) ≡ true)
+  IsOn sub = IsHeld s (sub_of app sub) × (is_pulled s.kind ≡ true)
 
   on_known : (sub : SubDef) → SoundSub app.stores.items app.services.items sub → is_on o sub ≡ true → IsOn sub
   on_known sub known on =
@@ -137,7 +122,7 @@ module _ (app : App) (o : ℕ) (s : StoreDef) (sound : IsTrue (is_sound app)) (f
       let same : known.store ≡ s = cc in
       let region : (sub_of app sub).region ≡ known.service.region = ap (λ (x : Option ServiceDef). option_map_or (λ service. service.region) x 0) known.served in
       let near : Contains s.replicas.items known.service.region = subst (λ (x : StoreDef). Contains x.replicas.items known.service.region) same known.near in
-      ((subst (Contains s.replicas.items) (sym region) near, known.channel), subst (λ (x : StoreDef). (is_queue x.kind || is_topic x.kind) ≡ true) same known.kind)
+      ((subst (Contains s.replicas.items) (sym region) near, known.channel), subst (λ (x : StoreDef). is_pulled x.kind ≡ true) same known.kind)
 
   all_on : All IsOn (filter (is_on o) app.subs.items)
   all_on = λ k d l.
@@ -157,7 +142,7 @@ module _ (app : App) (o : ℕ) (s : StoreDef) (sound : IsTrue (is_sound app)) (f
   pub none_on : has_keys s.kind ≡ true → subs_on app o ≡ []
   none_on keyed =
       ap (map (sub_of app)) (no_elements (filter (is_on o) app.subs.items)
-      (All-weaker IsOn (λ (sub : SubDef). ⊥) (λ sub on. reads_or_hands s.kind keyed on.1) (filter (is_on o) app.subs.items) all_on))
+      (All-weaker IsOn (λ (sub : SubDef). ⊥) (λ sub on. keyed_or_pulled s.kind keyed on.1) (filter (is_on o) app.subs.items) all_on))
 
 -- the start of a store, by its kind
 pub start_by : (kind : StoreKind) (number : ℕ) (s : StoreDef) (subs : List Sub) → s.kind ≡ kind

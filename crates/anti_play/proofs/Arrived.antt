@@ -1,6 +1,7 @@
 -- Where no shipment of a store can be made, each write is whole at each replica.
-use Rattle.std.proofs.Common.{◌≡◌, ℕ, zero, suc, ◌<◌, ◌≤◌, Bool, true, false, not, leb, ◌&&◌, ◌||◌, List, ◌==◌, refl, sym, ap, ◌∙◌, ⊎_elim, arith}
+use Rattle.std.proofs.Common.{◌≡◌, ℕ, zero, suc, ◌<◌, ◌≤◌, Bool, true, false, not, leb, ◌&&◌, ◌||◌, List, ◌==◌, refl, sym, ap, ◌∙◌, ⊎_elim, subst, arith}
 use Rattle.std.specs.Prelude.{All, Contains, Option, IsTrue}
+use Rattle.std.specs.List.{range_with_len}
 use Rattle.std.proofs.lemmas.Bool.{and_from, cases_lt, eq-eqb, false≢true, le-leb, or_left, or_right}
 use Rattle.std.proofs.lemmas.List.Elements.{All-contains_itself, All-weaker}
 use Rattle.std.proofs.lemmas.List.Folds.{list_any_at}
@@ -9,20 +10,16 @@ use Rattle.std.proofs.lemmas.List.Sums.{list_all-from_AllPass}
 use Rattle.anti_kind.specs.declared.entry.Entry.{Entry}
 use Rattle.anti_kind.specs.declared.row.Row.{Row}
 use Rattle.anti_kind.specs.declared.store_kind.StoreKind.{StoreKind}
-use Rattle.anti_kind.specs.declared.store_kind.StoreKind.TheVariants.{Kv, Table, Blob, Queue, Topic}
 use Rattle.anti_kind.specs.Objects.{store, IsLegal}
 use Rattle.anti_kind.specs.Store.{Store, can_ship, has_part, is_next, is_replica, is_table}
 use Rattle.anti_kind.specs.Stored.{is_shipped, is_whole, parts, parts_of, row_of, rows}
+use Rattle.anti_kind.proofs.FactLaws.{ordered_whole}
 use Rattle.anti_kind.proofs.Rows.{row_in}
 use Rattle.anti_play.specs.Over.{IsEverywhere}
 
 -- a row of a table has one part
 one_part : (kind : StoreKind) (r : Row) → is_table kind ≡ true → Contains (parts kind r) 1
-one_part Table r is = (0, omega arith, refl)
-one_part Kv r is = absurd (cc)
-one_part Blob r is = absurd (cc)
-one_part Queue r is = absurd (cc)
-one_part Topic r is = absurd (cc)
+one_part kind r is = subst (λ (n : ℕ). Contains (range_with_len 1 n) 1) (sym (ordered_whole kind r.value is)) (0, omega arith, refl)
 
 -- a part of a row is counted from 1
 part_within : (kind : StoreKind) (r : Row) (p : ℕ) → Contains (parts kind r) p → (1 ≤ p) × (p ≤ parts_of kind r.value)

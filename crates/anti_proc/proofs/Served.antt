@@ -18,7 +18,7 @@ use Rattle.anti_app.specs.declared.app.App.{App}
 use Rattle.anti_app.specs.declared.app.HandlerDef.{HandlerDef}
 use Rattle.anti_app.specs.declared.app.ServiceDef.{ServiceDef}
 use Rattle.anti_app.specs.declared.app.StoreDef.{StoreDef}
-use Rattle.anti_kind.specs.Store.{has_keys, is_table, is_topic}
+use Rattle.anti_kind.specs.Store.{has_keys, is_scanned, is_topic}
 use Rattle.anti_app.specs.Sound.{fits_services, fits_stores, has_named, is_near, is_served, is_stored, serves}
 use Rattle.anti_app.proofs.SoundLemmas.{SoundApp, SoundBody, SoundHandler, SoundService, SoundStore}
 use Rattle.anti_app.specs.Objects.{IsStore, body_among, body_in, body_of, has_handler, inbox_of, service_among, service_at, store_among, store_names, store_number}
@@ -150,7 +150,7 @@ module _ (app : App) where
       step_fit (program.Read store key variable) fits =
           store_there store (near_stored has_keys app.stores.items store region (and_parts (is_near has_keys app.stores.items store region) true fits.0).0)
       step_fit (program.Scan store prefix variable) fits =
-          store_there store (near_stored is_table app.stores.items store region (and_parts (is_near is_table app.stores.items store region) true fits.0).0)
+          store_there store (near_stored is_scanned app.stores.items store region (and_parts (is_near is_scanned app.stores.items store region) true fits.0).0)
       step_fit (program.Poll store key variable) fits =
           store_there store (near_stored is_topic app.stores.items store region (and_parts (is_near is_topic app.stores.items store region) true fits.0).0)
       step_fit (program.Call service handler value variable) fits =

@@ -11,7 +11,7 @@ use Rattle.anti_ids.specs.declared.id.WriteId.{WriteId}
 use Rattle.anti_kind.specs.declared.entry.Entry.{Entry}
 use Rattle.anti_kind.specs.declared.row.Row.{Row}
 use Rattle.anti_kind.specs.declared.store_kind.StoreKind.{StoreKind}
-use Rattle.anti_kind.specs.declared.store_kind.StoreKind.TheVariants.{Table}
+use Rattle.anti_kind.proofs.FactLaws.{one_is_whole}
 use Rattle.anti_kind.specs.Stored.{rows, row_of, is_shipped, parts_of, parts, is_whole, shows_of, upto_of}
 use Rattle.anti_kind.specs.Store.{Store, absent, has_part, is_replica, is_table, is_next, is_written, can_ship, shipment, shipments, next_shipment}
 use Rattle.anti_kind.specs.Objects.{store, IsLegal}
@@ -139,9 +139,9 @@ shows_below s h l g id below =
 
 -- A table is shipped in the order of its versions.
 
-module _ (s : Store) (h : List Entry) (l : IsLegal (store s) h) (g v : ℕ) (table : s.kind ≡ Table) (few : v ≤ length (rows h)) where
+module _ (s : Store) (h : List Entry) (l : IsLegal (store s) h) (g v : ℕ) (table : is_table s.kind ≡ true) (few : v ≤ length (rows h)) where
   table_whole : (r : Row) → is_whole s.kind h g r ≡ is_shipped h g r.version 1
-  table_whole r = ap (λ (kind : StoreKind). is_whole kind h g r) table ∙ and_true (is_shipped h g r.version 1)
+  table_whole r = one_is_whole s.kind h g r table ∙ and_true (is_shipped h g r.version 1)
 
   brought : v - 1 ≤ upto_of s.kind h g → is_next h g v ≡ true
   brought low =
@@ -171,10 +171,10 @@ module _ (s : Store) (h : List Entry) (l : IsLegal (store s) h) (g v : ℕ) (tab
 
 -- so the version behind what a region has is the next, whatever the kind
 pub first_is_next : (s : Store) (h : List Entry) → IsLegal (store s) h → (g v : ℕ) → v ≤ length (rows h) → v - 1 ≤ upto_of s.kind h g → (not (is_table s.kind) || is_next h g v) ≡ true
-first_is_next s h l g v few low = by_kind s.kind refl where
-  by_kind : (kind : StoreKind) → s.kind ≡ kind → (not (is_table kind) || is_next h g v) ≡ true
-  by_kind Table is = sym (next_upto s h l g v is few) ∙ le-leb (v - 1) (upto_of s.kind h g) low
-  by_kind _ is = refl
+first_is_next s h l g v few low = by_order (is_table s.kind) refl where
+  by_order : (ordered : Bool) → is_table s.kind ≡ ordered → (not (is_table s.kind) || is_next h g v) ≡ true
+  by_order true is = or_right (not (is_table s.kind)) _ (sym (next_upto s h l g v is few) ∙ le-leb (v - 1) (upto_of s.kind h g) low)
+  by_order false is = or_left (not (is_table s.kind)) _ (ap not is)
 
 -- The next shipment.
 

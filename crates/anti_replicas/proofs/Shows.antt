@@ -13,8 +13,7 @@ use Rattle.anti_kind.specs.declared.call.Call.TheVariants.{Write, Ship}
 use Rattle.anti_kind.specs.declared.entry.Entry.{Entry}
 use Rattle.anti_kind.specs.declared.row.Row.{Row}
 use Rattle.anti_kind.specs.declared.store_kind.StoreKind.{StoreKind}
-use Rattle.anti_kind.specs.declared.store_kind.StoreKind.TheVariants.{Blob}
-use Rattle.anti_ids.specs.declared.limits.TheConstants.{PART_BYTES}
+use Rattle.anti_kind.proofs.FactLaws.{has_parts}
 use Rattle.anti_kind.specs.Stored.{rows, is_shipped, parts_of, parts, is_whole, greatest, shows_of, upto_of}
 use Rattle.anti_kind.specs.Store.{Store}
 use Rattle.anti_kind.specs.Objects.{store, Follows, IsLegal}
@@ -71,14 +70,6 @@ greatest_raised a b k (r ∷ rs) (suc i) e short more others =
 
 whole_as : (kind : StoreKind) (h k : List Entry) (g : ℕ) (r : Row) → ((p : ℕ) → is_shipped k g r.version p ≡ is_shipped h g r.version p) → is_whole kind k g r ≡ is_whole kind h g r
 whole_as kind h k g r same = all_numbers (λ p. is_shipped k g r.version p) (λ p. is_shipped h g r.version p) (parts_of kind r.value) (λ p first last. same p)
-
-one_at_least : (n : ℕ) → 1 ≤ max 1 n
-one_at_least n = omega arith
-
--- a value has a part
-pub has_parts : (kind : StoreKind) (value : List ℕ) → 1 ≤ parts_of kind value
-has_parts Blob value = one_at_least ((length value + 63) / PART_BYTES)
-has_parts _ value = omega arith
 
 -- where no part was shipped it is not whole
 pub whole_none : (kind : StoreKind) (h : List Entry) (g : ℕ) (r : Row) → ((p : ℕ) → is_shipped h g r.version p ≡ false) → is_whole kind h g r ≡ false

@@ -408,9 +408,3 @@ writable m value lineage may =
     let same : m.replicas * parts_of m.kind value ≡ length s.regions * parts_of s.kind value =
     ap (λ (x : ℕ). x * parts_of m.kind value) at.state.replicas_are ∙ ap (λ (kind : StoreKind). length s.regions * parts_of kind value) at.state.kind_is in
     omega (arith, at.state.held_is, at.state.owed_is)
-
--- For the kinds: a store that is made of the base's number and regions stays the same one, where these stay.
-
-pub stands_for_own : (m : Replicas) (made : ℕ → List ℕ → Store) (a b : ℕ) (xs ys : List ℕ) (h : List Entry) → a ≡ b → xs ≡ ys → Stands m (made b ys) h → Stands m (made a xs) h
-stands_for_own m made a b xs ys h number regions stands =
-    subst (λ (x : ℕ). Stands m (made x xs) h) (sym number) (subst (λ (zs : List ℕ). Stands m (made b zs) h) (sym regions) stands)

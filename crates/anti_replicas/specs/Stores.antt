@@ -1,11 +1,11 @@
 -- The words of the base's clauses: which histories it stands for, and which calls may change it.
-use Rattle.std.specs.Prelude.{◌≡◌, ℕ, List}
+use Rattle.std.specs.Prelude.{◌≡◌, ℕ, List, [], true}
 use Rattle.anti_ids.specs.declared.id.WriteId.{WriteId}
 use Rattle.anti_kind.specs.declared.call.Call.{Call}
 use Rattle.anti_kind.specs.declared.call.Call.TheVariants.{Write, Ship}
 use Rattle.anti_kind.specs.declared.entry.Entry.{Entry}
 use Rattle.anti_kind.specs.declared.store_kind.StoreKind.{StoreKind}
-use Rattle.anti_kind.specs.Store.{Store, store_of}
+use Rattle.anti_kind.specs.Store.{Store, has_keys, store_of}
 use Rattle.anti_kind.specs.Objects.{store, StandsFor, MayMake}
 use Rattle.anti_replicas.specs.declared.replicas.Replicas.{Replicas}
 use Rattle.anti_replicas.specs.inner.Standing.{Stands}
@@ -40,6 +40,16 @@ MayShip m g v p = (s : Store) × MayMake (store s) (Stands m s) (Ship g v p)
 
 abbrev pub MayWrite : Replicas → List ℕ → List WriteId → Type 0
 MayWrite m value lineage = (s : Store) × (name : List ℕ) × MayMake (store s) (Stands m s) (Write name value lineage)
+
+-- a store that is read by keys
+abbrev pub keyed : StoreKind → ℕ → List ℕ → Store
+keyed kind number regions = store_of kind number regions [] 0
+
+-- after some history of some such store for which m stands the call is ready and fits
+abbrev pub MayKeyed : Replicas → Call → Type 0
+MayKeyed m c =
+    (kind : StoreKind) × (number : ℕ) × (regions : List ℕ)
+    × MayMake (store (keyed kind number regions)) (Stands m (keyed kind number regions)) c × (has_keys kind ≡ true)
 
 -- a call that writes and ships nothing
 abbrev pub IsOther : Call → Type 0

@@ -6,6 +6,7 @@
 mod cells;
 mod channels;
 mod kept;
+mod keyed;
 mod looks;
 mod newest;
 mod reads;

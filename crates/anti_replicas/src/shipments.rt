@@ -10,7 +10,6 @@ ghost use Rattle.anti_replicas.specs.inner.Marks.{has_all};
 use crate::kept::{Kept, MOST_PARTS};
 use crate::replicas::Replicas;
 use anti_ids::MOST_REGIONS;
-use anti_kind::StoreKind;
 
 // How many of these writes, from the first on, are whole at the region.
 fn whole_from(kept: &[Kept], region: u32) -> u64
@@ -57,16 +56,16 @@ impl Replicas {
         }
     }
 
-    // Whether the version may come to the region now: a table is shipped in the order of its versions.
+    // Whether the version may come to the region now: to a store that is ordered they come one behind another.
     fn is_next(&self, region: u32, version: u64) -> bool
         ensures { (s : Store) (h : List Entry) → At self.now s h
             → version ≤ length (rows h)
             → result ≡ (not (is_table s.kind) || is_next h region version) }
     {
-        match self.kind {
-            StoreKind::Table => version.saturating_sub(1) <= self.upto(region),
-            _ => true,
+        if !self.kind.facts().ordered {
+            return true;
         }
+        version.saturating_sub(1) <= self.upto(region)
     }
 
     /// Whether the part of the version can be brought to the region: it is there, was not brought before, and is next.

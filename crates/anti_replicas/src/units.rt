@@ -15,13 +15,11 @@ pub(crate) fn parts_of(kind: StoreKind, value: &Value) -> u8
     ensures some { 1 ≤ result }
     ensures few { result ≤ MOST_PARTS }
 {
-    match kind {
-        StoreKind::Blob => {
-            let parts = (value.bytes().len() + (PART_BYTES - 1)) / PART_BYTES;
-            parts.max(1) as u8
-        }
-        _ => 1,
+    if !kind.facts().parted {
+        return 1;
     }
+    let parts = (value.bytes().len() + (PART_BYTES - 1)) / PART_BYTES;
+    parts.max(1) as u8
 }
 
 impl Replicas {
@@ -52,10 +50,7 @@ impl Replicas {
                 1 + u32::from(self.replicas) * u32::from(parts_of(self.kind, value))
             }
             Call::Scan { region, prefix } => self.scan_units(*region, prefix),
-            Call::Pull { .. } => match self.kind {
-                StoreKind::Queue => 2,
-                _ => 1,
-            },
+            Call::Pull { .. } => { if self.kind.facts().tried { 2 } else { 1 } }
             Call::Ship { .. } => 0,
             Call::Ack { .. } => 0,
             Call::Nack { .. } => 0,

@@ -1,7 +1,7 @@
 pub mod Trees
 pub mod Keys
+pub mod StoreFacts
 pub mod Statements
-pub mod StoreWords
 pub mod Rules
 pub mod Walk
 pub mod Order

@@ -6,7 +6,8 @@ use Rattle.toml.specs.Data.{Data, Members, as_table}
 use Rattle.anti_ids.specs.declared.limits.TheConstants.{LONGEST_VALUE}
 use Rattle.anti_ids.specs.Names.{is_plain}
 use Rattle.anti_lang.specs.declared.fault.LangCode.TheVariants.{Unknown, Block, Variable}
-use Rattle.anti_rules.specs.Trees.{text_of, text_at, has_text, member_in, things_at, things_in, is_one_of, is_among, are_among, are_distinct, name_in, is_named, named, stores_in, services_in, regions_in}
+use Rattle.anti_rules.specs.StoreFacts.{facts_at}
+use Rattle.anti_rules.specs.Trees.{text_of, text_at, has_text, member_in, things_at, things_in, is_among, are_among, are_distinct, name_in, is_named, named, stores_in, services_in, regions_in}
 use Rattle.anti_rules.specs.Keys.{keys_of, are_listed, are_there, all_fit, has_type, has_count, has_range, is_text}
 use Rattle.anti_rules.specs.Statements.{next, body_fault, line_with, bad_line, store_fits, has_handler, handler_exists}
 use Rattle.anti_rules.specs.declared.rule.Rule.{Rule}
@@ -79,9 +80,9 @@ abbrev pub rule_10 : Part → List Data → Data → Option ℕ
 rule_10 Sub earlier d = wants (not (is_named (name_in d) earlier))
 rule_10 _ earlier d = None
 
--- 11. The kind of a store is one of the five.
+-- 11. The kind of a store is one of those that there are.
 abbrev pub rule_11 : Part → Data → Option ℕ
-rule_11 Store d = wants (is_one_of (codes "kv" ∷ codes "table" ∷ codes "blob" ∷ codes "queue" ∷ codes "topic" ∷ []) (text_at (codes "kind") d))
+rule_11 Store d = wants (is_some (facts_at d))
 rule_11 _ d = None
 
 -- 12. The replicas of a store are regions, each named once.
@@ -89,9 +90,9 @@ abbrev pub rule_12 : Members → Part → Data → Option ℕ
 rule_12 doc Store d = wants (are_among (regions_in doc) (things_in (codes "replicas") d) && are_distinct (things_in (codes "replicas") d))
 rule_12 doc _ d = None
 
--- 13. Only a queue has `tries`.
+-- 13. Only a store that hands a message out again has `tries`: a queue.
 abbrev pub rule_13 : Part → Data → Option ℕ
-rule_13 Store d = wants (not (is_some (member_in (codes "tries") d)) || has_text (codes "kind") (codes "queue") d)
+rule_13 Store d = wants (not (is_some (member_in (codes "tries") d)) || option_map_or (λ facts. facts.tried) (facts_at d) false)
 rule_13 _ d = None
 
 -- 14. The region of a service is one of the regions.
@@ -99,9 +100,9 @@ abbrev pub rule_14 : Members → Part → Data → Option ℕ
 rule_14 doc Service d = wants (is_among (text_at (codes "region") d) (regions_in doc))
 rule_14 doc _ d = None
 
--- whether a store is a queue or a topic
+-- whether a store is one that subscriptions pull from
 abbrev pub is_pulled : Data → Bool
-is_pulled store = is_one_of (codes "queue" ∷ codes "topic" ∷ []) (text_at (codes "kind") store)
+is_pulled store = option_map_or (λ facts. facts.pulled) (facts_at store) false
 
 -- 15. The store of a sub is there, and a queue or a topic.
 abbrev pub rule_15 : Members → Part → Data → Option ℕ

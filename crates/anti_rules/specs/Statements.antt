@@ -1,6 +1,6 @@
 -- What the rules ask of the statements of a body.
 use Rattle.std.specs.Prelude.{ℕ, codes, List, [], ◌∷◌, map, length, Bool, true, false, ◌&&◌, nat_le, min, ◌+◌, ◌-◌, ◌^◌, Option, Some, None, Result, Ok, Err, if◌then◌else◌}
-use Rattle.std.specs.Option.{option_map_or}
+use Rattle.std.specs.Option.{option_and_then, option_map_or}
 use Rattle.toml.specs.Data.{Data, Members}
 use Rattle.anti_ids.specs.declared.limits.TheConstants.{MOST_LINES}
 use Rattle.anti_lang.specs.Words.{words}
@@ -13,7 +13,9 @@ use Rattle.anti_lang.specs.declared.fault.LangFault.{LangFault}
 use Rattle.anti_lang.specs.declared.fault.LangFault.TheVariants as faults
 use Rattle.anti_rules.specs.declared.rule.Rule.{Rule}
 use Rattle.anti_rules.specs.declared.rule.Rule.TheVariants as rules
-use Rattle.anti_rules.specs.Trees.{text_of, text_at, things_in, is_one_of, is_among, is_named, named, stores_in, services_in}
+use Rattle.anti_kind.specs.declared.store_kind.Facts.{Facts}
+use Rattle.anti_rules.specs.StoreFacts.{facts_at}
+use Rattle.anti_rules.specs.Trees.{text_of, things_in, is_among, is_named, named, stores_in, services_in}
 
 -- The number of the item or line after this one. Numbers end at the greatest `u32`, which no document reaches.
 abbrev pub next : ℕ → ℕ
@@ -48,20 +50,20 @@ first_line test before (d ∷ ds) =
 abbrev pub bad_line : (Line → Bool) → Data → Option ℕ
 bad_line test d = first_line test 0 (body_in d)
 
--- Whether a store has one of these kinds, and a replica in this region.
-abbrev pub is_read_at : List ℕ → List (List ℕ) → Data → Bool
-is_read_at home kinds store = is_one_of kinds (text_at (codes "kind") store) && is_among home (things_in (codes "replicas") store)
+-- What the stores of its kind do, of a store with a replica in this region.
+abbrev pub near_at : List ℕ → Data → Option Facts
+near_at home store = if is_among home (things_in (codes "replicas") store) then facts_at store else None
 
--- Whether there is a store of this name, of one of these kinds, with a replica in this region.
-abbrev pub is_read : Members → List ℕ → List (List ℕ) → List ℕ → Bool
-is_read doc home kinds name = option_map_or (is_read_at home kinds) (named name (stores_in doc)) false
+-- The same of the store of this name.
+abbrev pub near : Members → List ℕ → List ℕ → Option Facts
+near doc home name = option_and_then (near_at home) (named name (stores_in doc))
 
 -- Whether the store of a statement exists and fits, for a service of this region.
 abbrev pub store_fits : Members → List ℕ → Line → Bool
 store_fits doc home (Does (Write store key value variable untracked)) = is_named store (stores_in doc)
-store_fits doc home (Does (Read store key variable)) = is_read doc home (codes "kv" ∷ codes "table" ∷ codes "blob" ∷ []) store
-store_fits doc home (Does (Scan store prefix variable)) = is_read doc home (codes "table" ∷ []) store
-store_fits doc home (Does (Poll store key variable)) = is_read doc home (codes "topic" ∷ []) store
+store_fits doc home (Does (Read store key variable)) = option_map_or (λ facts. facts.keyed) (near doc home store) false
+store_fits doc home (Does (Scan store prefix variable)) = option_map_or (λ facts. facts.scanned) (near doc home store) false
+store_fits doc home (Does (Poll store key variable)) = option_map_or (λ facts. facts.polled) (near doc home store) false
 store_fits doc home _ = true
 
 -- Whether there is a service of this name with a handler of that name.

@@ -39,10 +39,6 @@ text_at key d = option_map_or text_of (member_in key d) []
 abbrev pub has_text : List ℕ → List ℕ → Data → Bool
 has_text key text d = bytes_eq (text_at key d) text
 
--- Whether a text is one of these.
-abbrev pub is_one_of : List (List ℕ) → List ℕ → Bool
-is_one_of texts text = list_any (bytes_eq text) texts
-
 -- Whether one of some things is this text.
 abbrev pub is_among : List ℕ → List Data → Bool
 is_among text ds = list_any (λ d. bytes_eq (text_of d) text) ds

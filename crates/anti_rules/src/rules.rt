@@ -2,6 +2,7 @@ ghost use Rattle.std.specs.Prelude.{◌≡◌, [], false, map, IfOk, option_map}
 ghost use Rattle.std.specs.Option.{option_map_or};
 ghost use Rattle.toml.specs.View.{view, table_view};
 ghost use Rattle.anti_ids.specs.Names.{is_plain};
+ghost use Rattle.anti_rules.specs.StoreFacts.{facts_at};
 ghost use Rattle.anti_rules.specs.Trees.{text_of};
 ghost use Rattle.anti_rules.specs.Keys.{keys_of, fits, all_fit};
 ghost use Rattle.toml.specs.Data.{as_table};
@@ -13,10 +14,11 @@ use crate::keys::keys_of;
 use crate::place::Part;
 use crate::rule::Rule;
 use crate::statement::has_handler;
+use crate::store_facts::facts_at;
 use crate::table::{all_fit, are_listed, are_there, is_text};
 use crate::tree::{
-    are_among, are_distinct, has_text, is_among, is_named, is_one_of, member_in, name_in, named,
-    regions_in, services_in, stores_in, text_at, text_of, things_at, things_in,
+    are_among, are_distinct, has_text, is_among, is_named, member_in, name_in, named, regions_in,
+    services_in, stores_in, text_at, text_of, things_at, things_in,
 };
 use anti_ids::{LONGEST_VALUE, NoMemory};
 use anti_lang::{LangCode, LangFault, plain_name};
@@ -163,10 +165,7 @@ fn rule_11(part: Part, value: &Value) -> Option<u32>
     ensures { result ≡ rule_11 part (view value.now) }
 {
     match part {
-        Part::Store => wants(is_one_of(
-            &["kv", "table", "blob", "queue", "topic"],
-            text_at(value, "kind"),
-        )),
+        Part::Store => wants(facts_at(value).is_some()),
         _ => None,
     }
 }
@@ -189,9 +188,7 @@ fn rule_13(part: Part, value: &Value) -> Option<u32>
     ensures { result ≡ rule_13 part (view value.now) }
 {
     match part {
-        Part::Store => wants(
-            member_in(value, "tries").is_none() || has_text(value, "kind", "queue"),
-        ),
+        Part::Store => wants(member_in(value, "tries").is_none() || is_tried(value)),
         _ => None,
     }
 }
@@ -206,11 +203,24 @@ fn rule_14(doc: &Table, part: Part, value: &Value) -> Option<u32>
     }
 }
 
-// Whether a store is a queue or a topic.
+// Whether a store hands a message out again.
+fn is_tried(store: &Value) -> bool
+    ensures { result ≡ option_map_or (λ facts. facts.tried) (facts_at (view store.now)) false }
+{
+    match facts_at(store) {
+        Some(facts) => facts.tried,
+        None => false,
+    }
+}
+
+// Whether a store is one that subscriptions pull from.
 fn is_pulled(store: &Value) -> bool
     ensures { result ≡ is_pulled (view store.now) }
 {
-    is_one_of(&["queue", "topic"], text_at(store, "kind"))
+    match facts_at(store) {
+        Some(facts) => facts.pulled,
+        None => false,
+    }
 }
 
 // 15. The store of a sub is there, and a queue or a topic.

@@ -1,34 +1,37 @@
-ghost use Rattle.std.specs.Prelude.{◌≡◌, map, option_map};
+ghost use Rattle.std.specs.Prelude.{◌≡◌, option_map};
 ghost use Rattle.toml.specs.View.{view, table_view};
 ghost use Rattle.anti_lang.specs.Lines.{Does};
 ghost use Rattle.anti_lang.specs.Bodies.{step_of};
 ghost use Rattle.anti_lang.specs.Stated.{stated};
-ghost use Rattle.anti_rules.specs.Statements.{is_read_at, is_read, store_fits, has_handler, handler_exists, line_fits};
+ghost use Rattle.anti_rules.specs.Statements.{near_at, near, store_fits, has_handler, handler_exists, line_fits};
 ghost use Rattle.anti_rules.specs.inner.Parses.{body_fits};
 
 use crate::rule::Rule;
-use crate::tree::{
-    is_among, is_named, is_one_of, named, services_in, stores_in, text_at, things_in,
-};
+use crate::store_facts::facts_at;
+use crate::tree::{is_among, is_named, named, services_in, stores_in, things_in};
 use anti_ids::Name;
+use anti_kind::Facts;
 use anti_lang::{Line, Statement};
 use toml::{Table, Value};
 
-// Whether a store has one of these kinds, and a replica in this region.
-fn is_read_at(home: &str, kinds: &[&str], store: &Value) -> bool
-    ensures { result ≡ is_read_at home.now (map (λ kind. kind.now) kinds.now) (view store.now) }
+// What the stores of its kind do, of a store with a replica in this region.
+fn near_at(home: &str, store: &Value) -> Option<Facts>
+    ensures { result ≡ near_at home.now (view store.now) }
 {
-    is_one_of(kinds, text_at(store, "kind")) && is_among(home, things_in(store, "replicas"))
+    if is_among(home, things_in(store, "replicas")) {
+        facts_at(store)
+    } else {
+        None
+    }
 }
 
-// Whether there is a store of this name, of one of these kinds, with a replica in this region.
-fn is_read(doc: &Table, home: &str, kinds: &[&str], name: &Name) -> bool
-    ensures { result ≡
-        is_read (table_view doc.now) home.now (map (λ kind. kind.now) kinds.now) name.now }
+// The same of the store of this name.
+fn near(doc: &Table, home: &str, name: &Name) -> Option<Facts>
+    ensures { result ≡ near (table_view doc.now) home.now name.now }
 {
     match named(name.bytes(), stores_in(doc)) {
-        Some(store) => is_read_at(home, kinds, store),
-        None => false,
+        Some(store) => near_at(home, store),
+        None => None,
     }
 }
 
@@ -48,17 +51,26 @@ fn store_fits(doc: &Table, home: &str, statement: &Statement) -> bool
             store,
             key: _,
             variable: _,
-        } => is_read(doc, home, &["kv", "table", "blob"], store),
+        } => match near(doc, home, store) {
+            Some(facts) => facts.keyed,
+            None => false,
+        },
         Statement::Scan {
             store,
             prefix: _,
             variable: _,
-        } => is_read(doc, home, &["table"], store),
+        } => match near(doc, home, store) {
+            Some(facts) => facts.scanned,
+            None => false,
+        },
         Statement::Poll {
             store,
             key: _,
             variable: _,
-        } => is_read(doc, home, &["topic"], store),
+        } => match near(doc, home, store) {
+            Some(facts) => facts.polled,
+            None => false,
+        },
         _ => true,
     }
 }

@@ -1,7 +1,7 @@
 ghost use Rattle.std.specs.Prelude.{◌≡◌, map, option_map, option_copied};
 ghost use Rattle.toml.specs.Data.{get_member, as_table};
 ghost use Rattle.toml.specs.View.{view, table_view, array_view};
-ghost use Rattle.anti_rules.specs.Trees.{elements, things_at, things_in, text_of, member_in, text_at, has_text, is_one_of, is_among, are_among, are_distinct, name_in, is_named, named, stores_in, services_in, regions_in};
+ghost use Rattle.anti_rules.specs.Trees.{elements, things_at, things_in, text_of, member_in, text_at, has_text, is_among, are_among, are_distinct, name_in, is_named, named, stores_in, services_in, regions_in};
 
 use toml::value::Array;
 use toml::{Table, Value};
@@ -79,18 +79,6 @@ pub fn has_text(value: &Value, key: &str, text: &str) -> bool
     ensures { result ≡ has_text key.now text.now (view value.now) }
 {
     text_at(value, key) == text
-}
-
-/// Whether a text is one of these.
-pub fn is_one_of(texts: &[&str], text: &str) -> bool
-    ensures { result ≡ is_one_of (map (λ text. text.now) texts.now) text.now }
-{
-    for other in texts {
-        if text == *other {
-            return true;
-        }
-    }
-    false
 }
 
 /// Whether one of some things is this text.

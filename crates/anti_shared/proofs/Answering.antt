@@ -35,7 +35,7 @@ module _ (start : Start) (q : Asking) (n : ℕ) (found left : List Entry) where
   adds_given NotYet gives = adds_none gives.0
   adds_given (Full a b c) gives = adds_none gives.0
   adds_given (Spent clock) gives = adds_none gives.0
-  adds_given NoMemory gives = adds_none gives
+  adds_given NoMemory gives = adds_none gives.0
 
   pub adds : (r : Result Answer Asking) → IsOffered r → Adds seat_of n found left
   adds (Ok a) offered = adds_given a offered.0
@@ -71,7 +71,7 @@ module _ (start : Start) (q : Asking) (n : ℕ) (found left : List Entry) where
     given_answers NotYet gives = (refused gives.0, subst (λ (h : List Entry). ready start h q.call ≡ false) (sym gives.0) gives.1)
     given_answers (Full a b c) gives = (refused gives.0, rw gives.0 gives.1)
     given_answers (Spent clock) gives = (refused gives.0, rw gives.0 gives.1)
-    given_answers NoMemory gives = record { front = (refused gives).front; made = (refused gives).made; visits = omega arith }
+    given_answers NoMemory gives = record { front = (refused gives.0).front; made = (refused gives.0).made; visits = omega arith }
 
     answers : (r : Result Answer Asking) → IsOffered r → Answers start q (sight n seen visits) (sight n left (visits + 1)) (answer_of r)
     answers (Ok a) offered = given_answers a offered.0

@@ -27,7 +27,6 @@ use Rattle.anti_kind.specs.declared.call.Reply.{Reply}
 use Rattle.anti_kind.specs.declared.call.Reply.TheVariants as replies
 use Rattle.anti_kind.specs.declared.row.Row.{Row}
 use Rattle.anti_kind.specs.declared.store_kind.StoreKind.{StoreKind}
-use Rattle.anti_kind.specs.declared.store_kind.StoreKind.TheVariants.{Kv, Table, Blob, Queue, Topic}
 use Rattle.anti_kind.specs.Inbox.{if_to, free, got_of, handed, inbox_due, listed, messages, numbered, post_due, posted, replied}
 use Rattle.anti_kind.specs.Inbox as inboxes
 use Rattle.anti_kind.specs.Objects.{Start, store, IsLegal, ready, due}
@@ -120,11 +119,11 @@ few_cells h key short = omega (arith, count_by-le-length (is_in key) (rows h), r
 
 key_named : (kind : StoreKind) (h : List Entry) (key : List ℕ) → length h ≤ MOST_UNITS → is_name key ≡ true → (has_keys kind || is_plain key) ≡ true
     → is_name (key_for kind h key) ≡ true
-key_named Kv h key short named is_ready = named
-key_named Table h key short named is_ready = named
-key_named Blob h key short named is_ready = named
-key_named Queue h key short named plain = cell_named key (count_by (is_in key) (rows h) + 1) plain (few_cells h key short)
-key_named Topic h key short named plain = cell_named key (count_by (is_in key) (rows h) + 1) plain (few_cells h key short)
+key_named kind h key short named is_ready = by_keys (has_keys kind) is_ready
+  where
+    by_keys : (keyed : Bool) → (keyed || is_plain key) ≡ true → is_name (cond keyed key (key ++ 35 ∷ decimal (count_by (is_in key) (rows h) + 1))) ≡ true
+    by_keys true is_ready = named
+    by_keys false plain = cell_named key (count_by (is_in key) (rows h) + 1) plain (few_cells h key short)
 
 module _ (app : App) (o : ℕ) where
   -- an entry of the object, by its call and its reply

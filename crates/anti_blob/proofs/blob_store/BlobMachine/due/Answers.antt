@@ -1,5 +1,0 @@
-use Rattle.anti_blob.specs.BlobStates.{its_store}
-use Rattle.anti_blob.proofs.blob_store.BlobMachine.due.Goals as goal
-
-pub returns-in-Read-clause-due : goal.returns-in-Read-clause-due
-returns-in-Read-clause-due c = λ h at. rw c.in-Read.is (c.read.ensures (its_store c.args.self.now) h at)

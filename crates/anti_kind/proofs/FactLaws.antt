@@ -1,0 +1,52 @@
+-- What goes together in what the stores of a kind do.
+use Rattle.std.proofs.Common.{◌≡◌, ℕ, ◌+◌, ◌/◌, ◌≤◌, List, Bool, true, false, cond, ◌&&◌, length, refl, ap, arith}
+use Rattle.std.specs.Prelude.{max}
+use Rattle.std.specs.List.{list_all, range_with_len}
+use Rattle.std.proofs.lemmas.Bool.{false≢true}
+use Rattle.anti_ids.specs.declared.limits.TheConstants.{PART_BYTES}
+use Rattle.anti_kind.specs.declared.entry.Entry.{Entry}
+use Rattle.anti_kind.specs.declared.row.Row.{Row}
+use Rattle.anti_kind.specs.declared.store_kind.StoreKind.{StoreKind}
+use Rattle.anti_kind.specs.declared.store_kind.StoreKind.TheVariants.{Kv, Table, Blob, Queue, Topic}
+use Rattle.anti_kind.specs.Objects.{HasTries}
+use Rattle.anti_kind.specs.Store.{has_keys, is_pulled, is_queue, is_scanned, is_table}
+use Rattle.anti_kind.specs.Kinds.{facts_of}
+use Rattle.anti_kind.specs.Stored.{is_shipped, is_whole, parts_of}
+
+-- what is scanned comes in order
+pub scanned_ordered : (kind : StoreKind) → is_scanned kind ≡ true → is_table kind ≡ true
+scanned_ordered Table is = refl
+scanned_ordered Kv is = is
+scanned_ordered Blob is = is
+scanned_ordered Queue is = is
+scanned_ordered Topic is = is
+
+-- what comes in order comes whole
+pub ordered_whole : (kind : StoreKind) (value : List ℕ) → is_table kind ≡ true → parts_of kind value ≡ 1
+ordered_whole Blob value is = absurd (false≢true is)
+ordered_whole _ value is = refl
+
+-- what comes whole is whole at a region where its one part came
+pub one_is_whole : (kind : StoreKind) (h : List Entry) (g : ℕ) (r : Row) → is_table kind ≡ true → is_whole kind h g r ≡ (is_shipped h g r.version 1 && true)
+one_is_whole kind h g r is = ap (λ (n : ℕ). list_all (λ p. is_shipped h g r.version p) (range_with_len 1 n)) (ordered_whole kind r.value is)
+
+-- a value has a part
+pub has_parts : (kind : StoreKind) (value : List ℕ) → 1 ≤ parts_of kind value
+has_parts kind value = by_parts (facts_of kind).parted
+  where
+    by_parts : (parted : Bool) → 1 ≤ cond parted (max 1 ((length value + 63) / PART_BYTES)) 1
+    by_parts true = omega arith
+    by_parts false = omega arith
+
+-- a store that is read by its keys hands nothing out
+pub keyed_or_pulled : (kind : StoreKind) → has_keys kind ≡ true → is_pulled kind ≡ true → ⊥
+keyed_or_pulled Kv keyed pulled = false≢true pulled
+keyed_or_pulled Table keyed pulled = false≢true pulled
+keyed_or_pulled Blob keyed pulled = false≢true pulled
+keyed_or_pulled Queue keyed pulled = false≢true keyed
+keyed_or_pulled Topic keyed pulled = false≢true keyed
+
+-- a queue has its tries, and a store of another kind none
+pub tries_fit : (kind : StoreKind) (tries : ℕ) → 1 ≤ tries → tries ≤ 8 → HasTries kind (cond (is_queue kind) tries 0)
+tries_fit Queue tries some few = (some, few)
+tries_fit _ tries some few = tt

@@ -1,0 +1,5 @@
+use Rattle.anti_replicas.specs.Stores.{keyed}
+use Rattle.anti_replicas.proofs.replicas.Replicas.keyed_due.Goals as goal
+
+pub returns-in-Read-clause-due : goal.returns-in-Read-clause-due
+returns-in-Read-clause-due c = λ kind number regions h at keys. rw c.in-Read.is (c.read.ensures (keyed kind number regions) h at)

@@ -1,0 +1,119 @@
+ghost use Rattle.std.specs.Prelude.{◌≡◌, ℕ, true, List, [], ◌∷◌, ◌++◌, IfOk, IfSome, IsOk, OnErr, OnOk};
+ghost use Rattle.anti_kind.specs.declared.entry.Entry.{Entry};
+ghost use Rattle.anti_kind.specs.declared.store_kind.StoreKind.{StoreKind};
+ghost use Rattle.anti_kind.specs.Objects.{store, Follows, IsShip};
+ghost use Rattle.anti_kind.specs.Store.{Store, has_keys, is_scanned, store_due, store_ready};
+ghost use Rattle.anti_kind.specs.Waiting.{waits};
+
+use crate::replicas::Replicas;
+use anti_ids::NoMemory;
+use anti_kind::{Awaited, Call, Reply};
+
+// The table of the stores that are read by keys: `Write`, `Ship`, `Again`, `Look`, `Read`, and `Scan` where the kind is scanned.
+impl Replicas {
+    ghost use Rattle.anti_replicas.specs.Stores.{At, MayKeyed, keyed, number_of, regions_of};
+    ghost use Rattle.anti_replicas.specs.inner.Standing.{Stands};
+
+    // Whether all keys with a prefix are read at once.
+    fn is_scanned(&self) -> bool
+        ensures { (s : Store) (h : List Entry) → At self.now s h → result ≡ is_scanned s.kind }
+    {
+        self.kind.facts().scanned
+    }
+
+    /// Whether a call is ready, in a store that is read by keys.
+    pub fn keyed_ready(&self, c: &Call) -> bool
+        ensures { (kind : StoreKind) (number : ℕ) (regions : List ℕ) (h : List Entry) → At self.now (keyed kind number regions) h
+            → has_keys kind ≡ true → result ≡ store_ready (keyed kind number regions) h c.now }
+    {
+        match c {
+            Call::Write { .. } => true,
+            Call::Ship {
+                region,
+                version,
+                part,
+            } => self.can_ship(*region, *version, *part),
+            Call::Again {
+                region,
+                version,
+                part,
+            } => self.was_shipped(*region, *version, *part),
+            Call::Look { region, ids, dry } => self.can_look(*region, ids.get(), *dry),
+            Call::Read { region, .. } => self.is_replica(*region),
+            Call::Scan { region, .. } => self.is_scanned() && self.is_replica(*region),
+            _ => false,
+        }
+    }
+
+    /// What a call that is not ready waits for, where that is known.
+    pub fn keyed_awaits(&self, c: &Call) -> Option<Awaited>
+        ensures { (kind : StoreKind) (number : ℕ) (regions : List ℕ) (h : List Entry) → At self.now (keyed kind number regions) h
+            → IfSome result (λ awaited. waits (store (keyed kind number regions)) h c.now awaited ≡ true) }
+    {
+        match c {
+            Call::Look { region, ids, dry } => self.look_awaits(*region, ids.get(), *dry),
+            _ => None,
+        }
+    }
+
+    /// The reply that a call is due, which is ready and fits, in a store that is read by keys. Of a `Ship` it takes no memory.
+    pub fn keyed_due(&self, c: &Call) -> Result<Reply, NoMemory>
+        requires { MayKeyed self.now c.now }
+        ensures due { (kind : StoreKind) (number : ℕ) (regions : List ℕ) (h : List Entry) → At self.now (keyed kind number regions) h
+            → has_keys kind ≡ true → IfOk result (λ r. r ≡ store_due (keyed kind number regions) h c.now) }
+        ensures ship { IsShip c.now → IsOk result }
+    {
+        match c {
+            Call::Write { key, .. } => Ok(Reply::Written {
+                key: key.share()?,
+                version: self.next_version(),
+            }),
+            Call::Ship { .. } => Ok(Reply::Moved),
+            Call::Again { .. } => Ok(Reply::Moved),
+            Call::Look { region, ids, .. } => self.look(*region, ids.get()),
+            Call::Read { region, key } => self.read(*region, key),
+            Call::Scan { region, prefix } => self.scan(*region, prefix),
+            _ => unreachable!(), // no other call is ready, by the table
+        }
+    }
+
+    /// Makes a call that is ready and fits, in a store that is read by keys. Where there is no memory it stands for what it stood for. A
+    /// `Ship` takes no memory.
+    pub fn keyed_apply(&mut self, c: &Call) -> Result<(), NoMemory>
+        requires { MayKeyed self.old c.now }
+        ensures stands { (kind : StoreKind) (number : ℕ) (regions : List ℕ) (h : List Entry) (e : Entry)
+            → At self.old (keyed kind number regions) h → has_keys kind ≡ true
+            → Follows (store (keyed kind number regions)) h e → e.call ≡ c.now
+            → OnOk result (Stands self.new (keyed kind number regions) (h ++ e ∷ [])) }
+        ensures err { (s : Store) (h : List Entry) → Stands self.old s h → OnErr result (Stands self.new s h) }
+        ensures number { number_of self.new ≡ number_of self.old }
+        ensures regions { regions_of self.new ≡ regions_of self.old }
+        ensures ship { IsShip c.now → IsOk result }
+    {
+        match c {
+            Call::Write {
+                key,
+                value,
+                lineage,
+            } => self.write(*key.get(), value, lineage.get()),
+            Call::Ship {
+                region,
+                version,
+                part,
+            } => {
+                self.ship(*region, *version, *part);
+                Ok(())
+            }
+            Call::Again { .. } | Call::Look { .. } | Call::Read { .. } => {
+                self.note(1);
+                Ok(())
+            }
+            Call::Scan { region, prefix } => {
+                let units = self.scan_units(*region, prefix);
+                self.note(units);
+                Ok(())
+            }
+            _ => unreachable!(), // no other call is ready, by the table
+        }
+    }
+}
