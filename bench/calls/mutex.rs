@@ -1,4 +1,4 @@
-//! What `anti_calls` does, in plain Rust with the mutex of `std`: `mutex 4 100` has four threads make 4,000 calls together on one store, a
+//! What `bench_calls` does, in plain Rust with the mutex of `std`: `mutex 4 100` has four threads make 4,000 calls together on one store, a
 //! hundred times, each time on a new store. The store keeps what it must to answer each call and to tell its history; nothing is proved.
 use std::collections::BTreeMap;
 use std::sync::{Arc, Mutex};

@@ -4,7 +4,7 @@
 
 mod agenda;
 mod offer;
-mod stirring;
+mod wakes;
 
 pub use agenda::Agenda;
 pub use offer::{Offer, Sleeper};

@@ -8,7 +8,7 @@ use Rattle.std.proofs.lemmas.List.{length-map}
 use Rattle.anti_ids.specs.Names.{is_plain}
 use Rattle.toml.specs.Data.{Data, Members, get_member}
 use Rattle.anti_rules.specs.Trees.{text_of, is_among, are_distinct as texts_differ}
-use Rattle.anti_rules.specs.Keys.{Key, has_count, has_range}
+use Rattle.anti_rules.specs.Keys.{TableKey, has_count, has_range}
 use Rattle.anti_rules.specs.Rules.{rule_line}
 use Rattle.anti_rules.specs.declared.rule.Rule.{Rule}
 use Rattle.anti_rules.specs.declared.place.Part.{Part}
@@ -44,13 +44,13 @@ each_true test [] h = tt
 each_true test (x ∷ xs) h = let parts = and_parts (test x) (list_all test xs) h in (parts.0, each_true test xs parts.1)
 
 -- what the rules on counts, on keys without a default and on ranges ask of each key of a table
-abbrev pub counts_at : Members → Key → Bool
+abbrev pub counts_at : Members → TableKey → Bool
 counts_at ms key = option_map_or (has_count key.kind) (get_member key.name ms) true
 
-abbrev pub is_there : Members → Key → Bool
+abbrev pub is_there : Members → TableKey → Bool
 is_there ms key = not key.is_needed || is_some (get_member key.name ms)
 
-abbrev pub ranges_at : Members → Key → Bool
+abbrev pub ranges_at : Members → TableKey → Bool
 ranges_at ms key = option_map_or (has_range key.kind) (get_member key.name ms) true
 
 -- what a rule on tables asks of a thing that is one

@@ -9,7 +9,7 @@ use Rattle.anti_rules.specs.Trees.{things_at}
 use Rattle.anti_rules.specs.Keys.{keys_of, all_fit, has_range}
 use Rattle.anti_rules.specs.Order.{first_breach}
 use Rattle.anti_rules.specs.declared.breach.Breach.{Breach}
-use Rattle.anti_rules.specs.declared.keys.Kind.TheVariants.{Number}
+use Rattle.anti_rules.specs.declared.table_keys.KeyKind.TheVariants.{Number}
 use Rattle.anti_rules.specs.declared.rule.Rule.TheVariants.{Ranged}
 use Rattle.anti_rules.specs.declared.place.Part.TheVariants.{Top}
 use Rattle.anti_ids.specs.Answers.{AnswersBut}

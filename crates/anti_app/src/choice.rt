@@ -7,11 +7,11 @@ ghost use Rattle.anti_app.specs.Chosen.{number_of, object_place, object_number, 
 use crate::app::{App, Choice, Choices};
 use crate::form::{ChoiceForm, form_of};
 use crate::number::number_of;
-use crate::reading::small;
 use crate::region::region_number;
 use crate::service::{service_number, service_place};
 use crate::store::{store_number, store_place};
 use crate::sub::sub_number;
+use crate::table_values::small;
 use anti_ids::{List, NoMemory};
 use anti_lang::words;
 use anti_rules::text_of;

@@ -13,12 +13,12 @@ ghost use Rattle.anti_app.specs.declared.app.AppFault.TheVariants as faults;
 
 use crate::app::{App, AppFault};
 use crate::choice::choices_of;
-use crate::reading::{few_or, integer_in, whole_or_0};
 use crate::region::regions_of;
 use crate::request::requests_of;
 use crate::service::services_of;
 use crate::store::stores_of;
 use crate::sub::subs_of;
+use crate::table_values::{few_or, integer_in, whole_or_0};
 use anti_ids::{List, MOST_WORKERS, NoMemory};
 use anti_rules::{Bodies, first_breach, things_at};
 use std::alloc::Global;

@@ -8,14 +8,14 @@ mod form;
 mod number;
 mod objects;
 mod positions;
-mod reading;
 mod region;
 mod request;
+mod reversal;
 mod service;
 mod store;
 mod stored_subs;
 mod sub;
-mod turning;
+mod table_values;
 
 pub use anti_kind::StoreKind;
 pub use anti_rules::{Part, Place};

@@ -5,7 +5,7 @@ ghost use Rattle.toml.specs.View.{view};
 ghost use Rattle.anti_app.specs.Parts.{region_of, region_number};
 
 use crate::app::Names;
-use crate::reading::{name_or_a, small};
+use crate::table_values::{name_or_a, small};
 use anti_ids::{List, Name, NoMemory};
 use anti_rules::text_of;
 use std::alloc::Global;

@@ -6,9 +6,9 @@ ghost use Rattle.anti_rules.specs.inner.Parses.{handler_body, service_bodies};
 ghost use Rattle.anti_app.specs.Parts.{handler_of, service_of, service_place, service_number, handler_number, handler_in, service_at, handler_at};
 
 use crate::app::{HandlerDef, Handlers, ServiceDef, Services};
-use crate::reading::{name_at, small};
 use crate::region::region_number;
-use crate::turning::turned;
+use crate::reversal::turned;
+use crate::table_values::{name_at, small};
 use anti_ids::{List, Name, NoMemory};
 use anti_lang::Body;
 use anti_rules::{Bodies, text_at, things_in};

@@ -5,8 +5,8 @@ ghost use Rattle.toml.specs.View.{view};
 ghost use Rattle.anti_app.specs.Parts.{replica_of, store_of, store_place, store_number};
 
 use crate::app::{Numbers, StoreDef, Stores};
-use crate::reading::{few_or, integer_at, name_at, small};
 use crate::region::region_number;
+use crate::table_values::{few_or, integer_at, name_at, small};
 use anti_ids::{List, MOST_TRIES, Name, NoMemory};
 use anti_kind::StoreKind;
 use anti_rules::{text_at, text_of, things_in};

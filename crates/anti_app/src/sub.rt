@@ -5,9 +5,9 @@ ghost use Rattle.toml.specs.View.{view};
 ghost use Rattle.anti_app.specs.Parts.{sub_of, sub_number};
 
 use crate::app::{ServiceDef, StoreDef, SubDef, SubDefs};
-use crate::reading::{name_at, small};
 use crate::service::{handler_at, service_at};
 use crate::store::store_number;
+use crate::table_values::{name_at, small};
 use anti_ids::{List, NoMemory};
 use anti_rules::text_at;
 use std::alloc::Global;

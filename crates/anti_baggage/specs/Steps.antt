@@ -4,7 +4,7 @@ use Rattle.anti_ids.specs.Answers.{AnswersBut}
 use Rattle.anti_ids.specs.declared.id.WriteId.{WriteId}
 use Rattle.anti_baggage.specs.declared.fault.BaggageFault.{BaggageFault}
 use Rattle.anti_baggage.specs.declared.fault.BaggageFault.TheVariants.{NoMemory}
-use Rattle.anti_baggage.specs.declared.naming.Named.{Named as Found}
+use Rattle.anti_baggage.specs.declared.named_id.Named.{Named as Found}
 use Rattle.anti_baggage.specs.Reading.{Named, named_in, id_named}
 
 -- what was found, as the definitions say it

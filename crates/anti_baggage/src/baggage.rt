@@ -6,8 +6,8 @@ ghost use Rattle.anti_baggage.specs.Reading.{read_lineage};
 ghost use Rattle.anti_baggage.specs.Texts.{lineage_text};
 ghost use Rattle.anti_baggage.specs.declared.fault.BaggageFault.TheVariants as faults;
 
-use crate::decoding::decode;
-use crate::encoding::encode;
+use crate::decoder::decode;
+use crate::encoder::encode;
 use crate::fault::BaggageFault;
 use crate::over::{are_names, is_over};
 use crate::same::{are_same_ids, are_same_names};

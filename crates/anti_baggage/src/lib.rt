@@ -2,18 +2,18 @@
 #![tactic(auto)]
 
 mod baggage;
-mod decoding;
-mod encoding;
-mod escaping;
+mod decoder;
+mod encoder;
+mod escapes;
 mod fault;
 mod laws;
-mod naming;
+mod named_id;
 mod over;
 mod same;
 
 pub use baggage::Baggage;
-pub use decoding::decode;
-pub use encoding::{add_id, encode};
-pub use escaping::escape;
+pub use decoder::decode;
+pub use encoder::{add_id, encode};
+pub use escapes::escape;
 pub use fault::BaggageFault;
 pub use laws::texts_state_lineages;

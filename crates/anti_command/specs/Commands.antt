@@ -2,34 +2,33 @@
 use Rattle.std.specs.Prelude.{ℕ, ◌≡◌, ◌≤◌, List, length, Option, None, Some, IsSomeAnd, Ok, Bool, true, false, ◌&&◌}
 use Rattle.anti_app.specs.declared.app.App.{App}
 use Rattle.anti_load.specs.Load.{load_application}
-use Rattle.anti_text.specs.Json.{json_of}
-use Rattle.anti_text.specs.Record.{text_of}
 use Rattle.anti_text.specs.Report.{Told}
-use Rattle.anti_text.specs.Summary.{summary_of}
 use Rattle.anti_command.specs.Faults.{writes}
 use Rattle.anti_command.specs.Placed.{IsPlacementOf}
+use Rattle.anti_command.specs.Rows.{Origin, Product, Document, Requests, Run, Placement, row_of}
 use Rattle.anti_command.specs.Runs.{application_of, IsPrintOf, IsRunOf, IsStated}
 use Rattle.anti_command.specs.declared.command.Command.{Command}
-use Rattle.anti_command.specs.declared.command.Command.TheVariants.{Step, Json, Place, Load}
 use Rattle.anti_command.specs.declared.fault.TopFault.{TopFault}
 use Rattle.anti_command.specs.declared.outcome.RunKept.{RunKept}
 use Rattle.anti_ids.specs.declared.limits.TheConstants.{LONGEST_DOCUMENT}
 
 -- it reads the source
+abbrev is_document : Origin → Bool
+is_document Document = true
+is_document (Requests requests) = false
+
 abbrev pub reads_source : Option Command → Bool
 reads_source None = false
-reads_source (Some Step) = true
-reads_source (Some Json) = true
-reads_source (Some Place) = true
-reads_source (Some (Load requests)) = false
+reads_source (Some command) = is_document (row_of command).origin
 
 -- it plays a run
+abbrev is_run : Product → Bool
+is_run (Run form) = true
+is_run Placement = false
+
 abbrev pub plays : Option Command → Bool
 plays None = false
-plays (Some Step) = true
-plays (Some Json) = true
-plays (Some Place) = false
-plays (Some (Load requests)) = true
+plays (Some command) = is_run (row_of command).product
 
 -- a run is kept where one is played, and a text is written or begun
 abbrev pub keeps_run : Option Command → Option TopFault → Bool
@@ -39,13 +38,20 @@ keeps_run asked fault = writes fault && plays asked
 abbrev pub IsRunPrinted : (App → Type 0) → (App → Told → List ℕ) → Option RunKept → List ℕ → Type 0
 IsRunPrinted IsGiven form kept text = IsSomeAnd kept (λ run. IsRunOf IsGiven run × IsPrintOf form run text)
 
+-- the application comes from there, where the source has this left
+abbrev pub IsFrom : Origin → Option (List ℕ) → App → Type 0
+IsFrom Document left = IsStated left
+IsFrom (Requests requests) left = λ app. app ≡ load_application requests
+
+-- of the application that is given this was made: this is the run that is kept, and this the text
+abbrev pub IsMade : Product → (App → Type 0) → Option RunKept → List ℕ → Type 0
+IsMade (Run form) IsGiven kept text = IsRunPrinted IsGiven form kept text
+IsMade Placement IsGiven kept text = (kept ≡ None) × IsPlacementOf IsGiven text
+
 -- what is asked was done to what the source had: this is the run that is kept, and this the text
 abbrev pub IsDone : Option Command → Option (List ℕ) → Option RunKept → List ℕ → Type 0
 IsDone None left kept text = ⊥
-IsDone (Some Step) left kept text = IsRunPrinted (IsStated left) text_of kept text
-IsDone (Some Json) left kept text = IsRunPrinted (IsStated left) json_of kept text
-IsDone (Some Place) left kept text = (kept ≡ None) × IsPlacementOf left text
-IsDone (Some (Load requests)) left kept text = IsRunPrinted (λ app. app ≡ load_application requests) (λ app. summary_of) kept text
+IsDone (Some command) left kept text = IsMade (row_of command).product (IsFrom (row_of command).origin left) kept text
 
 -- what is asked was done, and of its text this is true
 pub record IsDoneAnd (asked : Option Command) (left : Option (List ℕ)) (kept : Option RunKept) (IsSo : List ℕ → Type 0) : Type 0 where
@@ -61,10 +67,12 @@ pub record TellsApp (left : Option (List ℕ)) : Type 0 where
   pub short : length bytes ≤ LONGEST_DOCUMENT
   pub states : application_of bytes ≡ Ok app
 
+-- there is an application there
+abbrev pub IsThere : Origin → Option (List ℕ) → Type 0
+IsThere Document left = TellsApp left
+IsThere (Requests requests) left = Unit {0}
+
 -- what is asked can be done
 abbrev pub CanBeDone : Option Command → Option (List ℕ) → Type 0
 CanBeDone None left = ⊥
-CanBeDone (Some Step) left = TellsApp left
-CanBeDone (Some Json) left = TellsApp left
-CanBeDone (Some Place) left = TellsApp left
-CanBeDone (Some (Load requests)) left = Unit {0}
+CanBeDone (Some command) left = IsThere (row_of command).origin left

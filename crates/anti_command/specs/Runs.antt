@@ -7,7 +7,7 @@ use Rattle.anti_app.specs.Sound.{is_sound}
 use Rattle.anti_app.specs.Stated.{app_of}
 use Rattle.anti_text.specs.Report.{IsPrinted, Told}
 use Rattle.anti_trace.specs.Legal.{IsLegalTrace}
-use Rattle.anti_causal.specs.Settled.{BarriersFindAll, DryRunsName}
+use Rattle.law_causal.specs.Settled.{BarriersFindAll, DryRunsName}
 use Rattle.anti_order.specs.Answers.{SpansAreExplained}
 use Rattle.anti_play.specs.Schedule.{trace_of, waits_of}
 use Rattle.anti_command.specs.declared.outcome.RunKept.{RunKept}

@@ -1,20 +1,19 @@
 //! The top call: it does what words ask for with the document that a source has, and tells why where it can't.
 #![tactic(auto)]
 
+mod app_source;
 mod command;
-mod doing;
+mod dispatch;
 mod fault;
+mod fault_line;
 mod outcome;
 mod prepared;
-mod preparing;
-mod printing;
-mod reading;
-mod running;
-mod telling;
+mod products;
+mod run;
 mod top;
 
 pub use command::Command;
 pub use fault::{TopFault, status_of};
+pub use fault_line::tell;
 pub use outcome::{Outcome, RunKept};
-pub use telling::tell;
 pub use top::antipode_plain;

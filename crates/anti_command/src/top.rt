@@ -7,10 +7,10 @@ ghost use Rattle.anti_command.specs.Faults.{status_of, writes};
 ghost use Rattle.anti_command.specs.Commands.{reads_source, keeps_run, IsDoneAnd, CanBeDone};
 ghost use Rattle.anti_command.specs.Causes.{HasCause};
 
+use crate::dispatch::prepare;
 use crate::fault::{TopFault, status_of};
+use crate::fault_line::tell;
 use crate::outcome::Outcome;
-use crate::preparing::prepare;
-use crate::telling::tell;
 use anti_edge::{Failed, Sink, Source, write_all};
 use anti_ids::Value;
 use std::alloc::Global;

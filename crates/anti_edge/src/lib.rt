@@ -2,28 +2,28 @@
 #![tactic(auto)]
 
 mod failed;
-mod giving;
+mod give;
 mod memory_sink;
 mod memory_source;
 mod plan;
-mod reading;
 mod real_sink;
 mod real_source;
 mod sink;
 mod source;
 mod sure_sink;
 mod sure_source;
-mod writing;
+mod whole_reads;
+mod whole_writes;
 
 pub use failed::Failed;
 pub use memory_sink::MemorySink;
 pub use memory_source::MemorySource;
 pub use plan::Plan;
-pub use reading::{ReadRefused, read_all};
 pub use real_sink::RealSink;
 pub use real_source::RealSource;
 pub use sink::Sink;
 pub use source::Source;
 pub use sure_sink::SureSink;
 pub use sure_source::SureSource;
-pub use writing::write_all;
+pub use whole_reads::{ReadRefused, read_all};
+pub use whole_writes::write_all;

@@ -4,7 +4,7 @@ ghost use Rattle.anti_edge.specs.Outside.{IsFrontGiven, IsEnd, after_front};
 ghost use Rattle.anti_edge.specs.Plans.{is_listed, after_call, fresh_plan};
 
 use crate::failed::Failed;
-use crate::giving::give;
+use crate::give::give;
 use crate::plan::Plan;
 use crate::source::Source;
 use anti_ids::{Bytes, NoMemory};

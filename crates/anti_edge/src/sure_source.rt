@@ -3,7 +3,7 @@ ghost use Rattle.anti_ids.specs.Counts.{Rose};
 ghost use Rattle.anti_edge.specs.Outside.{IsFrontGiven, IsEnd, after_front};
 
 use crate::failed::Failed;
-use crate::giving::give;
+use crate::give::give;
 use crate::source::Source;
 use anti_ids::{Bytes, NoMemory};
 use std::alloc::Global;

@@ -7,8 +7,8 @@ use Rattle.std.proofs.lemmas.Option.{get_or_from_slice_get}
 use Rattle.anti_ids.specs.Each.{Each}
 use Rattle.anti_ids.specs.declared.id.WriteId.{WriteId}
 use Rattle.anti_ids.specs.Ids.{id_cmp, is_id, has_id, without_id, IsAscending, IsLineage}
-use Rattle.anti_ids.specs.declared.held.Held.{Held}
-use Rattle.anti_ids.specs.declared.held.Held.TheVariants.{Own, Whole, Less as Shared}
+use Rattle.anti_ids.specs.declared.held_ids.HeldIds.{HeldIds}
+use Rattle.anti_ids.specs.declared.held_ids.HeldIds.TheVariants.{Own, Whole, Less as Shared}
 use Rattle.anti_ids.specs.inner.Places.{StandsAt}
 use Rattle.anti_ids.specs.inner.Left.{is_gone, left_of}
 use Rattle.anti_ids.specs.inner.Held.{base_ids, held_ids}
@@ -144,7 +144,7 @@ module _ (i : WriteId) (ids : List WriteId) (at : ℕ) (asc : IsAscending ids) (
   left_without_one words changed gone_now others = left_without i words changed 0 ids at at i asc place.within here (omega arith) gone_now others
 
 -- how a lineage is held does not change that it is one
-pub lineage_held : (h : Held) → IsLineage (base_ids h) → IsLineage (held_ids h)
+pub lineage_held : (h : HeldIds) → IsLineage (base_ids h) → IsLineage (held_ids h)
 lineage_held (Own ids) l = l
 lineage_held (Whole block) l = l
 lineage_held (Shared block gone) l = lineage_left gone.words block l

@@ -6,9 +6,9 @@ ghost use Rattle.anti_ids.specs.inner.Places.{IsPlace};
 
 use crate::copies::Copies;
 use crate::id::WriteId;
+use crate::id_part::IdPart;
+use crate::id_parts;
 use crate::memory::NoMemory;
-use crate::part::Part;
-use crate::parts;
 use crate::walk::Walk;
 use std::alloc::Global;
 use std::marker::Model;
@@ -17,7 +17,7 @@ use std::sync::Arc;
 // A list of ids that any number of owners share. It stands in parts, which it shares with the blocks that it was made of.
 #[derive(Drop)]
 pub(crate) struct Block {
-    parts: Arc<Vec<Part>>,
+    parts: Arc<Vec<IdPart>>,
     len: usize,
 }
 
@@ -39,7 +39,7 @@ impl Block {
     pub(crate) fn of(alloc: Global, ids: &[WriteId]) -> Result<Block, NoMemory>
         ensures { IfOk result (λ b. b ≡ ids.now) }
     {
-        match Arc::new(alloc, parts::parts_of(alloc, ids)?) {
+        match Arc::new(alloc, id_parts::parts_of(alloc, ids)?) {
             Ok(parts) => Ok(Block {
                 parts,
                 len: ids.len(),
@@ -78,7 +78,7 @@ impl Block {
         requires { index < length self.now }
         ensures { slice_get self.now index ≡ Some result }
     {
-        parts::at(self.parts.as_slice(), self.len, index)
+        id_parts::at(self.parts.as_slice(), self.len, index)
     }
 
     // The ids one after another.
@@ -93,17 +93,17 @@ impl Block {
         requires { IsAscending self.now }
         ensures { IsPlace id.now self.now result }
     {
-        parts::place_of(self.parts.as_slice(), self.len, id)
+        id_parts::place_of(self.parts.as_slice(), self.len, id)
     }
 
     // Its parts with an id at an index, in a list of their own.
-    fn parts_with(&self, at: usize, id: WriteId) -> Result<Arc<Vec<Part>>, NoMemory>
+    fn parts_with(&self, at: usize, id: WriteId) -> Result<Arc<Vec<IdPart>>, NoMemory>
         requires { at ≤ length self.now }
         ensures { IfOk result (λ parts. joined (arc_value parts).items ≡ put_at at id self.now) }
     {
         let alloc = self.allocator();
-        let mut parts = Part::copy_all(self.parts.as_slice(), 1, alloc)?;
-        parts::put(&mut parts, self.len, at, id)?;
+        let mut parts = IdPart::copy_all(self.parts.as_slice(), 1, alloc)?;
+        id_parts::put(&mut parts, self.len, at, id)?;
         match Arc::new(alloc, parts) {
             Ok(parts) => Ok(parts),
             Err(_) => Err(NoMemory),
@@ -120,7 +120,7 @@ impl Block {
             return Err(NoMemory);
         };
         match Arc::get_mut(&mut self.parts) {
-            Some(parts) => parts::put(parts, self.len, at, id)?,
+            Some(parts) => id_parts::put(parts, self.len, at, id)?,
             None => self.parts = self.parts_with(at, id)?,
         }
         self.len = len;

@@ -1,27 +1,27 @@
 //! The words of Antipode: names, values, lists whose room is part of their value, ids of writes and lineages.
 #![tactic(auto)]
 
-mod adding;
 mod ascending;
 mod block;
 mod bytes;
 mod copies;
 mod decimal;
 mod gone;
-mod growing;
-mod held;
+mod held_ids;
 mod id;
+mod id_part;
+mod id_parts;
 mod ids;
 mod limits;
 mod lineage;
 mod list;
+mod list_add;
 mod memory;
 mod name;
-mod part;
-mod parts;
 mod roomy;
-mod sending;
 mod text;
+mod thread_safety;
+mod unions;
 mod value;
 mod walk;
 

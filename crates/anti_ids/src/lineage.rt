@@ -2,7 +2,7 @@ ghost use Rattle.std.specs.Prelude.{◌≡◌, ◌-◌, ◌<◌, ◌≤◌, [], 
 ghost use Rattle.anti_ids.specs.Ids.{IsLineage, has_id, is_id, ids_of, with_id, with_ids, without_id};
 
 use crate::copies::Copies;
-use crate::held::Held;
+use crate::held_ids::HeldIds;
 use crate::id::WriteId;
 use crate::ids::Ids;
 use crate::limits::MOST_IDS;
@@ -26,7 +26,7 @@ pub enum LineageRefused {
 /// The set of the writes that a request depends on: at most `MOST_IDS` ids, each of version 1 or
 /// later, kept in ascending order. Its copies share its memory.
 pub struct Lineage {
-    pub(crate) held: Held,
+    pub(crate) held: HeldIds,
 }
 
 impl Model for Lineage {
@@ -56,7 +56,7 @@ impl Lineage {
         ensures { result ≡ [] }
     {
         Lineage {
-            held: Held::Own(Vec::new(alloc)),
+            held: HeldIds::Own(Vec::new(alloc)),
         }
     }
 

@@ -2,7 +2,7 @@ ghost use Rattle.std.specs.Prelude.{◌≡◌, ◌+◌, ◌<◌, ◌≤◌, ◌|
 ghost use Rattle.anti_ids.specs.Ids.{has_id, is_id, with_id, with_ids};
 
 use crate::ascending::{add_all, count_new, place_of, put_at};
-use crate::held::Held;
+use crate::held_ids::HeldIds;
 use crate::id::WriteId;
 use crate::limits::MOST_IDS;
 use crate::lineage::Lineage;
@@ -81,7 +81,7 @@ impl Roomy {
         ensures { result ≡ self.ids }
     {
         Lineage {
-            held: Held::Own(self.ids),
+            held: HeldIds::Own(self.ids),
         }
     }
 }

@@ -3,7 +3,7 @@ ghost use Rattle.std.specs.Iterator.{YieldsFirst, item_count};
 ghost use Rattle.anti_ids.specs.inner.Parts.{joined};
 
 use crate::id::WriteId;
-use crate::part::Part;
+use crate::id_part::IdPart;
 use std::marker::Model;
 
 // Goes over ids in memory, whether gone or not. It is seen as the list of those that are still to come.
@@ -11,7 +11,7 @@ use std::marker::Model;
 pub(crate) struct Walk<'a> {
     // What is left of the part that it stands in, and the parts behind.
     part: &'a [WriteId],
-    parts: &'a [Part],
+    parts: &'a [IdPart],
 }
 
 impl<'a> Model for Walk<'a> {
@@ -36,7 +36,7 @@ impl<'a> Walk<'a> {
     }
 
     // Over ids in parts.
-    pub(crate) fn through(parts: &'a [Part]) -> Walk<'a>
+    pub(crate) fn through(parts: &'a [IdPart]) -> Walk<'a>
         ensures { result ≡ joined parts.now }
     {
         Walk { part: &[], parts }

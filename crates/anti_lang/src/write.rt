@@ -13,17 +13,17 @@ use std::alloc::Global;
 
 /// What the words behind the value of a write say of its variable.
 #[derive(Clone, Copy)]
-pub struct Held<'a> {
+pub struct WriteVariable<'a> {
     variable: Option<&'a [u8]>,
     untracked: bool,
 }
 
 // Nothing, or `as VARIABLE`, or `as VARIABLE untracked`.
-fn held_of<'a>(words: &[&'a [u8]]) -> Option<Held<'a>>
+fn held_of<'a>(words: &[&'a [u8]]) -> Option<WriteVariable<'a>>
     ensures { option_map held_view result ≡ held_of (map (λ word. word.now) words.now) }
 {
     match words {
-        [] => Some(Held {
+        [] => Some(WriteVariable {
             variable: None,
             untracked: false,
         }),
@@ -33,19 +33,19 @@ fn held_of<'a>(words: &[&'a [u8]]) -> Option<Held<'a>>
     }
 }
 
-fn held_as<'a>(joint: &[u8], variable: &'a [u8]) -> Option<Held<'a>>
+fn held_as<'a>(joint: &[u8], variable: &'a [u8]) -> Option<WriteVariable<'a>>
     ensures { option_map held_view result ≡ held_of (joint.now ∷ variable.now ∷ []) }
 {
     if joint != b"as".as_slice() {
         return None;
     }
-    Some(Held {
+    Some(WriteVariable {
         variable: Some(variable),
         untracked: false,
     })
 }
 
-fn held_untracked<'a>(joint: &[u8], variable: &'a [u8], last: &[u8]) -> Option<Held<'a>>
+fn held_untracked<'a>(joint: &[u8], variable: &'a [u8], last: &[u8]) -> Option<WriteVariable<'a>>
     ensures { option_map held_view result ≡ held_of (joint.now ∷ variable.now ∷ last.now ∷ []) }
 {
     if joint != b"as".as_slice() {
@@ -54,14 +54,14 @@ fn held_untracked<'a>(joint: &[u8], variable: &'a [u8], last: &[u8]) -> Option<H
     if last != b"untracked".as_slice() {
         return None;
     }
-    Some(Held {
+    Some(WriteVariable {
         variable: Some(variable),
         untracked: true,
     })
 }
 
 // The variable, where it is one. A write without one is not untracked.
-fn variable_held(held: Held) -> Option<Option<Name>>
+fn variable_held(held: WriteVariable) -> Option<Option<Name>>
     ensures { result ≡ then_some (held_fits (held_view held.entry).0 (held_view held.entry).1) (held_view held.entry).0 }
 {
     match held.variable {
@@ -89,7 +89,7 @@ fn write_of(
     store: &[u8],
     key: &[u8],
     value: &[u8],
-    held: Held,
+    held: WriteVariable,
 ) -> Result<Option<Line>, NoMemory>
     ensures { IfOk result (λ line. line ≡ read_as (Some (written store.now key.now value.now (held_view held.entry)))) }
 {

@@ -2,9 +2,9 @@ ghost use Rattle.std.specs.Prelude.{◌≡◌, ◌≤◌, IfOk, IsTrue};
 ghost use Rattle.anti_app.specs.Sound.{is_sound};
 ghost use Rattle.anti_load.specs.Load.{load_application};
 
-use crate::drawing::requests_drawn;
 use crate::lists::{one, two};
 use crate::names::name_of;
+use crate::requests::requests_drawn;
 use crate::services::services;
 use crate::stores::{fans, stores};
 use anti_app::{App, Choice};

@@ -2,9 +2,9 @@
 #![tactic(auto)]
 
 mod application;
-mod drawing;
 mod lists;
 mod names;
+mod requests;
 mod services;
 mod stores;
 

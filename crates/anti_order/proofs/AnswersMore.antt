@@ -4,9 +4,9 @@ use Rattle.std.proofs.lemmas.List.{map_push, take_more}
 use Rattle.std.proofs.lemmas.List.Elements.{All-push}
 use Rattle.anti_kind.specs.declared.entry.Entry.{Entry}
 use Rattle.anti_app.specs.declared.app.App.{App}
-use Rattle.anti_causal.specs.Reads.{reads_of}
-use Rattle.anti_past.specs.declared.reading.ReadsOfSpan.{ReadsOfSpan}
-use Rattle.anti_past.specs.declared.reading.Span.{Span}
+use Rattle.law_causal.specs.Reads.{reads_of}
+use Rattle.anti_past.specs.declared.span_reads.ReadsOfSpan.{ReadsOfSpan}
+use Rattle.anti_past.specs.declared.span_reads.Span.{Span}
 use Rattle.anti_order.specs.Answers.{IsAnswer}
 use Rattle.anti_order.specs.declared.answer.SpanAnswer.{SpanAnswer}
 use Rattle.anti_order.specs.inner.Grounds.{AreAnswersFor}

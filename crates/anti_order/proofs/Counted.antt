@@ -12,15 +12,15 @@ use Rattle.anti_kind.specs.declared.entry.Entry.{Entry}
 use Rattle.anti_kind.proofs.Sums.{count_all, count_none}
 use Rattle.anti_app.specs.declared.app.App.{App}
 use Rattle.anti_trace.specs.declared.mark.Mark.{Mark}
-use Rattle.anti_causal.specs.Carried.{IsLossless}
-use Rattle.anti_causal.specs.Reads.{is_at, reads_of}
-use Rattle.anti_causal.specs.Words.{reads}
+use Rattle.law_causal.specs.Carried.{IsLossless}
+use Rattle.law_causal.specs.Reads.{is_at, reads_of}
+use Rattle.law_causal.specs.Words.{reads}
 use Rattle.anti_past.specs.Losses.{LosesFirst, mark_of}
 use Rattle.anti_past.specs.Pasts.{ArePastsOf}
 use Rattle.anti_past.specs.Spans.{AreReadsBySpan, AreSpansOf}
 use Rattle.anti_past.specs.declared.before_reads.Past.{Past}
-use Rattle.anti_past.specs.declared.reading.ReadsOfSpan.{ReadsOfSpan}
-use Rattle.anti_serial.specs.Order.{order_of}
+use Rattle.anti_past.specs.declared.span_reads.ReadsOfSpan.{ReadsOfSpan}
+use Rattle.law_serial.specs.Order.{order_of}
 use Rattle.anti_order.specs.Answers.{AreAnswersOf, AreMarksOf, IsAnswer, mark_at}
 use Rattle.anti_order.specs.Counts.{AreCountsOf, how_many, is_lossy, is_ordered, is_unguarded}
 use Rattle.anti_order.specs.declared.answer.OrderAnswer.{OrderAnswer}

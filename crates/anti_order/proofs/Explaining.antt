@@ -2,9 +2,9 @@
 use Rattle.std.proofs.Common.{List}
 use Rattle.anti_kind.specs.declared.entry.Entry.{Entry}
 use Rattle.anti_app.specs.declared.app.App.{App}
-use Rattle.anti_causal.specs.Carried.{IsLossless}
-use Rattle.anti_serial.specs.Order.{order_of}
-use Rattle.anti_serial.specs.Serial.{OrdersAreSerial}
+use Rattle.law_causal.specs.Carried.{IsLossless}
+use Rattle.law_serial.specs.Order.{order_of}
+use Rattle.law_serial.specs.Serial.{OrdersAreSerial}
 use Rattle.anti_order.specs.Answers.{ChainsAreExplained}
 use Rattle.anti_order.specs.declared.answer.OrderAnswer.TheVariants.{Lossy, Unguarded, Order}
 

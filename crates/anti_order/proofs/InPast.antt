@@ -21,12 +21,12 @@ use Rattle.anti_kind.specs.declared.call.Reply.TheVariants as replies
 use Rattle.anti_kind.specs.declared.entry.Entry.{Entry}
 use Rattle.anti_app.specs.declared.app.App.{App}
 use Rattle.anti_proc.specs.Local.{rows_ids}
-use Rattle.anti_causal.specs.Carried.{carried_at}
-use Rattle.anti_causal.specs.Reads.{is_at}
-use Rattle.anti_causal.specs.Words.{comes_with, reads, rows_in, wrote}
+use Rattle.law_causal.specs.Carried.{carried_at}
+use Rattle.law_causal.specs.Reads.{is_at}
+use Rattle.law_causal.specs.Words.{comes_with, reads, rows_in, wrote}
 use Rattle.anti_past.specs.Pasts.{ArePastsOf}
 use Rattle.anti_past.specs.declared.before_reads.Past.{Past}
-use Rattle.anti_serial.specs.Order.{is_in_past, is_some_id, past_of, writes_at}
+use Rattle.law_serial.specs.Order.{is_in_past, is_some_id, past_of, writes_at}
 use Rattle.anti_order.specs.declared.writes.Writes.{Writes}
 use Rattle.anti_order.specs.inner.Fresh.{AddsFresh, carried_in, is_fresh, is_here, is_listed, is_write_at}
 use Rattle.anti_order.specs.inner.Writes.{AreWritesOf}

@@ -8,9 +8,9 @@ use Rattle.std.proofs.lemmas.List.{append_assoc}
 use Rattle.std.proofs.lemmas.List.Elements.{filter_agree}
 use Rattle.anti_kind.specs.declared.entry.Entry.{Entry}
 use Rattle.anti_app.specs.declared.app.App.{App}
-use Rattle.anti_causal.specs.Reads.{places}
-use Rattle.anti_causal.specs.Words.{wrote}
-use Rattle.anti_serial.specs.Order.{is_in_past, is_some_id, listing, order_of, writes_at}
+use Rattle.law_causal.specs.Reads.{places}
+use Rattle.law_causal.specs.Words.{wrote}
+use Rattle.law_serial.specs.Order.{is_in_past, is_some_id, listing, order_of, writes_at}
 use Rattle.anti_order.specs.inner.Fresh.{is_listed, still_to_list}
 use Rattle.anti_order.proofs.Listed.{keys_kept, none_listed, past_listed}
 use Rattle.anti_order.proofs.Places.{is_at_within}

@@ -13,10 +13,10 @@ use Rattle.anti_kind.specs.declared.entry.Entry.{Entry}
 use Rattle.anti_kind.proofs.Rows.{or_false}
 use Rattle.anti_app.specs.declared.app.App.{App}
 use Rattle.anti_trace.specs.Legal.{IsLegalTrace}
-use Rattle.anti_causal.specs.Reads.{is_at}
-use Rattle.anti_causal.specs.Words.{wrote}
-use Rattle.anti_causal.proofs.Stores.{once}
-use Rattle.anti_serial.specs.Order.{is_some_id, writes_at}
+use Rattle.law_causal.specs.Reads.{is_at}
+use Rattle.law_causal.specs.Words.{wrote}
+use Rattle.law_causal.proofs.Stores.{once}
+use Rattle.law_serial.specs.Order.{is_some_id, writes_at}
 use Rattle.anti_order.specs.declared.writes.Writes.{Writes}
 use Rattle.anti_order.specs.inner.Writes.{AddsWrite, AreWritesOf}
 use Rattle.anti_order.proofs.Places.{at_place, is_at_entry, is_at_within, places_more}

@@ -7,7 +7,7 @@ use Rattle.std.proofs.lemmas.List.{map-id}
 use Rattle.std.proofs.lemmas.List.FromFn.{filter_of_map_range_with_len_more}
 use Rattle.std.proofs.lemmas.Option.{slice_get_within}
 use Rattle.anti_kind.specs.declared.entry.Entry.{Entry}
-use Rattle.anti_causal.specs.Reads.{is_at}
+use Rattle.law_causal.specs.Reads.{is_at}
 
 -- a test at a place is one of the entry there
 pub is_at_entry : (test : Entry → Bool) (trace : List Entry) (i : ℕ) (e : Entry) → slice_get trace i ≡ Some e → is_at test trace i ≡ test e

@@ -11,9 +11,9 @@ use Rattle.anti_kind.specs.declared.actor.Birth.{Birth}
 use Rattle.anti_kind.specs.declared.entry.Entry.{Entry}
 use Rattle.anti_app.specs.declared.app.App.{App}
 use Rattle.anti_trace.specs.Traces.{is_by}
-use Rattle.anti_causal.specs.Reads.{is_at, is_read_of, places, reads_of}
-use Rattle.anti_causal.specs.Words.{reads}
-use Rattle.anti_serial.specs.Order.{is_in_past, listing, order_of, writes_at}
+use Rattle.law_causal.specs.Reads.{is_at, is_read_of, places, reads_of}
+use Rattle.law_causal.specs.Words.{reads}
+use Rattle.law_serial.specs.Order.{is_in_past, listing, order_of, writes_at}
 use Rattle.anti_order.proofs.Places.{is_at_entry, is_at_within, places_more}
 
 pub all_within : (test : Entry → Bool) (trace : List Entry) (rs : List ℕ) → All (λ r. is_at test trace r ≡ true) rs → All (λ r. r < length trace) rs

@@ -8,13 +8,13 @@ use Rattle.std.proofs.lemmas.Option.{slice_get-get_or, slice_get_within}
 use Rattle.anti_kind.specs.declared.entry.Entry.{Entry}
 use Rattle.anti_app.specs.declared.app.App.{App}
 use Rattle.anti_trace.specs.declared.mark.Mark.{Mark}
-use Rattle.anti_causal.specs.Reads.{is_at}
-use Rattle.anti_causal.specs.Settled.{IsSettled}
-use Rattle.anti_causal.specs.Words.{reads}
-use Rattle.anti_causal.proofs.Lists.{same_at}
+use Rattle.law_causal.specs.Reads.{is_at}
+use Rattle.law_causal.specs.Settled.{IsSettled}
+use Rattle.law_causal.specs.Words.{reads}
+use Rattle.law_causal.proofs.Lists.{same_at}
 use Rattle.anti_past.specs.Pasts.{ArePastsOf, IsPastOf}
 use Rattle.anti_past.specs.declared.before_reads.Past.{Past}
-use Rattle.anti_serial.specs.Serial.{IsSettledRead}
+use Rattle.law_serial.specs.Serial.{IsSettledRead}
 use Rattle.anti_order.specs.Answers.{IsFirstUnsettled, mark_at}
 use Rattle.anti_order.specs.inner.Grounds.{is_settled_at}
 use Rattle.anti_order.proofs.Places.{at_place}

@@ -4,12 +4,12 @@ use Rattle.anti_kind.specs.declared.actor.Birth.{Birth}
 use Rattle.anti_kind.specs.declared.entry.Entry.{Entry}
 use Rattle.anti_app.specs.declared.app.App.{App}
 use Rattle.anti_trace.specs.declared.mark.Mark.{Mark}
-use Rattle.anti_causal.specs.Carried.{IsLossless}
-use Rattle.anti_causal.specs.Reads.{reads_of}
+use Rattle.law_causal.specs.Carried.{IsLossless}
+use Rattle.law_causal.specs.Reads.{reads_of}
 use Rattle.anti_past.specs.Losses.{LosesFirst, mark_of}
 use Rattle.anti_past.specs.Spans.{AreSpansOf}
-use Rattle.anti_serial.specs.Order.{order_of}
-use Rattle.anti_serial.specs.Serial.{IsChain, IsSerial, IsSettledRead}
+use Rattle.law_serial.specs.Order.{order_of}
+use Rattle.law_serial.specs.Serial.{IsChain, IsSerial, IsSettledRead}
 use Rattle.anti_order.specs.declared.answer.OrderAnswer.{OrderAnswer}
 use Rattle.anti_order.specs.declared.answer.OrderAnswer.TheVariants.{Lossy, Unguarded, Order}
 use Rattle.anti_order.specs.declared.answer.SpanAnswer.{SpanAnswer}

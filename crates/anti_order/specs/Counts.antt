@@ -5,7 +5,7 @@ use Rattle.anti_app.specs.declared.app.App.{App}
 use Rattle.anti_order.specs.declared.answer.OrderAnswer.{OrderAnswer}
 use Rattle.anti_order.specs.declared.answer.OrderAnswer.TheVariants.{Lossy, Unguarded, Order}
 use Rattle.anti_order.specs.declared.answer.SpanAnswer.{SpanAnswer}
-use Rattle.anti_order.specs.declared.counting.AnswerCounts.{AnswerCounts}
+use Rattle.anti_order.specs.declared.answer_counts.AnswerCounts.{AnswerCounts}
 use Rattle.anti_order.specs.Answers.{AreAnswersOf}
 
 abbrev pub is_ordered : OrderAnswer → Bool

@@ -2,11 +2,11 @@ ghost use Rattle.std.specs.Prelude.{ℕ, ◌≡◌, ◌<◌, ◌&&◌, not, true
 ghost use Rattle.std.specs.BTreeSet.{contains, keys};
 ghost use Rattle.std.specs.Ordering.{nat_cmp};
 ghost use Rattle.anti_app.specs.declared.app.App.{App};
-ghost use Rattle.anti_causal.specs.Reads.{is_at};
-ghost use Rattle.anti_causal.specs.Words.{reads, rows_in};
+ghost use Rattle.law_causal.specs.Reads.{is_at};
+ghost use Rattle.law_causal.specs.Words.{reads, rows_in};
 ghost use Rattle.anti_past.specs.Pasts.{ArePastsOf};
 ghost use Rattle.anti_proc.specs.Local.{id_at, row_ids, rows_ids};
-ghost use Rattle.anti_serial.specs.Order.{is_in_past, writes_at};
+ghost use Rattle.law_serial.specs.Order.{is_in_past, writes_at};
 ghost use Rattle.anti_order.specs.inner.Fresh.{AddsFresh, carried_in, is_fresh, is_here, is_listed, past_in};
 ghost use Rattle.anti_order.specs.inner.Writes.{AreWritesOf};
 

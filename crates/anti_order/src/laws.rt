@@ -6,7 +6,7 @@ ghost use Rattle.anti_app.specs.Sound.{is_sound};
 ghost use Rattle.anti_trace.specs.Legal.{IsLegalTrace};
 ghost use Rattle.anti_order.specs.Answers.{ChainsAreExplained, SpansAreExplained};
 
-use anti_serial::{orders_are_serial, reads_of_a_span_are_a_chain};
+use law_serial::{orders_are_serial, reads_of_a_span_are_a_chain};
 
 /// In a legal trace of a sound application an order that is answered of reads, of which each is causally before the next, has all writes
 /// and the reads once each, respects the causal order, and explains what the reads show. The reads of a span are such reads.

@@ -2,16 +2,16 @@
 #![tactic(auto)]
 
 mod answer;
-mod answering;
-mod arranging;
-mod counting;
+mod answer_counts;
 mod fresh;
+mod grounds;
 mod laws;
-mod marking;
+mod marks;
+mod order_listing;
 mod orders;
 mod writes;
 
 pub use answer::{Marks, OrderAnswer, SpanAnswer, SpanAnswers};
-pub use counting::{AnswerCounts, count_answers};
+pub use answer_counts::{AnswerCounts, count_answers};
 pub use laws::answered_orders_explain;
 pub use orders::{answers, order, order_of};

@@ -2,15 +2,15 @@ ghost use Rattle.std.specs.Prelude.{ℕ, ◌≡◌, List, All, IfOk, OnOk, IsTru
 ghost use Rattle.anti_ids.specs.List.{pushed};
 ghost use Rattle.anti_app.specs.declared.app.App.{App};
 ghost use Rattle.anti_app.specs.Sound.{is_sound};
-ghost use Rattle.anti_causal.specs.Reads.{is_at, is_read_of, reads_of};
-ghost use Rattle.anti_causal.specs.Words as words;
+ghost use Rattle.law_causal.specs.Reads.{is_at, is_read_of, reads_of};
+ghost use Rattle.law_causal.specs.Words as words;
 ghost use Rattle.anti_trace.specs.Legal.{IsLegalTrace};
 ghost use Rattle.anti_order.specs.Answers.{AreAnswersOf, AreMarksOf, IsAnswer};
 ghost use Rattle.anti_order.specs.inner.Grounds.{AreAnswersFor, AreGroundsOf};
 
 use crate::answer::{Marks, OrderAnswer, SpanAnswer, SpanAnswers};
-use crate::answering::Grounds;
-use crate::marking::places_of;
+use crate::grounds::Grounds;
+use crate::marks::places_of;
 use anti_app::App;
 use anti_ids::NoMemory;
 use anti_kind::{Actor, Birth, Entry};

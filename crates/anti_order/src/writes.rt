@@ -2,7 +2,7 @@ ghost use Rattle.std.specs.Prelude.{◌≡◌, IfOk, OnOk, IsTrue};
 ghost use Rattle.std.specs.Option.{option_to_list};
 ghost use Rattle.anti_app.specs.declared.app.App.{App};
 ghost use Rattle.anti_app.specs.Sound.{is_sound};
-ghost use Rattle.anti_causal.specs.Words.{wrote};
+ghost use Rattle.law_causal.specs.Words.{wrote};
 ghost use Rattle.anti_trace.specs.Legal.{IsLegalTrace};
 ghost use Rattle.anti_order.specs.inner.Writes.{AddsWrite, AreWritesOf};
 

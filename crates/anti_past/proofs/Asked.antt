@@ -17,10 +17,10 @@ use Rattle.anti_trace.specs.Legal.{IsLegalTrace}
 use Rattle.anti_trace.specs.declared.processes.AtObject.{AtObject}
 use Rattle.anti_trace.specs.inner.Living.{LivesOn, Shows}
 use Rattle.anti_trace.proofs.Followed.{next_going}
-use Rattle.anti_causal.specs.Carried.{carried_at}
-use Rattle.anti_causal.specs.Causal.{is_process}
-use Rattle.anti_causal.proofs.Lists.{cut_at}
-use Rattle.anti_causal.proofs.Processes.{asking}
+use Rattle.law_causal.specs.Carried.{carried_at}
+use Rattle.law_causal.specs.Causal.{is_process}
+use Rattle.law_causal.proofs.Lists.{cut_at}
+use Rattle.law_causal.proofs.Processes.{asking}
 use Rattle.anti_past.specs.inner.Walking.{IsAskedNext}
 
 born_by : (a : Actor) → is_process a ≡ true → (b : Birth) × (a ≡ Acting b)

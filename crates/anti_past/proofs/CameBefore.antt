@@ -12,9 +12,9 @@ use Rattle.anti_proc.specs.Births.{is_birth, is_started_by}
 use Rattle.anti_trace.specs.Legal.{IsLegalTrace}
 use Rattle.anti_trace.specs.declared.processes.AtObject.{AtObject}
 use Rattle.anti_trace.specs.inner.Living.{AreOfSome, AreProcessesOf}
-use Rattle.anti_causal.specs.Causal.{is_process}
-use Rattle.anti_causal.specs.Words.{hands_all, reads}
-use Rattle.anti_causal.proofs.Processes.{IsAsked, IsBorn, hands_asked, of_process}
+use Rattle.law_causal.specs.Causal.{is_process}
+use Rattle.law_causal.specs.Words.{hands_all, reads}
+use Rattle.law_causal.proofs.Processes.{IsAsked, IsBorn, hands_asked, of_process}
 use Rattle.anti_past.specs.inner.Walking.{IsAskedNext}
 use Rattle.anti_past.proofs.Fronts.{legal_before}
 

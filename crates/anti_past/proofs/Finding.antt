@@ -7,9 +7,9 @@ use Rattle.anti_ids.specs.Ids.{has_id, id_cmp, is_id}
 use Rattle.anti_ids.specs.declared.id.WriteId.{WriteId}
 use Rattle.anti_ids.proofs.IdLemmas.{is_id-turned}
 use Rattle.anti_kind.specs.declared.entry.Entry.{Entry}
-use Rattle.anti_causal.specs.Settled.{found_in}
-use Rattle.anti_past.specs.declared.found.Found.{Found}
-use Rattle.anti_past.specs.declared.keys.Key.{Key}
+use Rattle.law_causal.specs.Settled.{found_in}
+use Rattle.anti_past.specs.declared.finds.Finds.{Finds}
+use Rattle.anti_past.specs.declared.span_keys.SpanKey.{SpanKey}
 use Rattle.anti_past.specs.inner.Found.{AreFound, find_cmp, finds, has_found}
 use Rattle.anti_past.specs.inner.Keys.{is_in, key_cmp, key_of, same_key}
 use Rattle.anti_past.proofs.Fronts.{any_more}
@@ -35,9 +35,9 @@ one_further false false first further = refl
 
 -- ---- one id more
 
-module _ (old new : Found) (span : Key) (id : WriteId)
+module _ (old new : Finds) (span : SpanKey) (id : WriteId)
     (updates : sets.Updates find_cmp old.finds new.finds (record { span = span; id = id }) true) where
-  pub found_one : (q : Key) (w : WriteId) → has_found new q w ≡ (has_found old q w || same_key span q && is_id w id)
+  pub found_one : (q : SpanKey) (w : WriteId) → has_found new q w ≡ (has_found old q w || same_key span q && is_id w id)
   found_one q w =
       updates.0 (record { span = q; id = w })
       ∙ cond_or _ (has_found old q w)
@@ -47,7 +47,7 @@ module _ (old new : Found) (span : Key) (id : WriteId)
 -- ---- the ids of a look
 
 -- what is left decides
-pub found_step : (old new : Found) (span : Key) (id : WriteId) (rest : List WriteId) (q : Key) (w : WriteId)
+pub found_step : (old new : Finds) (span : SpanKey) (id : WriteId) (rest : List WriteId) (q : SpanKey) (w : WriteId)
     → has_found new q w ≡ (has_found old q w || same_key span q && is_id w id)
     → (has_found new q w || same_key span q && has_id w rest) ≡ (has_found old q w || same_key span q && has_id w (id ∷ rest))
 found_step old new span id rest q w is =
@@ -58,14 +58,14 @@ found_none t same = ap (λ (s : Bool). t || s) (and_none same) ∙ or_none t
 
 -- ---- an entry
 
-module _ (e : Entry) (q : Key) (w : WriteId) (known : Bool) where
+module _ (e : Entry) (q : SpanKey) (w : WriteId) (known : Bool) where
   pub nothing_found : [] ≡ found_in e.call e.reply → known ≡ (known || finds q w e)
   nothing_found none = sym (ap (λ (ids : List WriteId). known || is_in q e && has_id w ids) (sym none) ∙ found_none known (is_in q e))
 
   pub in_no_span : key_of e ≡ None → known ≡ (known || finds q w e)
   in_no_span none = sym (ap (λ (t : Bool). known || t && has_id w (found_in e.call e.reply)) (in_none e none q) ∙ or_none known)
 
-  pub found_all : (span : Key) (ids : List WriteId) → key_of e ≡ Some span → ids ≡ found_in e.call e.reply
+  pub found_all : (span : SpanKey) (ids : List WriteId) → key_of e ≡ Some span → ids ≡ found_in e.call e.reply
       → (known || same_key span q && has_id w ids) ≡ (known || finds q w e)
   found_all span ids is same =
       ap (λ (t : Bool). known || t && has_id w ids) (sym (in_by_key e span is q))
@@ -73,7 +73,7 @@ module _ (e : Entry) (q : Key) (w : WriteId) (known : Bool) where
 
 -- ---- the entries so far
 
-pub found_more : (trace : List Entry) (k : ℕ) (e : Entry) → slice_get trace k ≡ Some e → (old new : Found) → AreFound (take k trace) old
-    → ((q : Key) (w : WriteId) → has_found new q w ≡ (has_found old q w || finds q w e)) → AreFound (take (k + 1) trace) new
+pub found_more : (trace : List Entry) (k : ℕ) (e : Entry) → slice_get trace k ≡ Some e → (old new : Finds) → AreFound (take k trace) old
+    → ((q : SpanKey) (w : WriteId) → has_found new q w ≡ (has_found old q w || finds q w e)) → AreFound (take (k + 1) trace) new
 found_more trace k e at old new are adds q w =
     adds q w ∙ ap (λ (t : Bool). t || finds q w e) (are q w) ∙ sym (any_more trace k e at (finds q w))

@@ -11,7 +11,7 @@ use Rattle.anti_trace.specs.Legal.{IsLegalTrace}
 use Rattle.anti_trace.specs.declared.processes.AtObject.{AtObject}
 use Rattle.anti_trace.specs.inner.Living.{AreProcessesOf, IsNextOf}
 use Rattle.anti_trace.proofs.Prefix.{legal_front}
-use Rattle.anti_causal.proofs.Lists.{cut_at}
+use Rattle.law_causal.proofs.Lists.{cut_at}
 
 pub legal_before : (app : App) (trace : List Entry) (i : ℕ) → IsLegalTrace app trace → IsLegalTrace app (take i trace)
 legal_before app trace i legal =

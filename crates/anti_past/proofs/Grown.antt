@@ -9,10 +9,10 @@ use Rattle.anti_ids.specs.Ids.{has_id}
 use Rattle.anti_ids.specs.declared.id.WriteId.{WriteId}
 use Rattle.anti_kind.specs.declared.entry.Entry.{Entry}
 use Rattle.anti_app.specs.declared.app.App.{App}
-use Rattle.anti_causal.proofs.Ids.{has_append}
+use Rattle.law_causal.proofs.Ids.{has_append}
 use Rattle.anti_past.specs.declared.came.AllCame.{AllCame}
 use Rattle.anti_past.specs.declared.came.Came.{Came}
-use Rattle.anti_past.specs.declared.keys.Key.{Key}
+use Rattle.anti_past.specs.declared.span_keys.SpanKey.{SpanKey}
 use Rattle.anti_past.specs.inner.Came.{brought_at, came_ids, ids_known, ids_since}
 use Rattle.anti_past.specs.inner.Keys.{key_cmp, same_key}
 use Rattle.anti_past.proofs.KeyOrder.{same_key_is}
@@ -29,7 +29,7 @@ pub has_alone : (w : WriteId) (ids : List WriteId) → has_id w (ids ++ []) ≡ 
 has_alone w ids = has_append w ids [] ∙ or_none (has_id w ids)
 
 module _ (app : App) (trace : List Entry) (w : WriteId) where
-  has_known : (m : AllCame) (q : Key) (c : Came) → tree.get key_cmp m.spans q ≡ Some c
+  has_known : (m : AllCame) (q : SpanKey) (c : Came) → tree.get key_cmp m.spans q ≡ Some c
       → has_id w (ids_known app trace m q) ≡ (has_id w c.carried || has_id w (ids_since app trace c.since.items))
   has_known m q c is =
       ap (λ found. has_id w (option_map_or (came_ids app trace) found [])) is ∙ has_append w c.carried (ids_since app trace c.since.items)
@@ -42,9 +42,9 @@ module _ (app : App) (trace : List Entry) (w : WriteId) where
       ∙ ap (λ (t : Bool). has_id w (ids_since app trace since) || t) (has_append w (brought_at app trace index) [])
 
   -- the entry was added to those since
-  module _ (m n : AllCame) (key : Key) (c d : Came) (index : ℕ) (updates : tree.Updates key_cmp m.spans n.spans key (Some d))
+  module _ (m n : AllCame) (key : SpanKey) (c d : Came) (index : ℕ) (updates : tree.Updates key_cmp m.spans n.spans key (Some d))
       (was : tree.get key_cmp m.spans key ≡ Some c) (carried : d.carried ≡ c.carried) (since : d.since.items ≡ c.since.items ++ index ∷ []) where
-    pub grown : (q : Key) → has_id w (ids_known app trace n q) ≡ (has_id w (ids_known app trace m q) || same_key key q && has_id w (brought_at app trace index))
+    pub grown : (q : SpanKey) → has_id w (ids_known app trace n q) ≡ (has_id w (ids_known app trace m q) || same_key key q && has_id w (brought_at app trace index))
     grown q = by_test (same_key key q) refl
       where
         by_test : (t : Bool) → same_key key q ≡ t
@@ -58,11 +58,11 @@ module _ (app : App) (trace : List Entry) (w : WriteId) where
             ∙ ap (λ (is : List ℕ). has_id w c.carried || has_id w (ids_since app trace is)) since
             ∙ ap (λ (t : Bool). has_id w c.carried || t) (since_more c.since.items index)
             ∙ or_again (has_id w c.carried) (has_id w (ids_since app trace c.since.items)) (has_id w (brought_at app trace index))
-            ∙ ap (λ (t : Bool). t || has_id w (brought_at app trace index)) (sym (has_known m q c (subst (λ (k : Key). tree.get key_cmp m.spans k ≡ Some c) same was)))
+            ∙ ap (λ (t : Bool). t || has_id w (brought_at app trace index)) (sym (has_known m q c (subst (λ (k : SpanKey). tree.get key_cmp m.spans k ≡ Some c) same was)))
 
   -- it is the first of its span
-  module _ (m n : AllCame) (key : Key) (index : ℕ) (none : tree.get key_cmp m.spans key ≡ None) where
-    pub begun : (q : Key) → ids_known app trace n q ≡ cond (same_key key q) (brought_at app trace index ++ []) (ids_known app trace m q)
+  module _ (m n : AllCame) (key : SpanKey) (index : ℕ) (none : tree.get key_cmp m.spans key ≡ None) where
+    pub begun : (q : SpanKey) → ids_known app trace n q ≡ cond (same_key key q) (brought_at app trace index ++ []) (ids_known app trace m q)
         → has_id w (ids_known app trace n q) ≡ (has_id w (ids_known app trace m q) || same_key key q && has_id w (brought_at app trace index))
     begun q is = ap (has_id w) is ∙ by_test (same_key key q) refl
       where
@@ -72,5 +72,5 @@ module _ (app : App) (trace : List Entry) (w : WriteId) where
         by_test true on =
             let same : key ≡ q = same_key_is key q on in
             let nothing : has_id w (ids_known app trace m q) ≡ false =
-            ap (λ (k : Key). has_id w (ids_known app trace m k)) (sym same) ∙ ap (λ found. has_id w (option_map_or (came_ids app trace) found [])) none in
+            ap (λ (k : SpanKey). has_id w (ids_known app trace m k)) (sym same) ∙ ap (λ found. has_id w (option_map_or (came_ids app trace) found [])) none in
             has_alone w (brought_at app trace index) ∙ ap (λ (t : Bool). t || has_id w (brought_at app trace index)) (sym nothing)

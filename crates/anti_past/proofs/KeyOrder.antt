@@ -8,12 +8,12 @@ use Rattle.std.specs.Ordering.{is_eq, nat_cmp, ordering_then}
 use Rattle.std.proofs.lemmas.Bool.{ltb-true}
 use Rattle.std.proofs.lemmas.Cmp.{nat_cmp_total, on_total, then_total, tied_itself}
 use Rattle.std.proofs.lemmas.Map.Lookups.{exact_unsigned}
-use Rattle.anti_past.specs.declared.keys.Key.{Key}
+use Rattle.anti_past.specs.declared.span_keys.SpanKey.{SpanKey}
 use Rattle.anti_past.specs.Spans.{IsBefore}
 use Rattle.anti_past.specs.inner.Keys.{key_cmp, same_key, span_of}
 
 pub key_total : IsTotalOrder key_cmp
-key_total = then_total (on_total (λ (k : Key). k.object) nat_cmp_total) (then_total (on_total (λ (k : Key). k.place) nat_cmp_total) (on_total (λ (k : Key). k.span) nat_cmp_total))
+key_total = then_total (on_total (λ (k : SpanKey). k.object) nat_cmp_total) (then_total (on_total (λ (k : SpanKey). k.place) nat_cmp_total) (on_total (λ (k : SpanKey). k.span) nat_cmp_total))
 
 -- ---- keys that tie are the same
 
@@ -22,10 +22,10 @@ then_ties Less b e = absurd (cc)
 then_ties Equal b e = (refl, e)
 then_ties Greater b e = absurd (cc)
 
-abbrev key_at : ℕ → ℕ → ℕ → Key
+abbrev key_at : ℕ → ℕ → ℕ → SpanKey
 key_at object place span = record { object = object; place = place; span = span }
 
-pub same_from_tie : (a b : Key) → key_cmp a b ≡ Equal → a ≡ b
+pub same_from_tie : (a b : SpanKey) → key_cmp a b ≡ Equal → a ≡ b
 same_from_tie a b tie =
     let first = then_ties (nat_cmp a.object b.object) (ordering_then (nat_cmp a.place b.place) (nat_cmp a.span b.span)) tie in
     let later = then_ties (nat_cmp a.place b.place) (nat_cmp a.span b.span) first.1 in
@@ -33,10 +33,10 @@ same_from_tie a b tie =
     ∙ ap (λ (x : ℕ). key_at b.object x a.span) (exact_unsigned a.place b.place later.0)
     ∙ ap (λ (x : ℕ). key_at b.object b.place x) (exact_unsigned a.span b.span later.1)
 
-pub same_key_is : (a b : Key) → same_key a b ≡ true → a ≡ b
+pub same_key_is : (a b : SpanKey) → same_key a b ≡ true → a ≡ b
 same_key_is a b same = same_from_tie a b ((Equal-is (key_cmp a b)).0 same)
 
-pub same_key_itself : (a : Key) → same_key a a ≡ true
+pub same_key_itself : (a : SpanKey) → same_key a a ≡ true
 same_key_itself a = ap is_eq (tied_itself key_total a)
 
 -- ---- the order of keys is that of spans
@@ -57,7 +57,7 @@ less_is x y less = by_test (nat_lt x y) refl less
     by_test true low is = ltb-true x y low
     by_test false low is = of_rest (x == y) is
 
-pub before_is : (a b : Key) → key_cmp a b ≡ Less → IsBefore (span_of a) (span_of b)
+pub before_is : (a b : SpanKey) → key_cmp a b ≡ Less → IsBefore (span_of a) (span_of b)
 before_is a b less =
     elim (then_less (nat_cmp a.object b.object) (ordering_then (nat_cmp a.place b.place) (nat_cmp a.span b.span)) less) [
       | inl object ↦ inl (less_is a.object b.object object)

@@ -13,15 +13,15 @@ use Rattle.anti_ids.specs.declared.id.WriteId.{WriteId}
 use Rattle.anti_kind.specs.declared.entry.Entry.{Entry}
 use Rattle.anti_app.specs.declared.app.App.{App}
 use Rattle.anti_trace.specs.Legal.{IsLegalTrace}
-use Rattle.anti_causal.specs.Words.{brings, hands_all}
-use Rattle.anti_causal.specs.Causal.{is_process}
-use Rattle.anti_causal.specs.Carried.{Brought, IsLossless, carried_at}
-use Rattle.anti_causal.proofs.Ids.{has_append, has_joined}
-use Rattle.anti_causal.proofs.Lists.{IsKept, cut_of, kept_at, kept_between, same_at}
-use Rattle.anti_causal.proofs.Processes.{came}
+use Rattle.law_causal.specs.Words.{brings, hands_all}
+use Rattle.law_causal.specs.Causal.{is_process}
+use Rattle.law_causal.specs.Carried.{Brought, IsLossless, carried_at}
+use Rattle.law_causal.proofs.Ids.{has_append, has_joined}
+use Rattle.law_causal.proofs.Lists.{IsKept, cut_of, kept_at, kept_between, same_at}
+use Rattle.law_causal.proofs.Processes.{came}
 use Rattle.anti_past.specs.Losses.{Loses}
 use Rattle.anti_past.specs.declared.came.AllCame.{AllCame}
-use Rattle.anti_past.specs.declared.keys.Key.{Key}
+use Rattle.anti_past.specs.declared.span_keys.SpanKey.{SpanKey}
 use Rattle.anti_past.specs.inner.Came.{IsKnown, NoneLoses, brought_at, came_to, holds, ids_known}
 use Rattle.anti_past.specs.inner.Keys.{is_in, key_of, same_key}
 use Rattle.anti_past.proofs.Fronts.{taken}
@@ -33,17 +33,17 @@ use Rattle.anti_past.proofs.KeyOrder.{same_key_is}
 module _ (app : App) (trace : List Entry) (k : ℕ) (e : Entry) (at : slice_get trace k ≡ Some e) where
   -- ---- what came to a span
 
-  came_behind : (q : Key) (xs ys : List Entry) → came_to app q (xs ++ ys) ≡ came_to app q xs ++ came_to app q ys
+  came_behind : (q : SpanKey) (xs ys : List Entry) → came_to app q (xs ++ ys) ≡ came_to app q xs ++ came_to app q ys
   came_behind q xs ys = ap (flat_map (brings app)) (filter-append (is_in q) xs ys) ∙ flat_map-append (brings app) (filter (is_in q) xs) (filter (is_in q) ys)
 
-  came_alone : (q : Key) (w : WriteId) → has_id w (came_to app q (e ∷ [])) ≡ (is_in q e && has_id w (brings app e))
+  came_alone : (q : SpanKey) (w : WriteId) → has_id w (came_to app q (e ∷ [])) ≡ (is_in q e && has_id w (brings app e))
   came_alone q w = by_test (is_in q e)
     where
       by_test : (t : Bool) → has_id w (flat_map (brings app) (cond t (e ∷ []) [])) ≡ (t && has_id w (brings app e))
       by_test true = has_alone w (brings app e)
       by_test false = refl
 
-  came_more : (q : Key) (w : WriteId) → has_id w (came_to app q (take (k + 1) trace)) ≡ (has_id w (came_to app q (take k trace)) || is_in q e && has_id w (brings app e))
+  came_more : (q : SpanKey) (w : WriteId) → has_id w (came_to app q (take (k + 1) trace)) ≡ (has_id w (came_to app q (take k trace)) || is_in q e && has_id w (brings app e))
   came_more q w =
       ap (λ (es : List Entry). has_id w (came_to app q es)) (taken trace k e at)
       ∙ ap (has_id w) (came_behind q (take k trace) (e ∷ []))
@@ -71,9 +71,9 @@ module _ (app : App) (trace : List Entry) (k : ℕ) (e : Entry) (at : slice_get 
   pub unchecked_lost : hands_all e.call ≡ false → Loses app trace k e → ⊥
   unchecked_lost off loses = let on = loses.hands in absurd (let both : false ≡ true = sym off ∙ on in cc)
 
-  module _ (key : Key) (is : key_of e ≡ Some key) where
+  module _ (key : SpanKey) (is : key_of e ≡ Some key) where
     pub added_known : (old new : AllCame) → IsKnown app trace k old
-        → ((q : Key) (w : WriteId) → has_id w (ids_known app trace new q) ≡ (has_id w (ids_known app trace old q) || same_key key q && has_id w (brought_at app trace k)))
+        → ((q : SpanKey) (w : WriteId) → has_id w (ids_known app trace new q) ≡ (has_id w (ids_known app trace old q) || same_key key q && has_id w (brought_at app trace k)))
         → IsKnown app trace (k + 1) new
     added_known old new known adds q w =
         adds q w
@@ -135,7 +135,7 @@ module _ (app : App) (trace : List Entry) (k : ℕ) (e : Entry) (at : slice_get 
             (came_held w)
 
         pub held_known : IsLegalTrace app trace → (new : AllCame)
-            → ((q : Key) → ids_known app trace new q ≡ cond (same_key key q) (carried ++ (brought_at app trace k ++ [])) (ids_known app trace all q))
+            → ((q : SpanKey) → ids_known app trace new q ≡ cond (same_key key q) (carried ++ (brought_at app trace k ++ [])) (ids_known app trace all q))
             → IsKnown app trace (k + 1) new
         held_known legal new sets q w =
             ap (has_id w) (sets q)
@@ -151,7 +151,7 @@ module _ (app : App) (trace : List Entry) (k : ℕ) (e : Entry) (at : slice_get 
                 let same : key ≡ q = same_key_is key q on in
                 has_append w carried (brought_at app trace k ++ [])
                 ∙ ap (λ (t : Bool). has_id w carried || t) (has_alone w (brought_at app trace k) ∙ its_ids w)
-                ∙ ap (λ (t : Bool). t || has_id w (brings app e)) (all_held legal w ∙ ap (λ (z : Key). has_id w (came_to app z (take k trace))) same)
+                ∙ ap (λ (t : Bool). t || has_id w (brings app e)) (all_held legal w ∙ ap (λ (z : SpanKey). has_id w (came_to app z (take k trace))) same)
 
   -- ---- the entries so far
 

@@ -6,8 +6,8 @@ use Rattle.anti_kind.specs.declared.entry.Entry.{Entry}
 use Rattle.anti_app.specs.declared.app.App.{App}
 use Rattle.anti_trace.specs.Legal.{IsLegalTrace}
 use Rattle.anti_trace.specs.Traces.{entries_on, is_on}
-use Rattle.anti_causal.proofs.Lists.{kept_between}
-use Rattle.anti_causal.proofs.Places.{comes, there}
+use Rattle.law_causal.proofs.Lists.{kept_between}
+use Rattle.law_causal.proofs.Places.{comes, there}
 
 module _ (app : App) (trace : List Entry) (legal : IsLegalTrace app trace) where
   -- an entry is behind those before it in the history of its object

@@ -8,9 +8,9 @@ use Rattle.anti_ids.specs.declared.id.WriteId.{WriteId}
 use Rattle.anti_kind.specs.declared.entry.Entry.{Entry}
 use Rattle.anti_app.specs.declared.app.App.{App}
 use Rattle.anti_app.specs.Objects.{is_store_here}
-use Rattle.anti_causal.specs.Carried.{carried_at}
-use Rattle.anti_causal.specs.Settled.{IsSettled, Looked, found_in, region_named}
-use Rattle.anti_past.specs.declared.keys.Key.{Key}
+use Rattle.law_causal.specs.Carried.{carried_at}
+use Rattle.law_causal.specs.Settled.{IsSettled, Looked, found_in, region_named}
+use Rattle.anti_past.specs.declared.span_keys.SpanKey.{SpanKey}
 use Rattle.anti_past.specs.inner.Found.{finds}
 use Rattle.anti_past.specs.inner.Keys.{is_in, key_of}
 use Rattle.anti_past.specs.inner.Looking.{all_pass, passes}
@@ -49,7 +49,7 @@ pass false found each = refl
 
 -- ---- a read, by what the looks of its span found before it
 
-module _ (trace : List Entry) (j : ℕ) (e : Entry) (q : Key) (is : key_of e ≡ Some q) (w : WriteId) where
+module _ (trace : List Entry) (j : ℕ) (e : Entry) (q : SpanKey) (is : key_of e ≡ Some q) (w : WriteId) where
   looked : list_any (finds q w) (take j trace) ≡ true → Looked trace j e w
   looked found =
       let (i, a, early, there, holds) = any_at (finds q w) trace j found in
@@ -61,7 +61,7 @@ module _ (trace : List Entry) (j : ℕ) (e : Entry) (q : Key) (is : key_of e ≡
       at_any (finds q w) trace j l.place l.entry l.earlier.before l.there
       (and_from (is_in q l.entry) (has_id w (found_in l.entry.call l.entry.reply)) (earlier_in q l.place l.entry j e is l.earlier) l.found)
 
-module _ (app : App) (trace : List Entry) (j : ℕ) (e : Entry) (q : Key) (is : key_of e ≡ Some q)
+module _ (app : App) (trace : List Entry) (j : ℕ) (e : Entry) (q : SpanKey) (is : key_of e ≡ Some q)
     (found : WriteId → Bool) (are : (w : WriteId) → found w ≡ list_any (finds q w) (take j trace)) where
   abbrev here : WriteId → Bool
   here w = is_store_here app (region_named e.call) w.store

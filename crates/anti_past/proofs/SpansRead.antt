@@ -15,11 +15,11 @@ use Rattle.std.proofs.lemmas.Map.Keys.{Less-from_sorted}
 use Rattle.std.proofs.lemmas.Map.Made.{is_some-lookup}
 use Rattle.std.proofs.lemmas.Map.Views.{All-found, Contains-from_any, list_any-from_Contains}
 use Rattle.anti_kind.specs.declared.entry.Entry.{Entry}
-use Rattle.anti_causal.specs.Reads.{is_at, reads_of}
+use Rattle.law_causal.specs.Reads.{is_at, reads_of}
 use Rattle.anti_past.specs.Spans.{AreReadsBySpan, AreSpansOf, IsBefore, has_read}
-use Rattle.anti_past.specs.declared.keys.Key.{Key}
-use Rattle.anti_past.specs.declared.reading.ReadsOfSpan.{ReadsOfSpan}
-use Rattle.anti_past.specs.declared.reading.Span.{Span}
+use Rattle.anti_past.specs.declared.span_keys.SpanKey.{SpanKey}
+use Rattle.anti_past.specs.declared.span_reads.ReadsOfSpan.{ReadsOfSpan}
+use Rattle.anti_past.specs.declared.span_reads.Span.{Span}
 use Rattle.anti_past.specs.inner.Keys.{is_read_in, key_cmp, same_key, span_of}
 use Rattle.anti_past.specs.inner.Reading.{AreNoted, filled, noted_for, reads_before, reads_under, with_place}
 use Rattle.anti_past.proofs.Fronts.{any_more}
@@ -28,10 +28,10 @@ use Rattle.anti_past.proofs.KeyOrder.{before_is, key_total, same_key_is}
 
 -- ---- the spans of keys
 
-abbrev key_for : Span → Key
+abbrev key_for : Span → SpanKey
 key_for s = record { object = s.birth.object; place = s.birth.place; span = s.span }
 
-module _ (keys : List Key) where
+module _ (keys : List SpanKey) where
   span_at : (i : ℕ) (s : Span) → i < length keys → get_or (map span_of keys) i s ≡ span_of (get_or keys i (key_for s))
   span_at i s low = get_or-map span_of keys i (key_for s) s low
 
@@ -47,7 +47,7 @@ module _ (keys : List Key) where
       (i, omega arith, span_at i s low ∙ ap span_of is)
 
   are_spans : (trace : List Entry) → IsStrictlySortedBy key_cmp keys
-      → ((q : Key) → list_any (eq_by_cmp key_cmp q) keys ≡ list_any (is_read_in q) trace) → AreSpansOf trace (map span_of keys)
+      → ((q : SpanKey) → list_any (eq_by_cmp key_cmp q) keys ≡ list_any (is_read_in q) trace) → AreSpansOf trace (map span_of keys)
   are_spans trace ordered found = record {
     ascending = λ i j s less low.
         let count : length (map span_of keys) ≡ length keys = length-map keys span_of in
@@ -72,7 +72,7 @@ range_more k =
     ∙ ap (λ (is : List ℕ). is ++ k ∷ []) (map-id (range_with_len 0 k))
 
 -- one entry more
-module _ (trace : List Entry) (k : ℕ) (e : Entry) (at : slice_get trace k ≡ Some e) (q : Key) where
+module _ (trace : List Entry) (k : ℕ) (e : Entry) (at : slice_get trace k ≡ Some e) (q : SpanKey) where
   pub reads_more : reads_before trace (k + 1) q ≡ reads_before trace k q ++ cond (is_read_in q e) (k ∷ []) []
   reads_more =
       ap (filter (is_at (is_read_in q) trace)) (range_more k)
@@ -93,8 +93,8 @@ some_more false k None = refl
 some_more false k (Some is) = refl
 
 -- one entry more
-pub noted_more : (trace : List Entry) (k : ℕ) (e : Entry) → slice_get trace k ≡ Some e → (old new : tree.BTreeMap Key (Vec ℕ)) → AreNoted trace k old
-    → ((q : Key) → noted_for new q ≡ with_place (is_read_in q e) k (noted_for old q)) → AreNoted trace (k + 1) new
+pub noted_more : (trace : List Entry) (k : ℕ) (e : Entry) → slice_get trace k ≡ Some e → (old new : tree.BTreeMap SpanKey (Vec ℕ)) → AreNoted trace k old
+    → ((q : SpanKey) → noted_for new q ≡ with_place (is_read_in q e) k (noted_for old q)) → AreNoted trace (k + 1) new
 noted_more trace k e at old new noted adds = record {
   places = λ q.
       adds q
@@ -109,8 +109,8 @@ noted_more trace k e at old new noted adds = record {
 }
 
 -- the first place of a span
-pub noted_first : (m n : tree.BTreeMap Key (Vec ℕ)) (key : Key) (reads : Vec ℕ) (is : List ℕ) → reads.items ≡ is → tree.Updates key_cmp m n key (Some reads)
-    → (q : Key) → noted_for n q ≡ cond (same_key key q) (Some is) (noted_for m q)
+pub noted_first : (m n : tree.BTreeMap SpanKey (Vec ℕ)) (key : SpanKey) (reads : Vec ℕ) (is : List ℕ) → reads.items ≡ is → tree.Updates key_cmp m n key (Some reads)
+    → (q : SpanKey) → noted_for n q ≡ cond (same_key key q) (Some is) (noted_for m q)
 noted_first m n key reads is same updates q =
     ap (option_map (λ (v : Vec ℕ). v.items)) (updates.0 q) ∙ by_test (same_key key q) (tree.get key_cmp m q)
   where
@@ -118,8 +118,8 @@ noted_first m n key reads is same updates q =
     by_test true was = ap Some same
     by_test false was = refl
 
-module _ (m n : tree.BTreeMap Key (Vec ℕ)) (key : Key) (e : Entry) (k : ℕ) (read : (q : Key) → is_read_in q e ≡ same_key key q) where
-  pub noted_new : noted_for m key ≡ None → (q : Key) → noted_for n q ≡ cond (same_key key q) (Some (k ∷ [])) (noted_for m q)
+module _ (m n : tree.BTreeMap SpanKey (Vec ℕ)) (key : SpanKey) (e : Entry) (k : ℕ) (read : (q : SpanKey) → is_read_in q e ≡ same_key key q) where
+  pub noted_new : noted_for m key ≡ None → (q : SpanKey) → noted_for n q ≡ cond (same_key key q) (Some (k ∷ [])) (noted_for m q)
       → noted_for n q ≡ with_place (is_read_in q e) k (noted_for m q)
   noted_new none q is = is ∙ by_test (same_key key q) refl ∙ ap (λ (t : Bool). with_place t k (noted_for m q)) (sym (read q))
     where
@@ -129,7 +129,7 @@ module _ (m n : tree.BTreeMap Key (Vec ℕ)) (key : Key) (e : Entry) (k : ℕ) (
 
   -- and a further one
   pub noted_further : (was now : Vec ℕ) → tree.get key_cmp m key ≡ Some was → now.items ≡ was.items ++ k ∷ [] → tree.Updates key_cmp m n key (Some now)
-      → (q : Key) → noted_for n q ≡ with_place (is_read_in q e) k (noted_for m q)
+      → (q : SpanKey) → noted_for n q ≡ with_place (is_read_in q e) k (noted_for m q)
   noted_further was now there more updates q =
       noted_first m n key now (was.items ++ k ∷ []) more updates q
       ∙ by_test (same_key key q) refl
@@ -138,7 +138,7 @@ module _ (m n : tree.BTreeMap Key (Vec ℕ)) (key : Key) (e : Entry) (k : ℕ) (
       by_test : (t : Bool) → same_key key q ≡ t → cond t (Some (was.items ++ k ∷ [])) (noted_for m q) ≡ with_place t k (noted_for m q)
       by_test true on =
           ap (λ found. with_place true k (option_map (λ (v : Vec ℕ). v.items) found)) (sym there)
-          ∙ ap (λ (z : Key). with_place true k (noted_for m z)) (same_key_is key q on)
+          ∙ ap (λ (z : SpanKey). with_place true k (noted_for m z)) (same_key_is key q on)
       by_test false off = refl
 
 -- ---- the entries of the map are the spans and their reads
@@ -151,19 +151,19 @@ some_of : (found : Option (Vec ℕ)) → is_some (option_map (λ (v : Vec ℕ). 
 some_of None = refl
 some_of (Some v) = refl
 
-spans_under : (es : List (Key × Vec ℕ)) → map (λ (s : ReadsOfSpan). s.span) (map reads_under es) ≡ map span_of (map (λ e. e.0) es)
+spans_under : (es : List (SpanKey × Vec ℕ)) → map (λ (s : ReadsOfSpan). s.span) (map reads_under es) ≡ map span_of (map (λ e. e.0) es)
 spans_under [] = refl
 spans_under (e ∷ es) = ap (λ (ss : List Span). span_of e.0 ∷ ss) (spans_under es)
 
-module _ (trace : List Entry) (n : ℕ) (m : tree.BTreeMap Key (Vec ℕ)) (whole : length trace ≡ n) (ordered : tree.IsOrdered key_cmp m) (noted : AreNoted trace n m) where
-  has_key : (q : Key) → list_any (eq_by_cmp key_cmp q) (tree.keys m) ≡ list_any (is_read_in q) trace
+module _ (trace : List Entry) (n : ℕ) (m : tree.BTreeMap SpanKey (Vec ℕ)) (whole : length trace ≡ n) (ordered : tree.IsOrdered key_cmp m) (noted : AreNoted trace n m) where
+  has_key : (q : SpanKey) → list_any (eq_by_cmp key_cmp q) (tree.keys m) ≡ list_any (is_read_in q) trace
   has_key q =
       sym (is_some-lookup (eq_by_cmp key_cmp q) m.entries)
       ∙ sym (some_of (tree.get key_cmp m q))
       ∙ noted.any q
       ∙ ap (list_any (is_read_in q)) (take_all n trace (omega arith))
 
-  its_reads : (e : Key × Vec ℕ) → tree.get key_cmp m e.0 ≡ Some e.1 → e.1.items ≡ reads_of trace (span_of e.0).birth (span_of e.0).span
+  its_reads : (e : SpanKey × Vec ℕ) → tree.get key_cmp m e.0 ≡ Some e.1 → e.1.items ≡ reads_of trace (span_of e.0).birth (span_of e.0).span
   its_reads e found =
       is_filled (reads_before trace n e.0) e.1.items (sym (ap (option_map (λ (v : Vec ℕ). v.items)) found) ∙ noted.places e.0)
       ∙ λ i. filter (is_at (read_in_is e.0 i) trace) (range_with_len 0 (sym whole i))
@@ -172,6 +172,6 @@ module _ (trace : List Entry) (n : ℕ) (m : tree.BTreeMap Key (Vec ℕ)) (whole
   are_reads_by_span = record {
     spans = subst (AreSpansOf trace) (sym (spans_under m.entries)) (are_spans (tree.keys m) trace ordered has_key);
     reads = All-map (λ (s : ReadsOfSpan). s.reads.items ≡ reads_of trace s.span.birth s.span.span) reads_under m.entries
-        (All-weaker (λ (e : Key × Vec ℕ). tree.get key_cmp m e.0 ≡ Some e.1) (λ e. (reads_under e).reads.items ≡ reads_of trace (span_of e.0).birth (span_of e.0).span)
+        (All-weaker (λ (e : SpanKey × Vec ℕ). tree.get key_cmp m e.0 ≡ Some e.1) (λ e. (reads_under e).reads.items ≡ reads_of trace (span_of e.0).birth (span_of e.0).span)
         its_reads m.entries (All-found key_total m ordered));
   }

@@ -8,13 +8,13 @@ use Rattle.std.proofs.Math.Seq.{get_or-append_seam}
 use Rattle.anti_kind.specs.declared.entry.Entry.{Entry}
 use Rattle.anti_app.specs.declared.app.App.{App}
 use Rattle.anti_trace.specs.Legal.{IsLegalTrace}
-use Rattle.anti_causal.specs.Carried.{carried_at}
-use Rattle.anti_causal.specs.Settled.{region_named}
-use Rattle.anti_causal.proofs.Processes.{hands_asked}
+use Rattle.law_causal.specs.Carried.{carried_at}
+use Rattle.law_causal.specs.Settled.{region_named}
+use Rattle.law_causal.proofs.Processes.{hands_asked}
 use Rattle.anti_past.specs.Pasts.{ArePastsOf, IsPastOf}
 use Rattle.anti_past.specs.declared.before_reads.Past.{Past}
-use Rattle.anti_past.specs.declared.found.Found.{Found}
-use Rattle.anti_past.specs.declared.keys.Key.{Key}
+use Rattle.anti_past.specs.declared.finds.Finds.{Finds}
+use Rattle.anti_past.specs.declared.span_keys.SpanKey.{SpanKey}
 use Rattle.anti_past.specs.inner.Found.{AreFound, has_found}
 use Rattle.anti_past.specs.inner.Keys.{read_key}
 use Rattle.anti_past.specs.inner.Looking.{all_pass}
@@ -46,7 +46,7 @@ module _ (app : App) (trace : List Entry) (k : ℕ) (e : Entry) where
   none_told legal at none = no_read e none (λ is. let asked = hands_asked app trace legal k e at (read_hands e.call is) in asked.process)
 
   -- and a read
-  pub read_told : (q : Key) → read_key e ≡ Some q → (found : Found) → AreFound (take k trace) found → (past : Past)
+  pub read_told : (q : SpanKey) → read_key e ≡ Some q → (found : Finds) → AreFound (take k trace) found → (past : Past)
       → past.carried ≡ carried_at app trace k e
       → past.settled ≡ all_pass app (region_named e.call) (has_found found q) (carried_at app trace k e) → IsPastOf app trace k e (Some past)
   read_told q is found are past carried settled =

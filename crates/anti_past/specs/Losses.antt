@@ -5,8 +5,8 @@ use Rattle.anti_ids.specs.declared.id.WriteId.{WriteId}
 use Rattle.anti_kind.specs.declared.entry.Entry.{Entry}
 use Rattle.anti_app.specs.declared.app.App.{App}
 use Rattle.anti_trace.specs.declared.mark.Mark.{Mark}
-use Rattle.anti_causal.specs.Words.{hands_all}
-use Rattle.anti_causal.specs.Carried.{Brought, IsLossless, carried_at}
+use Rattle.law_causal.specs.Words.{hands_all}
+use Rattle.law_causal.specs.Carried.{Brought, IsLossless, carried_at}
 
 -- At the entry e, at place j, which is a write, a read, a look or a post, its process does not carry an id that came to the span before.
 pub record Loses (app : App) (trace : List Entry) (j : ℕ) (e : Entry) : Type 0 where

@@ -2,9 +2,9 @@
 use Rattle.std.specs.Prelude.{ℕ, ◌≡◌, ◌↔◌, true, false, List, Option, None, Some, length, slice_get}
 use Rattle.anti_kind.specs.declared.entry.Entry.{Entry}
 use Rattle.anti_app.specs.declared.app.App.{App}
-use Rattle.anti_causal.specs.Words.{reads}
-use Rattle.anti_causal.specs.Carried.{carried_at}
-use Rattle.anti_causal.specs.Settled.{IsSettled}
+use Rattle.law_causal.specs.Words.{reads}
+use Rattle.law_causal.specs.Carried.{carried_at}
+use Rattle.law_causal.specs.Settled.{IsSettled}
 use Rattle.anti_past.specs.declared.before_reads.Past.{Past}
 
 -- what is told of the entry e, at place j: of a read what is carried into it, and whether it is settled

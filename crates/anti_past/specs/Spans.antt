@@ -2,9 +2,9 @@
 use Rattle.std.specs.Prelude.{◌≡◌, ◌↔◌, ◌<◌, ◌⊎◌, Bool, true, List, map, All, Contains, AllPairs}
 use Rattle.std.specs.List.{list_any}
 use Rattle.anti_kind.specs.declared.entry.Entry.{Entry}
-use Rattle.anti_causal.specs.Reads.{is_read_of, reads_of}
-use Rattle.anti_past.specs.declared.reading.ReadsOfSpan.{ReadsOfSpan}
-use Rattle.anti_past.specs.declared.reading.Span.{Span}
+use Rattle.law_causal.specs.Reads.{is_read_of, reads_of}
+use Rattle.anti_past.specs.declared.span_reads.ReadsOfSpan.{ReadsOfSpan}
+use Rattle.anti_past.specs.declared.span_reads.Span.{Span}
 
 abbrev pub has_read : List Entry → Span → Bool
 has_read trace s = list_any (is_read_of s.birth s.span) trace

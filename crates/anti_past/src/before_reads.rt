@@ -7,10 +7,10 @@ ghost use Rattle.anti_past.specs.Pasts.{IsPastOf};
 ghost use Rattle.anti_past.specs.inner.Found.{AreFound};
 
 use crate::calls::region_named;
-use crate::found::Found;
-use crate::keys::read_key;
-use crate::passing::all_pass;
-use crate::walk::carried_into;
+use crate::finds::Finds;
+use crate::look_passes::all_pass;
+use crate::processes_before::carried_into;
+use crate::span_keys::read_key;
 use anti_app::App;
 use anti_ids::{Copies, Lineage, NoMemory};
 use anti_trace::{Processes, Trace};
@@ -30,7 +30,7 @@ pub fn past_at(
     trace: &Trace,
     index: u32,
     processes: &Processes,
-    found: &Found,
+    found: &Finds,
 ) -> Result<Option<Past>, NoMemory>
     requires sound { IsTrue (is_sound app.now) }
     requires legal { IsLegalTrace app.now trace.now }

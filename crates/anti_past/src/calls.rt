@@ -1,7 +1,7 @@
 ghost use Rattle.std.specs.Prelude.{◌≡◌, []};
 ghost use Rattle.std.specs.Option.{option_map_or};
-ghost use Rattle.anti_causal.specs.Settled.{found_in, region_named};
-ghost use Rattle.anti_causal.specs.Words.{hands_all, reads};
+ghost use Rattle.law_causal.specs.Settled.{found_in, region_named};
+ghost use Rattle.law_causal.specs.Words.{hands_all, reads};
 ghost use Rattle.anti_past.specs.inner.Looking.{names_none};
 
 use anti_ids::Lineage;

@@ -6,10 +6,10 @@ ghost use Rattle.anti_app.specs.declared.app.App.{App};
 ghost use Rattle.anti_app.specs.Sound.{is_sound};
 ghost use Rattle.anti_past.specs.inner.Came.{brought_at, came_ids, holds, ids_known};
 ghost use Rattle.anti_past.specs.inner.Keys.{same_key};
-ghost use Rattle.anti_past.specs.declared.keys.Key.{Key};
+ghost use Rattle.anti_past.specs.declared.span_keys.SpanKey.{SpanKey};
 
-use crate::holding::{holds_all, holds_since};
-use crate::keys::Key;
+use crate::holds::{holds_all, holds_since};
+use crate::span_keys::SpanKey;
 use anti_app::App;
 use anti_ids::{Lineage, NoMemory};
 use anti_trace::Trace;
@@ -27,7 +27,7 @@ pub struct Came {
 /// What came to the spans of a trace.
 #[derive(Drop)]
 pub struct AllCame {
-    pub(crate) spans: BTreeMap<Key, Came>,
+    pub(crate) spans: BTreeMap<SpanKey, Came>,
 }
 
 // What one entry brings, behind what was carried into it.
@@ -64,7 +64,7 @@ impl Came {
 impl AllCame {
     /// Nothing came to any span.
     pub fn new(alloc: Global) -> AllCame
-        ensures { (app : App) (trace : List Entry) (q : Key) → ids_known app trace result q ≡ [] }
+        ensures { (app : App) (trace : List Entry) (q : SpanKey) → ids_known app trace result q ≡ [] }
     {
         AllCame {
             spans: BTreeMap::new(alloc),
@@ -77,7 +77,7 @@ impl AllCame {
         alloc: Global,
         app: &App,
         trace: &Trace,
-        key: &Key,
+        key: &SpanKey,
         lineage: &Lineage,
     ) -> Result<bool, NoMemory>
         requires { IsTrue (is_sound app.now) }
@@ -90,8 +90,8 @@ impl AllCame {
     }
 
     /// Adds the index of an entry, which brings what comes to its span.
-    pub fn add(&mut self, alloc: Global, key: Key, index: u32) -> Result<(), NoMemory>
-        ensures { (app : App) (trace : List Entry) (q : Key) (w : WriteId)
+    pub fn add(&mut self, alloc: Global, key: SpanKey, index: u32) -> Result<(), NoMemory>
+        ensures { (app : App) (trace : List Entry) (q : SpanKey) (w : WriteId)
             → OnOk result (has_id w (ids_known app trace self.new q)
             ≡ (has_id w (ids_known app trace self.old q) || (same_key key q && has_id w (brought_at app trace index)))) }
     {
@@ -108,11 +108,11 @@ impl AllCame {
     pub fn set(
         &mut self,
         alloc: Global,
-        key: Key,
+        key: SpanKey,
         carried: Lineage,
         index: u32,
     ) -> Result<(), NoMemory>
-        ensures { (app : App) (trace : List Entry) (q : Key)
+        ensures { (app : App) (trace : List Entry) (q : SpanKey)
             → OnOk result (ids_known app trace self.new q
             ≡ cond (same_key key q) (carried ++ (brought_at app trace index ++ [])) (ids_known app trace self.old q)) }
     {

@@ -8,8 +8,8 @@ ghost use Rattle.anti_past.specs.inner.Came.{IsKnown, IsToldLoss};
 
 use crate::calls::hands_all;
 use crate::came::AllCame;
-use crate::keys::key_of;
-use crate::walk::carried_into;
+use crate::processes_before::carried_into;
+use crate::span_keys::key_of;
 use anti_app::{App, object_count};
 use anti_ids::{Copies, NoMemory};
 use anti_trace::{Mark, Processes, Trace};

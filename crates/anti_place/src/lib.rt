@@ -5,9 +5,9 @@ mod body;
 mod doubt;
 mod fault;
 mod flow;
-mod naming;
 mod placement;
 mod reason;
+mod targets;
 
 pub use placement::{Placement, placed};
 pub use reason::Reason;

@@ -10,8 +10,8 @@ ghost use Rattle.anti_place.specs.inner.Told.{IsShort, or_later};
 
 use crate::body::first_fault;
 use crate::fault::Fault;
-use crate::naming::Target;
 use crate::reason::Reason;
+use crate::targets::Target;
 use anti_app::{App, HandlerDef};
 use anti_lang::Body;
 

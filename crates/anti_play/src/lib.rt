@@ -1,13 +1,13 @@
 //! Schedules: what the choices of an application make of its stores, inboxes and processes.
 #![tactic(auto)]
 
-mod building;
 mod finish;
+mod first_world;
 mod laws;
 mod player;
-mod tracing;
-mod waking;
 mod world;
+mod world_agenda;
+mod world_trace;
 
 pub use laws::{finish_completes, pulls_start_handlers};
 pub use player::{Played, play};

@@ -17,8 +17,8 @@ use Rattle.anti_shim.specs.declared.looks.PlannedLook.{PlannedLook}
 use Rattle.anti_app.specs.Objects.{inbox_of, store_number, stores_here}
 use Rattle.anti_proc.specs.declared.task.Duty.{Duty}
 use Rattle.anti_proc.specs.declared.task.Duty.TheVariants as duties
-use Rattle.anti_proc.specs.declared.variables.Held.{Held}
-use Rattle.anti_proc.specs.declared.variables.Held.TheVariants.{Wrote, Saw, Heard}
+use Rattle.anti_proc.specs.declared.variables.Binding.{Binding}
+use Rattle.anti_proc.specs.declared.variables.Binding.TheVariants.{Wrote, Saw, Heard}
 use Rattle.anti_proc.specs.declared.end.BodyEnd.{BodyEnd}
 use Rattle.anti_proc.specs.declared.end.BodyEnd.TheVariants.{BadKey, Depth, Fine, LineageFull}
 use Rattle.anti_proc.specs.Carrying.{OfEachCall}
@@ -62,7 +62,7 @@ module _ (Is : Ask → Type 0) where
   carried_on ids l go goes =
       let next : Local = record l { carried = ids } in either (nat_lt MOST_IDS (length ids)) (Ends LineageFull) (go next) tt (goes next)
 
-  wrote_on : (untracked : Bool) (held : Held) (l : Local) (go : Go) → GoesOn go → OfEachCall Is (wrote untracked held l go)
+  wrote_on : (untracked : Bool) (held : Binding) (l : Local) (go : Go) → GoesOn go → OfEachCall Is (wrote untracked held l go)
   wrote_on true held l go goes = goes l
   wrote_on false held l go goes = carried_on _ l go goes
 
@@ -76,7 +76,7 @@ module _ (Is : Ask → Type 0) where
     written : (store : ℕ) (variable : Option (List ℕ)) (untracked : Bool) (l : Local) (go : Go) → GoesOn go → (reply : Reply)
         → OfEachCall Is (after_write store variable untracked l go reply)
     written store variable untracked l go goes (replies.Written key version) =
-        let id : Held = Wrote (record { store = store; key = key; version = version }) in
+        let id : Binding = Wrote (record { store = store; key = key; version = version }) in
         wrote_on untracked id (set_or variable id l) go goes
     written store variable untracked l go goes reply = goes l
 

@@ -16,8 +16,8 @@ use Rattle.anti_app.specs.declared.app.App.{App}
 use Rattle.anti_app.specs.Objects.{inbox_of, store_number}
 use Rattle.anti_proc.specs.declared.task.Duty.{Duty}
 use Rattle.anti_proc.specs.declared.task.Duty.TheVariants as duties
-use Rattle.anti_proc.specs.declared.variables.Held.{Held}
-use Rattle.anti_proc.specs.declared.variables.Held.TheVariants.{Wrote, Saw, Heard}
+use Rattle.anti_proc.specs.declared.variables.Binding.{Binding}
+use Rattle.anti_proc.specs.declared.variables.Binding.TheVariants.{Wrote, Saw, Heard}
 use Rattle.anti_proc.specs.declared.end.BodyEnd.{BodyEnd}
 use Rattle.anti_proc.specs.declared.end.BodyEnd.TheVariants.{BadKey, Depth, Fine, LineageFull}
 use Rattle.anti_proc.specs.Barriers.{AllLookInARow, BeginsItsLooks, is_look, next_look}
@@ -64,14 +64,14 @@ carried_on : (ids : List WriteId) (l : Local) (go : Go) → GoesOn go → AllLoo
 carried_on ids l go goes =
     let next : Local = record l { carried = ids } in either (nat_lt MOST_IDS (length ids)) (Ends LineageFull) (go next) tt (goes next)
 
-wrote_on : (untracked : Bool) (held : Held) (l : Local) (go : Go) → GoesOn go → AllLookInARow (wrote untracked held l go)
+wrote_on : (untracked : Bool) (held : Binding) (l : Local) (go : Go) → GoesOn go → AllLookInARow (wrote untracked held l go)
 wrote_on true held l go goes = goes l
 wrote_on false held l go goes = carried_on _ l go goes
 
 written : (store : ℕ) (variable : Option (List ℕ)) (untracked : Bool) (l : Local) (go : Go) → GoesOn go → (reply : Reply)
     → AllLookInARow (after_write store variable untracked l go reply)
 written store variable untracked l go goes (replies.Written key version) =
-    let id : Held = Wrote (record { store = store; key = key; version = version }) in
+    let id : Binding = Wrote (record { store = store; key = key; version = version }) in
     wrote_on untracked id (set_or variable id l) go goes
 written store variable untracked l go goes reply = goes l
 

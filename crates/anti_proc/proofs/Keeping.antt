@@ -28,8 +28,8 @@ use Rattle.anti_shim.specs.Plans.{plan, with_look}
 use Rattle.anti_shim.specs.declared.looks.PlannedLook.{PlannedLook}
 use Rattle.anti_proc.specs.declared.task.Duty.{Duty}
 use Rattle.anti_proc.specs.declared.task.Duty.TheVariants as duties
-use Rattle.anti_proc.specs.declared.variables.Held.{Held}
-use Rattle.anti_proc.specs.declared.variables.Held.TheVariants.{Wrote, Saw, Heard}
+use Rattle.anti_proc.specs.declared.variables.Binding.{Binding}
+use Rattle.anti_proc.specs.declared.variables.Binding.TheVariants.{Wrote, Saw, Heard}
 use Rattle.anti_proc.specs.declared.variables.Variable.{Variable}
 use Rattle.anti_proc.specs.declared.end.BodyEnd.{BodyEnd}
 use Rattle.anti_proc.specs.declared.end.BodyEnd.TheVariants.{BadKey, Depth, Fine, LineageFull}
@@ -214,12 +214,12 @@ module _ (s : Setting) (Store : ℕ → Type 0) (Inbox : ℕ → List ℕ → Ty
     set_or_more true h n v w vs further new all others = (new, all.1)
     set_or_more false h n v w vs further new all others = (all.0, others)
 
-    with_held_brings : (h : H) (n : ℕ) (name : List ℕ) (held : Held) (vs : List Variable) → Brings h n (ids_in held) → AllBring h n vs → AllBring h n (with_held name held vs)
+    with_held_brings : (h : H) (n : ℕ) (name : List ℕ) (held : Binding) (vs : List Variable) → Brings h n (ids_in held) → AllBring h n vs → AllBring h n (with_held name held vs)
     with_held_brings h n name held [] new all = (new, tt)
     with_held_brings h n name held (v ∷ vs) new all =
         set_or_more (bytes_eq v.name name) h n v (record { name = name; held = held }) vs (with_held name held vs) new all (with_held_brings h n name held vs new all.1)
 
-    here_or : (here : Bool) (h : H) (n : ℕ) (held : Held) (other : Option Held) → Brings h n (ids_in held) → Brings h n (held_ids other) → Brings h n (held_ids (cond here (Some held) other))
+    here_or : (here : Bool) (h : H) (n : ℕ) (held : Binding) (other : Option Binding) → Brings h n (ids_in held) → Brings h n (held_ids other) → Brings h n (held_ids (cond here (Some held) other))
     here_or true h n held other this that = this
     here_or false h n held other this that = that
 
@@ -236,10 +236,10 @@ module _ (s : Setting) (Store : ℕ → Type 0) (Inbox : ℕ → List ℕ → Ty
     sound_on : (h : H) (ask : Ask) (r : Reply) (l : Local) → Sound h l → Sound (more h ask r) l
     sound_on h ask r l sound = (sound.0, keeps.carried_on h ask r l.span l.carried sound.1, all_on h ask r l.span l.variables sound.2)
 
-    sound_set : (h : H) (x : List ℕ) (held : Held) (l : Local) → Brings h l.span (ids_in held) → Sound h l → Sound h (set x held l)
+    sound_set : (h : H) (x : List ℕ) (held : Binding) (l : Local) → Brings h l.span (ids_in held) → Sound h l → Sound h (set x held l)
     sound_set h x held l new sound = (sound.0, sound.1, with_held_brings h l.span x held l.variables new sound.2)
 
-    sound_set_or : (h : H) (x : Option (List ℕ)) (held : Held) (l : Local) → Brings h l.span (ids_in held) → Sound h l → Sound h (set_or x held l)
+    sound_set_or : (h : H) (x : Option (List ℕ)) (held : Binding) (l : Local) → Brings h l.span (ids_in held) → Sound h l → Sound h (set_or x held l)
     sound_set_or h None held l new sound = sound
     sound_set_or h (Some x) held l new sound = sound_set h x held l new sound
 
@@ -250,7 +250,7 @@ module _ (s : Setting) (Store : ℕ → Type 0) (Inbox : ℕ → List ℕ → Ty
     sound_rooted h true l sound = sound
     sound_rooted h false l sound = fresh h false l
 
-    sound_removed : (h : H) (held : Option Held) (l : Local) → Sound h l → Sound h (record l { carried = removed held l.carried })
+    sound_removed : (h : H) (held : Option Binding) (l : Local) → Sound h l → Sound h (record l { carried = removed held l.carried })
     sound_removed h (Some (Wrote id)) l sound = (sound.0, keeps.taken_out h l.span id l.carried sound.1, sound.2)
     sound_removed h (Some (Saw store rows)) l sound = sound
     sound_removed h (Some (Heard value)) l sound = sound
@@ -275,16 +275,16 @@ module _ (s : Setting) (Store : ℕ → Type 0) (Inbox : ℕ → List ℕ → Ty
     more_good h further l go brings sound goes =
         carry_good h (with_ids further l.carried) l go (λ short. keeps.added h l.span further l.carried brings sound.1 short) sound goes
 
-    add_good : (h : H) (held : Option Held) (l : Local) (go : Go) → Brings h l.span (held_ids held) → Sound h l → GoesOn go → IsGood h (add held l go)
+    add_good : (h : H) (held : Option Binding) (l : Local) (go : Go) → Brings h l.span (held_ids held) → Sound h l → GoesOn go → IsGood h (add held l go)
     add_good h held l go brings sound goes = more_good h (held_ids held) l go brings sound goes
 
     -- ---- writes
 
-    wrote_good : (untracked : Bool) (h : H) (held : Held) (l : Local) (go : Go) → Brings h l.span (ids_in held) → Sound h l → GoesOn go → IsGood h (wrote untracked held l go)
+    wrote_good : (untracked : Bool) (h : H) (held : Binding) (l : Local) (go : Go) → Brings h l.span (ids_in held) → Sound h l → GoesOn go → IsGood h (wrote untracked held l go)
     wrote_good true h held l go brings sound goes = goes h l sound
     wrote_good false h held l go brings sound goes = add_good h (Some held) l go brings sound goes
 
-    set_or_brings : (h : H) (x : Option (List ℕ)) (held : Held) (l : Local) (ids : List WriteId) → Brings h l.span ids → Brings h (set_or x held l).span ids
+    set_or_brings : (h : H) (x : Option (List ℕ)) (held : Binding) (l : Local) (ids : List WriteId) → Brings h l.span ids → Brings h (set_or x held l).span ids
     set_or_brings h None held l ids brings = brings
     set_or_brings h (Some x) held l ids brings = brings
 
@@ -293,7 +293,7 @@ module _ (s : Setting) (Store : ℕ → Type 0) (Inbox : ℕ → List ℕ → Ty
     write_replied h store key value x untracked l go sound goes (replies.Written written version) fair =
         let ask : Ask = ask_at store (calls.Write key value l.carried) l in
         let r : Reply = replies.Written written version in
-        let id : Held = Wrote (record { store = store; key = written; version = version }) in
+        let id : Binding = Wrote (record { store = store; key = written; version = version }) in
         let brings : Brings (more h ask r) l.span (ids_in id) = keeps.comes h ask r fair in
         wrote_good untracked (more h ask r) id (set_or x id l) go (set_or_brings (more h ask r) x id l (ids_in id) brings)
         (sound_set_or (more h ask r) x id l brings (sound_on h ask r l sound)) goes

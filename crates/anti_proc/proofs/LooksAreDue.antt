@@ -18,8 +18,8 @@ use Rattle.anti_app.specs.declared.app.App.{App}
 use Rattle.anti_app.specs.Objects.{inbox_of, store_number, stores_here}
 use Rattle.anti_proc.specs.declared.task.Duty.{Duty}
 use Rattle.anti_proc.specs.declared.task.Duty.TheVariants as duties
-use Rattle.anti_proc.specs.declared.variables.Held.{Held}
-use Rattle.anti_proc.specs.declared.variables.Held.TheVariants.{Wrote, Saw, Heard}
+use Rattle.anti_proc.specs.declared.variables.Binding.{Binding}
+use Rattle.anti_proc.specs.declared.variables.Binding.TheVariants.{Wrote, Saw, Heard}
 use Rattle.anti_proc.specs.declared.end.BodyEnd.{BodyEnd}
 use Rattle.anti_proc.specs.declared.end.BodyEnd.TheVariants.{BadKey, Depth, Fine, LineageFull}
 use Rattle.anti_proc.specs.Local.{Setting, Local, any_name, first_local, held, is_absent, key_of, new_span, removed, rooted, set, set_or, text_of}
@@ -93,14 +93,14 @@ module _ (app : App) where
   carried_on ids last l go goes =
       let next : Local = record l { carried = ids } in either (nat_lt MOST_IDS (length ids)) last (Ends LineageFull) (go next) tt (goes last next)
 
-  wrote_on : (untracked : Bool) (held : Held) (last : Option Ask) (l : Local) (go : Go) → GoesOn go → LooksAreDue app last (wrote untracked held l go)
+  wrote_on : (untracked : Bool) (held : Binding) (last : Option Ask) (l : Local) (go : Go) → GoesOn go → LooksAreDue app last (wrote untracked held l go)
   wrote_on true held last l go goes = goes last l
   wrote_on false held last l go goes = carried_on _ last l go goes
 
   written : (store : ℕ) (variable : Option (List ℕ)) (untracked : Bool) (l : Local) (go : Go) → GoesOn go → (last : Option Ask) (reply : Reply)
       → LooksAreDue app last (after_write store variable untracked l go reply)
   written store variable untracked l go goes last (replies.Written key version) =
-      let id : Held = Wrote (record { store = store; key = key; version = version }) in
+      let id : Binding = Wrote (record { store = store; key = key; version = version }) in
       wrote_on untracked id last (set_or variable id l) go goes
   written store variable untracked l go goes last reply = goes last l
 

@@ -3,12 +3,12 @@ use Rattle.std.proofs.Common.{◌≡◌, ℕ, suc, ◌<◌, ◌≤◌, ◌++◌,
 use Rattle.std.specs.Prelude.{slice_set}
 use Rattle.std.specs.Str.{bytes_eq}
 use Rattle.std.proofs.lemmas.Slice.Eq.{bytes_eq-Decides}
-use Rattle.anti_proc.specs.declared.variables.Held.{Held}
+use Rattle.anti_proc.specs.declared.variables.Binding.{Binding}
 use Rattle.anti_proc.specs.declared.variables.Variable.{Variable}
 use Rattle.anti_proc.specs.Local.{held_in, with_held}
 use Rattle.anti_proc.specs.inner.Variables.{place_among}
 
-module _ (name : List ℕ) (held : Held) where
+module _ (name : List ℕ) (held : Binding) where
   abbrev variable : Variable
   variable = record { name = name; held = held }
 
@@ -42,7 +42,7 @@ place_within (v ∷ vs) name = place_or (bytes_eq v.name name) (place_among vs n
 
 -- ---- what is held then
 
-module _ (name other : List ℕ) (held : Held) where
+module _ (name other : List ℕ) (held : Binding) where
   its_own : (v : Variable) → bytes_eq name other ≡ true → bytes_eq v.name name ≡ false → bytes_eq v.name other ≡ false
   its_own v same differs = ap (λ (n : List ℕ). bytes_eq v.name n) (sym ((bytes_eq-Decides name other).0 same)) ∙ differs
 
@@ -64,7 +64,7 @@ module _ (name other : List ℕ) (held : Held) where
       → held_in (with_held name held vs) other ≡ held_in vs other
       → held_in (cond here (record { name = name; held = held } ∷ vs) (v ∷ with_held name held vs)) other ≡ held_in (v ∷ vs) other
   other_or true v vs is differs later = rw (differs, that_one v differs is) refl
-  other_or false v vs is differs later = ap (λ (found : Option Held). cond (bytes_eq v.name other) (Some v.held) found) later
+  other_or false v vs is differs later = ap (λ (found : Option Binding). cond (bytes_eq v.name other) (Some v.held) found) later
 
   -- the others hold what they held
   pub held_other : (vs : List Variable) → bytes_eq name other ≡ false → held_in (with_held name held vs) other ≡ held_in vs other

@@ -13,8 +13,8 @@ use Rattle.anti_lang.specs.declared.statement.ValueWord.{ValueWord}
 use Rattle.anti_lang.specs.declared.statement.ValueWord.TheVariants as values
 use Rattle.anti_app.specs.declared.app.App.{App}
 use Rattle.anti_proc.specs.declared.task.Duty.{Duty}
-use Rattle.anti_proc.specs.declared.variables.Held.{Held}
-use Rattle.anti_proc.specs.declared.variables.Held.TheVariants.{Wrote, Saw, Heard}
+use Rattle.anti_proc.specs.declared.variables.Binding.{Binding}
+use Rattle.anti_proc.specs.declared.variables.Binding.TheVariants.{Wrote, Saw, Heard}
 use Rattle.anti_proc.specs.declared.variables.Variable.{Variable}
 
 -- what does not change in a process: its application, the region of its service, its depth, what it owes at its end, and its input
@@ -50,23 +50,23 @@ rooted false l = new_span false l
 -- ---- variables
 
 -- what a variable holds, where it is set
-abbrev pub held_in : List Variable → List ℕ → Option Held
+abbrev pub held_in : List Variable → List ℕ → Option Binding
 held_in [] name = None
 held_in (v ∷ vs) name = if bytes_eq v.name name then Some v.held else held_in vs name
 
-abbrev pub held : Local → List ℕ → Option Held
+abbrev pub held : Local → List ℕ → Option Binding
 held l name = held_in l.variables name
 
 -- the variables, of which one is set to hold something else than it did
-abbrev pub with_held : List ℕ → Held → List Variable → List Variable
+abbrev pub with_held : List ℕ → Binding → List Variable → List Variable
 with_held name held [] = record { name = name; held = held } ∷ []
 with_held name held (v ∷ vs) = if bytes_eq v.name name then record { name = name; held = held } ∷ vs else v ∷ with_held name held vs
 
-abbrev pub set : List ℕ → Held → Local → Local
+abbrev pub set : List ℕ → Binding → Local → Local
 set name held l = record l { variables = with_held name held l.variables }
 
 -- the same, where there may be no variable to set
-abbrev pub set_or : Option (List ℕ) → Held → Local → Local
+abbrev pub set_or : Option (List ℕ) → Binding → Local → Local
 set_or None held l = l
 set_or (Some name) held l = set name held l
 
@@ -84,17 +84,17 @@ abbrev pub rows_ids : ℕ → List Row → List WriteId
 rows_ids store [] = []
 rows_ids store (row ∷ rows) = row_ids store row ++ rows_ids store rows
 
-abbrev pub ids_in : Held → List WriteId
+abbrev pub ids_in : Binding → List WriteId
 ids_in (Wrote id) = id_at id.store id.key id.version
 ids_in (Saw store rows) = rows_ids store rows.items
 ids_in (Heard value) = []
 
-abbrev pub held_ids : Option Held → List WriteId
+abbrev pub held_ids : Option Binding → List WriteId
 held_ids None = []
 held_ids (Some held) = ids_in held
 
 -- some ids without the id of a write
-abbrev pub removed : Option Held → List WriteId → List WriteId
+abbrev pub removed : Option Binding → List WriteId → List WriteId
 removed (Some (Wrote id)) ids = without_id id ids
 removed (Some (Saw store rows)) ids = ids
 removed (Some (Heard value)) ids = ids
@@ -108,7 +108,7 @@ all_absent [] = true
 all_absent (row ∷ rows) = row.version == 0 && all_absent rows
 
 -- no row was read that has a version
-abbrev pub is_absent : Option Held → Bool
+abbrev pub is_absent : Option Binding → Bool
 is_absent (Some (Saw store rows)) = all_absent rows.items
 is_absent (Some (Wrote id)) = true
 is_absent (Some (Heard value)) = true
@@ -122,12 +122,12 @@ first_value [] = []
 first_value (row ∷ rows) = row.value
 
 -- what `$X` stands for, by what X holds: the version of a write in decimal, the value of the first row that was read, that of a reply
-abbrev pub text_in : Held → List ℕ
+abbrev pub text_in : Binding → List ℕ
 text_in (Wrote id) = decimal id.version
 text_in (Saw store rows) = first_value rows.items
 text_in (Heard value) = value
 
-abbrev pub held_text : Option Held → List ℕ
+abbrev pub held_text : Option Binding → List ℕ
 held_text None = []
 held_text (Some held) = text_in held
 

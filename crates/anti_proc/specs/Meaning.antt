@@ -23,8 +23,8 @@ use Rattle.anti_shim.specs.Plans.{plan}
 use Rattle.anti_proc.specs.declared.task.Duty.{Duty}
 use Rattle.anti_proc.specs.declared.task.Duty.TheVariants as duties
 use Rattle.anti_proc.specs.declared.task.Task.{Task}
-use Rattle.anti_proc.specs.declared.variables.Held.{Held}
-use Rattle.anti_proc.specs.declared.variables.Held.TheVariants.{Wrote, Saw, Heard}
+use Rattle.anti_proc.specs.declared.variables.Binding.{Binding}
+use Rattle.anti_proc.specs.declared.variables.Binding.TheVariants.{Wrote, Saw, Heard}
 use Rattle.anti_proc.specs.declared.end.BodyEnd.{BodyEnd}
 use Rattle.anti_proc.specs.declared.end.BodyEnd.TheVariants.{Fine, Depth, BadKey, LineageFull}
 use Rattle.anti_proc.specs.Local.{Setting, Local, first_local, new_span, rooted, held, set, set_or, held_ids, removed, is_absent, text_of, any_name, key_of}
@@ -46,12 +46,12 @@ abbrev pub carry : List WriteId → Local → Go → Tree
 carry ids l go = if nat_lt MOST_IDS (length ids) then Ends LineageFull else go (record l { carried = ids })
 
 -- goes on with the ids of what a variable holds added to the lineage
-abbrev pub add : Option Held → Local → Go → Tree
+abbrev pub add : Option Binding → Local → Go → Tree
 add held l go = carry (with_ids (held_ids held) l.carried) l go
 
 -- On the reply to a write its variable holds the write, and the process carries the write's id, unless the write is untracked. A reply of
 -- another form brings nothing.
-abbrev pub wrote : Bool → Held → Local → Go → Tree
+abbrev pub wrote : Bool → Binding → Local → Go → Tree
 wrote true held l go = go l
 wrote false held l go = add (Some held) l go
 

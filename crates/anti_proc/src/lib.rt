@@ -1,7 +1,7 @@
 //! What a handler does: the next call of a process, from the entry that started it and the replies to its calls.
 #![tactic(auto)]
 
-mod adding;
+mod additions;
 mod cursor;
 mod end;
 mod foreign;

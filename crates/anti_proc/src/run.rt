@@ -20,7 +20,7 @@ use crate::next::{After, Next, Stage, look_of};
 use crate::state::{Changes, Draft, Since, State, set_or};
 use crate::statements::{Does, run};
 use crate::task::Task;
-use crate::variables::{Held, Variable};
+use crate::variables::{Binding, Variable};
 use anti_app::{App, body_of};
 use anti_baggage::Baggage;
 use anti_ids::{Copies, Lineage, Name, NoMemory, WriteId};
@@ -298,12 +298,12 @@ impl Run {
         requires app { CanRun app.now }
         requires spans { HasSpans app.now self.now.given.role self.now.cursor self.now.state.span }
         ensures goes { IfOk result (λ a. run_after app.now self.now a
-            ≡ wrote untracked (Held.Wrote id.now) (set_or variable (Held.Wrote id.now)
+            ≡ wrote untracked (Binding.Wrote id.now) (set_or variable (Binding.Wrote id.now)
             (local_of self.now.state))
             (going app.now self.now.given self.now.cursor)) }
         ensures spans { IfOk result (λ a. AdvanceHasSpans app.now (Life.Runs self.now) a) }
     {
-        let since = set_or(variable, Held::Wrote(*id));
+        let since = set_or(variable, Binding::Wrote(*id));
         let mut draft = self.draft(since)?;
         let stage = if untracked {
             None
@@ -353,7 +353,7 @@ impl Run {
         let since = match reply {
             Reply::Shown(rows) => Since::Set(Variable {
                 name: variable,
-                held: Held::Saw {
+                held: Binding::Saw {
                     store: self.next.object,
                     rows: rows.copy(self.given.alloc)?,
                 },
@@ -386,7 +386,7 @@ impl Run {
         let value = message.get().value.copy(self.given.alloc)?;
         let since = Since::Set(Variable {
             name: variable,
-            held: Held::Heard(value),
+            held: Binding::Heard(value),
         });
         let mut draft = self.draft(since)?;
         let stage = draft.carry(brought)?;

@@ -4,9 +4,9 @@ ghost use Rattle.anti_proc.specs.Meaning.{Go, add, carry};
 ghost use Rattle.anti_ids.specs.Ids.{with_ids};
 ghost use Rattle.anti_proc.specs.inner.Standing.{local_by, local_in, local_of, stage_or, variables_in};
 
-use crate::adding::{add, all_absent, carry};
+use crate::additions::{add, all_absent, carry};
 use crate::next::Stage;
-use crate::variables::{Held, Variable, Variables, held_in, set};
+use crate::variables::{Binding, Variable, Variables, held_in, set};
 use anti_baggage::Baggage;
 use anti_ids::{Copies, Lineage, List, Name, NoMemory, Value, WriteId};
 use std::alloc::Global;
@@ -133,7 +133,7 @@ impl State {
 }
 
 /// What becomes of the variables where one is set, if there is one to set.
-pub fn set_or(variable: Option<Name>, held: Held) -> Since
+pub fn set_or(variable: Option<Name>, held: Binding) -> Since
     ensures { (l : Local) → record l { variables = variables_in result l.variables }
         ≡ set_or variable held l }
 {
@@ -145,7 +145,7 @@ pub fn set_or(variable: Option<Name>, held: Held) -> Since
 
 // What a variable holds, by what became of the variables that there were.
 #[tactic(auto, using(crate::proofs::Setting::held_set, crate::proofs::Setting::held_other))]
-fn held_since<'a>(since: &'a Since, before: &'a [Variable], name: &Name) -> Option<&'a Held>
+fn held_since<'a>(since: &'a Since, before: &'a [Variable], name: &Name) -> Option<&'a Binding>
     ensures { option_map (λ held. held.now) result
         ≡ held_in (variables_in since.now before.now) name.now }
 {
@@ -159,7 +159,7 @@ fn held_since<'a>(since: &'a Since, before: &'a [Variable], name: &Name) -> Opti
 
 impl<'a> Draft<'a> {
     /// What a variable holds, where it is set.
-    pub fn held(&self, name: &Name) -> Option<&Held>
+    pub fn held(&self, name: &Name) -> Option<&Binding>
         ensures { option_map (λ held. held.now) result ≡ held (local_in self.now) name.now }
     {
         held_since(&self.changes.since, self.before, name)
@@ -207,7 +207,7 @@ impl<'a> Draft<'a> {
         } }
         ensures before { self.new.before ≡ self.old.before }
     {
-        if let Some(Held::Wrote(id)) = held_since(&self.changes.since, self.before, variable) {
+        if let Some(Binding::Wrote(id)) = held_since(&self.changes.since, self.before, variable) {
             self.changes.carried.remove(id);
         }
     }
@@ -217,7 +217,7 @@ impl<'a> Draft<'a> {
         ensures { result ≡ is_absent (held (local_in self.now) variable.now) }
     {
         match self.held(variable) {
-            Some(Held::Saw { rows, .. }) => all_absent(rows.as_slice()),
+            Some(Binding::Saw { rows, .. }) => all_absent(rows.as_slice()),
             _ => true,
         }
     }
@@ -238,11 +238,11 @@ impl<'a> Draft<'a> {
     pub fn add_write(&mut self, id: &WriteId) -> Result<Option<Stage>, NoMemory>
         ensures goes { IfOk result (λ stage. (s : Setting) (go : Go)
             → stage_or stage s (local_in self.new) go
-            ≡ add (Some (Held.Wrote id.now)) (local_in self.old) go) }
+            ≡ add (Some (Binding.Wrote id.now)) (local_in self.old) go) }
         ensures span { OnOk result (self.new.changes.span ≡ self.old.changes.span) }
         ensures before { self.new.before ≡ self.old.before }
     {
-        let held = Held::Wrote(*id);
+        let held = Binding::Wrote(*id);
         add(&mut self.changes.carried, Some(&held))
     }
 

@@ -4,7 +4,7 @@ ghost use Rattle.anti_app.specs.Running.{CanRun};
 ghost use Rattle.anti_proc.specs.Local.{row_ids};
 ghost use Rattle.anti_proc.specs.Tasks.{duty_of_row, duty_to, fitting, is_for, role_at_inbox, role_at_store, role_in, role_of, role_on, role_pulled, role_taken, task_for, task_of};
 
-use crate::adding::add_row;
+use crate::additions::add_row;
 use crate::end::ProcFault;
 use crate::foreign::{has_stores, stated};
 use anti_app::{

@@ -7,7 +7,7 @@ use anti_kind::Rows;
 
 /// What a variable of a handler holds.
 #[derive(Drop)]
-pub enum Held {
+pub enum Binding {
     /// The id of a write.
     Wrote(WriteId),
     /// The rows that a read of the store of this number showed.
@@ -20,7 +20,7 @@ pub enum Held {
 #[derive(Drop)]
 pub struct Variable {
     pub name: Name,
-    pub held: Held,
+    pub held: Binding,
 }
 
 /// The variables that are set, each once.
@@ -39,7 +39,7 @@ fn place_among(variables: &[Variable], name: &Name) -> usize
 }
 
 /// What a variable holds, where it is set.
-pub fn held_in<'a>(variables: &'a [Variable], name: &Name) -> Option<&'a Held>
+pub fn held_in<'a>(variables: &'a [Variable], name: &Name) -> Option<&'a Binding>
     ensures { option_map (λ held. held.now) result ≡ held_in variables.now name.now }
 {
     for variable in variables {

@@ -6,7 +6,7 @@ ghost use Rattle.anti_proc.specs.inner.Standing.{local_in};
 
 use crate::given::Given;
 use crate::state::Draft;
-use crate::variables::Held;
+use crate::variables::Binding;
 use anti_ids::{Copies, Name, NoMemory, Value, ValueFault};
 use anti_lang::{KeyWord, ValueWord, plain_name};
 use std::alloc::Global;
@@ -25,16 +25,16 @@ fn decimal(alloc: Global, number: u64) -> Result<Value, NoMemory>
 }
 
 // What `$X` stands for, by what X holds.
-fn held_text(alloc: Global, held: &Held) -> Result<Value, NoMemory>
+fn held_text(alloc: Global, held: &Binding) -> Result<Value, NoMemory>
     ensures { IfOk result (λ v. v ≡ text_in held.now) }
 {
     match held {
-        Held::Wrote(id) => decimal(alloc, id.version),
-        Held::Saw { rows, .. } => match rows.as_slice().first() {
+        Binding::Wrote(id) => decimal(alloc, id.version),
+        Binding::Saw { rows, .. } => match rows.as_slice().first() {
             Some(row) => row.value.copy(alloc),
             None => Ok(Value::empty(alloc)),
         },
-        Held::Heard(value) => value.copy(alloc),
+        Binding::Heard(value) => value.copy(alloc),
     }
 }
 

@@ -16,8 +16,8 @@ use Rattle.anti_kind.specs.Objects.{store, IsLegal}
 use Rattle.anti_kind.proofs.Handed.{Counted, counted, settles_by, settles_none, pulls_kept, settles_kept, pulls_up, out_kept, not_out_then}
 use Rattle.anti_kind.proofs.Rows.{or_false}
 use Rattle.anti_replicas.proofs.Places.{or_true}
-use Rattle.anti_queue.specs.declared.messages.Message.{Message}
-use Rattle.anti_queue.specs.declared.messages.Messages.{Messages}
+use Rattle.anti_queue.specs.declared.message_states.MessageState.{MessageState}
+use Rattle.anti_queue.specs.declared.message_states.MessageStates.{MessageStates}
 use Rattle.anti_queue.specs.inner.Marks.{IsMessage, AreMessages, new_message, Changes, pulled, done, given_back}
 use Rattle.anti_queue.proofs.Reading.{never_out}
 
@@ -60,7 +60,7 @@ module _ (h : List Entry) (e : Entry) where
     pub pull_others : (v : ℕ) → (r.version ≡ v → ⊥) → SameMarks h (h ++ e ∷ []) v
     pull_others v differs = same_marks v (pulling v ∙ ne_eqb r.version v differs) (settling v)
 
-    pub pull_marks : (s : Store) → is_queue s.kind ≡ true → IsLegal (store s) h → is_out h r.version ≡ false → (x : Message) → IsMessage h r.version x → IsMessage (h ++ e ∷ []) r.version (pulled x)
+    pub pull_marks : (s : Store) → is_queue s.kind ≡ true → IsLegal (store s) h → is_out h r.version ≡ false → (x : MessageState) → IsMessage h r.version x → IsMessage (h ++ e ∷ []) r.version (pulled x)
     pull_marks s queue l off x was =
         let v : ℕ = r.version in
         let up : pulls (h ++ e ∷ []) v ≡ pulls h v + 1 = pulls_up h e v (pulling v ∙ eq-eqb v v refl) in
@@ -98,7 +98,7 @@ module _ (h : List Entry) (e : Entry) (u : ℕ) (is : e.call ≡ Ack u) (out : i
   pub acked_now : is_acked (h ++ e ∷ []) u ≡ true
   acked_now = acked_more h e u ∙ ap (λ (b : Bool). is_acked h u || b) (ap (is_ack u) is ∙ eq-eqb u u refl) ∙ or_true (is_acked h u)
 
-  pub ack_marks : (x : Message) → IsMessage h u x → IsMessage (h ++ e ∷ []) u (done x)
+  pub ack_marks : (x : MessageState) → IsMessage h u x → IsMessage (h ++ e ∷ []) u (done x)
   ack_marks x was = record {
     out = settle_out h e u out ack_unpulled ack_settled;
     acked = sym acked_now;
@@ -115,7 +115,7 @@ module _ (h : List Entry) (e : Entry) (u : ℕ) (is : e.call ≡ Nack u) (out : 
   pub nack_others : (v : ℕ) → (u ≡ v → ⊥) → SameMarks h (h ++ e ∷ []) v
   nack_others = settle_others h e u out nack_unpulled nack_settled
 
-  pub nack_marks : (x : Message) → IsMessage h u x → IsMessage (h ++ e ∷ []) u (given_back x)
+  pub nack_marks : (x : MessageState) → IsMessage h u x → IsMessage (h ++ e ∷ []) u (given_back x)
   nack_marks x was = record {
     out = settle_out h e u out nack_unpulled nack_settled;
     acked = was.acked ∙ sym (acked_kept h e u (ap (is_ack u) is));
@@ -150,27 +150,27 @@ unwritten_marks s queue h l v above =
 
 -- All messages.
 
-message_same : (h k : List Entry) (v : ℕ) (x : Message) → SameMarks h k v → IsMessage h v x → IsMessage k v x
+message_same : (h k : List Entry) (v : ℕ) (x : MessageState) → SameMarks h k v → IsMessage h v x → IsMessage k v x
 message_same h k v x same was = record { out = was.out ∙ sym same.out; acked = was.acked ∙ sym same.acked; pulls_are = was.pulls_are ∙ sym same.pulls_are }
 
-pub messages_kept : (m : Messages) (h k : List Entry) → rows k ≡ rows h → ((v : ℕ) → SameMarks h k v) → outs k ≡ outs h → AreMessages m h → AreMessages m k
+pub messages_kept : (m : MessageStates) (h k : List Entry) → rows k ≡ rows h → ((v : ℕ) → SameMarks h k v) → outs k ≡ outs h → AreMessages m h → AreMessages m k
 messages_kept m h k same_rows same same_outs are = record {
   many = are.many ∙ ap length (sym same_rows);
   each = λ i d short. message_same h k (i + 1) (get_or m.list.items i d) (same (i + 1)) (are.each i d short);
   count = are.count ∙ sym same_outs;
 }
 
-pub messages_changed : (m n : Messages) (h k : List Entry) (v : ℕ) (change : Message → Message) → 1 ≤ v → v ≤ length m.list.items → rows k ≡ rows h → Changes change v m n → n.out ≡ outs k
-    → ((x : Message) → IsMessage h v x → IsMessage k v (change x)) → ((w : ℕ) → (v ≡ w → ⊥) → SameMarks h k w) → AreMessages m h → AreMessages n k
+pub messages_changed : (m n : MessageStates) (h k : List Entry) (v : ℕ) (change : MessageState → MessageState) → 1 ≤ v → v ≤ length m.list.items → rows k ≡ rows h → Changes change v m n → n.out ≡ outs k
+    → ((x : MessageState) → IsMessage h v x → IsMessage k v (change x)) → ((w : ℕ) → (v ≡ w → ⊥) → SameMarks h k w) → AreMessages m h → AreMessages n k
 messages_changed m n h k v change first kept same_rows changes count one others are = record {
   many = ap length (changes new_message) ∙ length-set m.list.items (v - 1) (change (get_or m.list.items (v - 1) new_message)) ∙ are.many ∙ ap length (sym same_rows);
-  each = λ i d short. subst (λ (xs : List Message). IsMessage k (i + 1) (get_or xs i d)) (sym (changes d)) (by_place i d (omega (arith, ap length (changes d), length-set m.list.items (v - 1) (change (get_or m.list.items (v - 1) d)))));
+  each = λ i d short. subst (λ (xs : List MessageState). IsMessage k (i + 1) (get_or xs i d)) (sym (changes d)) (by_place i d (omega (arith, ap length (changes d), length-set m.list.items (v - 1) (change (get_or m.list.items (v - 1) d)))));
   count = count;
 }
   where
-    by_place : (i : ℕ) (d : Message) → i < length m.list.items → IsMessage k (i + 1) (get_or (set m.list.items (v - 1) (change (get_or m.list.items (v - 1) d))) i d)
+    by_place : (i : ℕ) (d : MessageState) → i < length m.list.items → IsMessage k (i + 1) (get_or (set m.list.items (v - 1) (change (get_or m.list.items (v - 1) d))) i d)
     by_place i d short =
-        let new : Message = change (get_or m.list.items (v - 1) d) in
+        let new : MessageState = change (get_or m.list.items (v - 1) d) in
         ⊎_elim (λ (same : i ≡ v - 1).
         let number : i + 1 ≡ v = omega (arith, first) in
         let place : get_or (set m.list.items (v - 1) new) i d ≡ new = ap (λ (j : ℕ). get_or (set m.list.items (v - 1) new) j d) same ∙ get_or-set_same m.list.items (v - 1) new d (omega arith) in
@@ -182,15 +182,15 @@ messages_changed m n h k v change first kept same_rows changes count one others 
         (message_same h k (i + 1) (get_or m.list.items i d) (others (i + 1) (λ eq. other (omega (arith, eq)))) (are.each i d short)))
         (cases_eq i (v - 1))
 
-pub messages_written : (m n : Messages) (h k : List Entry) (r : Row) (new : Message) → rows k ≡ rows h ++ r ∷ [] → n.list.items ≡ m.list.items ++ new ∷ [] → n.out ≡ m.out → outs k ≡ outs h
+pub messages_written : (m n : MessageStates) (h k : List Entry) (r : Row) (new : MessageState) → rows k ≡ rows h ++ r ∷ [] → n.list.items ≡ m.list.items ++ new ∷ [] → n.out ≡ m.out → outs k ≡ outs h
     → ((v : ℕ) → SameMarks h k v) → IsMessage h (length (rows h) + 1) new → AreMessages m h → AreMessages n k
 messages_written m n h k r new more_rows more out same_outs same fresh are = record {
   many = ap length more ∙ length_push m.list.items new ∙ ap (λ (c : ℕ). c + 1) are.many ∙ sym (ap length more_rows ∙ length_push (rows h) r);
-  each = λ i d short. subst (λ (xs : List Message). IsMessage k (i + 1) (get_or xs i d)) (sym more) (by_place i d (omega (arith, ap length more, length_push m.list.items new)));
+  each = λ i d short. subst (λ (xs : List MessageState). IsMessage k (i + 1) (get_or xs i d)) (sym more) (by_place i d (omega (arith, ap length more, length_push m.list.items new)));
   count = out ∙ are.count ∙ sym same_outs;
 }
   where
-    by_place : (i : ℕ) (d : Message) → i < length m.list.items + 1 → IsMessage k (i + 1) (get_or (m.list.items ++ new ∷ []) i d)
+    by_place : (i : ℕ) (d : MessageState) → i < length m.list.items + 1 → IsMessage k (i + 1) (get_or (m.list.items ++ new ∷ []) i d)
     by_place i d short =
         ⊎_elim (λ (before : i < length m.list.items).
         subst (IsMessage k (i + 1)) (sym (get_or_append_left m.list.items (new ∷ []) d i before))

@@ -20,8 +20,8 @@ use Rattle.anti_replicas.specs.Stores.{At, number_of, regions_of}
 use Rattle.anti_replicas.specs.inner.Standing.{Stands}
 use Rattle.anti_replicas.proofs.Counting.{counts_other}
 use Rattle.anti_replicas.proofs.Shows.{of_another}
-use Rattle.anti_queue.specs.declared.messages.Message.{Message}
-use Rattle.anti_queue.specs.declared.messages.Messages.{Messages}
+use Rattle.anti_queue.specs.declared.message_states.MessageState.{MessageState}
+use Rattle.anti_queue.specs.declared.message_states.MessageStates.{MessageStates}
 use Rattle.anti_queue.specs.declared.queue_store.Queue.{Queue}
 use Rattle.anti_queue.specs.inner.Marks.{IsMessage, AreMessages, can_go_out, Changes, pulled, done, given_back, Pullable, Settleable}
 use Rattle.anti_queue.specs.inner.Lists.{subs_of, AreSorted}
@@ -92,7 +92,7 @@ settleable m h u at out =
 
 -- What the queue stands for then.
 
-module _ (m n : Queue) (b : Replicas) (ms : Messages) (h : List Entry) (e : Entry)
+module _ (m n : Queue) (b : Replicas) (ms : MessageStates) (h : List Entry) (e : Entry)
     (at : StandsFor (its_start m) (QueueStands m) h) (f : Follows (its_start m) h e)
     (others : n ≡ record m { base = b; messages = ms; subscribers = n.subscribers }) (number : number_of b ≡ number_of m.base) (regions : regions_of b ≡ regions_of m.base)
     (subs : subs_of n.subscribers ≡ subs_of m.subscribers) (stands : Stands b (its_store m) (h ++ e ∷ [])) where
@@ -117,8 +117,8 @@ module _ (m n : Queue) (b : Replicas) (ms : Messages) (h : List Entry) (e : Entr
       let reply : e.reply ≡ Pulled r = f.reply ∙ ap (λ (c : Call). store_due s h c) is ∙ ap (λ (o : Option Row). Pulled (or_absent [] o)) got.2.is in
       let off : is_out h r.version ≡ false = free_not_out s h got.1 r got.2.found.passes in
       let same : (w : ℕ) → (v ≡ w → ⊥) → SameMarks h (h ++ e ∷ []) w = λ w differs. pull_others h e sub r is reply w (λ eq. differs (sym got.2.version ∙ eq)) in
-      let one : (x : Message) → IsMessage h v x → IsMessage (h ++ e ∷ []) v (pulled x) =
-      subst (λ (w : ℕ). (x : Message) → IsMessage h w x → IsMessage (h ++ e ∷ []) w (pulled x)) got.2.version (pull_marks h e sub r is reply s refl at.legal off) in
+      let one : (x : MessageState) → IsMessage h v x → IsMessage (h ++ e ∷ []) v (pulled x) =
+      subst (λ (w : ℕ). (x : MessageState) → IsMessage h w x → IsMessage (h ++ e ∷ []) w (pulled x)) got.2.version (pull_marks h e sub r is reply s refl at.legal off) in
       let messages : AreMessages ms (h ++ e ∷ []) =
       messages_changed m.messages ms h (h ++ e ∷ []) v pulled within.0 (omega (arith, within.1, at.state.messages.many)) (rows_other h e (ap is_write is)) changes
       (omega (arith, more, at.state.messages.count, outs_pull s refl h e sub at.legal f is)) one same at.state.messages in
@@ -140,14 +140,14 @@ module _ (m n : Queue) (b : Replicas) (ms : Messages) (h : List Entry) (e : Entr
       let same : (w : ℕ) → SameMarks h (h ++ e ∷ []) w = same_other h e (ap is_pull is) (ap settles_by is) in
       let same_rows : rows (h ++ e ∷ []) ≡ rows h = rows_other h e (ap is_write is) in
       let messages : AreMessages ms (h ++ e ∷ []) =
-      subst (λ (x : Messages). AreMessages x (h ++ e ∷ [])) (sym same_messages)
+      subst (λ (x : MessageStates). AreMessages x (h ++ e ∷ [])) (sym same_messages)
       (messages_kept m.messages h (h ++ e ∷ []) same_rows same (outs_other h e (ap is_write is) (ap is_pull is) (ap settles_by is)) at.state.messages) in
       stands_sorted m n b ms h e version at f (ap is_write is) others number regions subs stands messages within.0 within.1 (λ w differs. same w)
       (λ g w differs. of_another s h e at.legal f g region version part is w 1 differs)
       (sorted s (h ++ e ∷ []) (base_next m b h e at f stands) messages within.0 (omega (arith, within.1, ap length same_rows)))
 
 -- A message that is done was free for none, and is free for none from then on.
-module _ (m : Queue) (b : Replicas) (ms : Messages) (h : List Entry) (e : Entry) (at : StandsFor (its_start m) (QueueStands m) h) (f : Follows (its_start m) h e) (u : ℕ) (is : e.call ≡ Ack u) (out : is_out h u ≡ true) where
+module _ (m : Queue) (b : Replicas) (ms : MessageStates) (h : List Entry) (e : Entry) (at : StandsFor (its_start m) (QueueStands m) h) (f : Follows (its_start m) h e) (u : ℕ) (is : e.call ≡ Ack u) (out : is_out h u ≡ true) where
   unfree : (sub : Sub) (r : Row) → is_free (its_store m) (h ++ e ∷ []) sub r ≡ is_free (its_store m) h sub r
   unfree sub r =
       ⊎_elim (λ (same : u ≡ r.version).

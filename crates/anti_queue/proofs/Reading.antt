@@ -7,12 +7,12 @@ use Rattle.anti_kind.specs.Stored.{rows}
 use Rattle.anti_kind.specs.Store.{Store, is_queue, is_out}
 use Rattle.anti_kind.specs.Objects.{store, IsLegal}
 use Rattle.anti_kind.proofs.Handed.{out_within}
-use Rattle.anti_queue.specs.declared.messages.Message.{Message}
-use Rattle.anti_queue.specs.declared.messages.Messages.{Messages}
+use Rattle.anti_queue.specs.declared.message_states.MessageState.{MessageState}
+use Rattle.anti_queue.specs.declared.message_states.MessageStates.{MessageStates}
 use Rattle.anti_queue.specs.inner.Marks.{IsMessage, AreMessages}
 
 -- what is found for a version is its message
-pub message_is : (m : Messages) (h : List Entry) → AreMessages m h → (v : ℕ) (x : Message) → 1 ≤ v → slice_get m.list.items (v - 1) ≡ Some x → IsMessage h v x
+pub message_is : (m : MessageStates) (h : List Entry) → AreMessages m h → (v : ℕ) (x : MessageState) → 1 ≤ v → slice_get m.list.items (v - 1) ≡ Some x → IsMessage h v x
 message_is m h are v x first is =
     let short : v - 1 < length m.list.items = slice_get_within m.list.items (v - 1) x is in
     let at : get_or m.list.items (v - 1) x ≡ x = get_or_from_slice_get m.list.items (v - 1) x x is in

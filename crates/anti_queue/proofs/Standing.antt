@@ -13,7 +13,7 @@ use Rattle.anti_replicas.specs.Channels.{Counts}
 use Rattle.anti_replicas.specs.Stores.{At, number_of, regions_of}
 use Rattle.anti_replicas.specs.inner.Standing.{Stands}
 use Rattle.anti_replicas.proofs.Counting.{counts_other}
-use Rattle.anti_queue.specs.declared.messages.Messages.{Messages}
+use Rattle.anti_queue.specs.declared.message_states.MessageStates.{MessageStates}
 use Rattle.anti_queue.specs.declared.queue_store.Queue.{Queue}
 use Rattle.anti_queue.specs.inner.Marks.{AreMessages, can_go_out}
 use Rattle.anti_queue.specs.inner.Lists.{subs_of, HaveFree, HaveSpare, AreSorted}
@@ -47,7 +47,7 @@ have_spare m h state i d short =
     has_spare (number_of m.base) (regions_of m.base) (subs_of m.subscribers) m.tries h (get_or m.subscribers.list.items i d) (state.free i d short)
 
 -- A call after which one message is sorted in.
-module _ (m n : Queue) (b : Replicas) (ms : Messages) (h : List Entry) (e : Entry) (v : ℕ)
+module _ (m n : Queue) (b : Replicas) (ms : MessageStates) (h : List Entry) (e : Entry) (v : ℕ)
     (at : StandsFor (its_start m) (QueueStands m) h) (f : Follows (its_start m) h e) (writes : is_write e.call ≡ false)
     (others : n ≡ record m { base = b; messages = ms; subscribers = n.subscribers }) (number : number_of b ≡ number_of m.base) (regions : regions_of b ≡ regions_of m.base)
     (subs : subs_of n.subscribers ≡ subs_of m.subscribers) where
@@ -66,7 +66,7 @@ module _ (m n : Queue) (b : Replicas) (ms : Messages) (h : List Entry) (e : Entr
       stands_as n (its_store m) (h ++ e ∷ []) sorted_store
       (subst (λ (x : Replicas). Stands x (its_store m) (h ++ e ∷ [])) (sym (ap (λ (q : Queue). q.base) others)) stands)
       (subst (λ (x : Channels). Counts x (h ++ e ∷ [])) (sym (ap (λ (q : Queue). q.channels) others)) (counts_other m.channels h e writes at.state.channels))
-      (subst (λ (x : Messages). AreMessages x (h ++ e ∷ [])) (sym (ap (λ (q : Queue). q.messages) others)) messages)
+      (subst (λ (x : MessageStates). AreMessages x (h ++ e ∷ [])) (sym (ap (λ (q : Queue). q.messages) others)) messages)
       (λ i d short.
       let within' : i < length m.subscribers.list.items = omega (arith, sorted.many) in
       free_sorted (number_of m.base) (regions_of m.base) (subs_of m.subscribers) m.tries h (h ++ e ∷ []) v

@@ -19,7 +19,7 @@ use Rattle.anti_replicas.specs.Channels.{count_at, Counts}
 use Rattle.anti_replicas.specs.Stores.{number_of, regions_of}
 use Rattle.anti_replicas.specs.inner.Standing.{Stands}
 use Rattle.anti_replicas.proofs.Counting.{count_write, few_writes}
-use Rattle.anti_queue.specs.declared.messages.Messages.{Messages}
+use Rattle.anti_queue.specs.declared.message_states.MessageStates.{MessageStates}
 use Rattle.anti_queue.specs.declared.queue_store.Queue.{Queue}
 use Rattle.anti_queue.specs.declared.subscribers.Subscriber.{Subscriber}
 use Rattle.anti_queue.specs.inner.Marks.{new_message}
@@ -62,7 +62,7 @@ module _ (m : Queue) (h : List Entry) (e : Entry) (channel value : List ℕ) (li
         let has : HasFree (its_store m) h x = at.state.free i d short in
         omega (arith, has.room)
 
-  pub stands_written : (b : Replicas) (cs : Channels) (ms : Messages) → number_of b ≡ number_of m.base → regions_of b ≡ regions_of m.base → Stands b (its_store m) (h ++ e ∷ []) → Counts cs (h ++ e ∷ [])
+  pub stands_written : (b : Replicas) (cs : Channels) (ms : MessageStates) → number_of b ≡ number_of m.base → regions_of b ≡ regions_of m.base → Stands b (its_store m) (h ++ e ∷ []) → Counts cs (h ++ e ∷ [])
       → ms.list.items ≡ m.messages.list.items ++ new_message ∷ [] → ms.out ≡ m.messages.out → QueueStands (record m { base = b; channels = cs; messages = ms }) (h ++ e ∷ [])
   stands_written b cs ms number regions stands counts more out =
       let s : Store = its_store m in

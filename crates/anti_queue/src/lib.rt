@@ -3,10 +3,10 @@
 #![tactic(auto)]
 
 mod free_list;
-mod handing;
-mod messages;
+mod handouts;
+mod message_states;
 mod queue_store;
 mod subscribers;
-mod writing;
+mod writes;
 
 pub use queue_store::Queue;

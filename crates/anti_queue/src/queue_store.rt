@@ -2,7 +2,7 @@ ghost use Rattle.std.specs.Prelude.{◌≡◌, [], IfOk};
 ghost use Rattle.anti_kind.specs.Objects.{IsStart};
 ghost use Rattle.anti_queue.specs.QueueStarts.{queue_start};
 
-use crate::messages::Messages;
+use crate::message_states::MessageStates;
 use crate::subscribers::Subscribers;
 use anti_ids::NoMemory;
 use anti_kind::{Awaited, Call, Handle, Kind, Machine, Reply, StoreKind, Sub};
@@ -17,7 +17,7 @@ pub struct Queue {
     pub(crate) base: Replicas,
     pub(crate) channels: Channels,
     pub(crate) subscribers: Subscribers,
-    pub(crate) messages: Messages,
+    pub(crate) messages: MessageStates,
     pub(crate) tries: u32,
 }
 
@@ -44,7 +44,7 @@ impl Queue {
             base,
             channels: Channels::new(alloc),
             subscribers,
-            messages: Messages::new(alloc),
+            messages: MessageStates::new(alloc),
             tries,
         })
     }

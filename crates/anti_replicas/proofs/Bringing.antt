@@ -19,7 +19,7 @@ use Rattle.anti_kind.proofs.Rows.{version_at, row_of_at}
 use Rattle.anti_kind.proofs.Showing.{greatest_least}
 use Rattle.anti_kind.proofs.Shipped.{shipped_sound, version_within}
 use Rattle.anti_replicas.specs.declared.replicas.Replicas.{Replicas}
-use Rattle.anti_replicas.specs.declared.kept.Kept.{Kept}
+use Rattle.anti_replicas.specs.declared.kept_write.KeptWrite.{KeptWrite}
 use Rattle.anti_replicas.specs.declared.newest.Newest.{Newest}
 use Rattle.anti_replicas.specs.inner.Marks.{came, first_missing, has_all}
 use Rattle.anti_replicas.specs.inner.Standing.{IsKept}
@@ -43,7 +43,7 @@ part_of_some kind r p has =
     (leb-true 1 p both.0, leb-true p (parts_of kind r.value) both.1)
 
 -- Whether the marks of a write say that it is whole.
-module _ (s : Store) (h : List Entry) (newest : Newest) (v : ℕ) (k : Kept) (kept : IsKept s h newest v k) (number : k.row.version ≡ v) (g : ℕ) (low : g < 8) where
+module _ (s : Store) (h : List Entry) (newest : Newest) (v : ℕ) (k : KeptWrite) (kept : IsKept s h newest v k) (number : k.row.version ≡ v) (g : ℕ) (low : g < 8) where
   mark_of : (p : ℕ) → 1 ≤ p → p ≤ k.parts → came k g p ≡ is_shipped h g k.row.version p
   mark_of p first last = kept.marks g p low first (omega (arith, kept.few)) ∙ ap (λ (n : ℕ). is_shipped h g n p) (sym number)
 
@@ -63,7 +63,7 @@ module _ (m : Replicas) (s : Store) (h : List Entry) (at : At m s h) where
   its_part v p has =
       let in' = version_within s h at.legal v p has in
       let within : v - 1 < length m.kept.items = omega (arith, count_is m s h at.state, in'.0, in'.1) in
-      let k : Kept = get_or m.kept.items (v - 1) (record { row = absent []; marks = []; parts = 0 }) in
+      let k : KeptWrite = get_or m.kept.items (v - 1) (record { row = absent []; marks = []; parts = 0 }) in
       let is : slice_get m.kept.items (v - 1) ≡ Some k = slice_get-get_or m.kept.items (v - 1) (record { row = absent []; marks = []; parts = 0 }) within in
       let kept : IsKept s h m.newest v k = kept_is m s h at.state v k in'.0 is in
       let part = part_of_some s.kind k.row p (ap (λ (o : Option Row). has_part s.kind o p) (sym (row_there m s h at v k in'.0 is)) ∙ has) in
@@ -88,11 +88,11 @@ module _ (m : Replicas) (s : Store) (h : List Entry) (at : At m s h) where
       false_from_ne_true (is_shipped h g v p) (λ was. let in' = was_part g v p was in
       ⊎_elim (λ (low : p ≡ 0). omega (arith, in'.2)) (λ (high : 4 < p). omega (arith, in'.3)) out)
 
-  pub mark_is : (g v p : ℕ) (k : Kept) → g < 8 → (p ≡ 0 → ⊥) → p ≤ 4 → 1 ≤ v → slice_get m.kept.items (v - 1) ≡ Some k → came k g p ≡ is_shipped h g v p
+  pub mark_is : (g v p : ℕ) (k : KeptWrite) → g < 8 → (p ≡ 0 → ⊥) → p ≤ 4 → 1 ≤ v → slice_get m.kept.items (v - 1) ≡ Some k → came k g p ≡ is_shipped h g v p
   mark_is g v p k low some few first is = (kept_is m s h at.state v k first is).marks g p low (omega arith) few
 
   -- whether a part is there
-  pub part_is : (v p : ℕ) (k : Kept) → (p ≡ 0 → ⊥) → 1 ≤ v → slice_get m.kept.items (v - 1) ≡ Some k → leb p k.parts ≡ has_part s.kind (row_of h v) p
+  pub part_is : (v p : ℕ) (k : KeptWrite) → (p ≡ 0 → ⊥) → 1 ≤ v → slice_get m.kept.items (v - 1) ≡ Some k → leb p k.parts ≡ has_part s.kind (row_of h v) p
   part_is v p k some first is =
       let one : leb 1 p ≡ true = le-leb 1 p (omega arith) in
       ap (leb p) (kept_is m s h at.state v k first is).parts
@@ -223,7 +223,7 @@ module _ (m : Replicas) (s : Store) (h : List Entry) (at : At m s h) (g : ℕ) (
   pub next_over : length m.kept.items ≤ upto_of s.kind h g → next_shipment s h g ≡ None
   next_over all = find_nowhere (can s h g) (shipments s.kind) (rows h) (λ i d short. passed i d (omega (arith, count_is m s h at.state)))
 
-  module _ (u : ℕ) (so : u ≡ upto_of s.kind h g) (k : Kept) (is : slice_get m.kept.items u ≡ Some k) where
+  module _ (u : ℕ) (so : u ≡ upto_of s.kind h g) (k : KeptWrite) (is : slice_get m.kept.items u ≡ Some k) where
     short : u < length (rows h)
     short = omega (arith, count_is m s h at.state, slice_get_within m.kept.items u k is)
 
@@ -231,7 +231,7 @@ module _ (m : Replicas) (s : Store) (h : List Entry) (at : At m s h) (g : ℕ) (
     kept = kept_is m s h at.state (u + 1) k (omega arith) (ap (λ (i : ℕ). slice_get m.kept.items i) (omega arith) ∙ is)
 
     row : get_or (rows h) u k.row ≡ k.row
-    row = row_is m s h at.state u k k.row (slice_get_within m.kept.items u k is) ∙ ap (λ (x : Kept). x.row) (get_or_from_slice_get m.kept.items u k k is)
+    row = row_is m s h at.state u k k.row (slice_get_within m.kept.items u k is) ∙ ap (λ (x : KeptWrite). x.row) (get_or_from_slice_get m.kept.items u k k is)
 
     number : k.row.version ≡ u + 1
     number = ap (λ (r : Row). r.version) (sym row) ∙ version_at s h at.legal u k.row short

@@ -17,20 +17,20 @@ use Rattle.anti_kind.specs.Stored.{rows, row_of}
 use Rattle.anti_kind.specs.Store.{Store, is_written}
 use Rattle.anti_kind.proofs.Rows.{or_false, Numbered, rows_numbered, row_of_at, row_of_none, version_at}
 use Rattle.anti_replicas.specs.declared.replicas.Replicas.{Replicas}
-use Rattle.anti_replicas.specs.declared.kept.Kept.{Kept}
+use Rattle.anti_replicas.specs.declared.kept_write.KeptWrite.{KeptWrite}
 use Rattle.anti_replicas.specs.inner.Standing.{IsKept, Stands}
 use Rattle.anti_replicas.specs.Stores.{At}
 
 module _ (m : Replicas) (s : Store) (h : List Entry) (state : Stands m s h) where
   -- a kept row is the history's row
-  pub row_is : (i : ℕ) (d : Kept) (e : Row) → i < length m.kept.items → get_or (rows h) i e ≡ (get_or m.kept.items i d).row
-  row_is i d e lt = ap (λ (rs : List Row). get_or rs i e) (sym state.rows_are) ∙ get_or-map (λ (k : Kept). k.row) m.kept.items i d e lt
+  pub row_is : (i : ℕ) (d : KeptWrite) (e : Row) → i < length m.kept.items → get_or (rows h) i e ≡ (get_or m.kept.items i d).row
+  row_is i d e lt = ap (λ (rs : List Row). get_or rs i e) (sym state.rows_are) ∙ get_or-map (λ (k : KeptWrite). k.row) m.kept.items i d e lt
 
   pub count_is : length (rows h) ≡ length m.kept.items
-  count_is = ap (λ (rs : List Row). length rs) (sym state.rows_are) ∙ length-map m.kept.items (λ (k : Kept). k.row)
+  count_is = ap (λ (rs : List Row). length rs) (sym state.rows_are) ∙ length-map m.kept.items (λ (k : KeptWrite). k.row)
 
   -- what is kept of the version v
-  pub kept_is : (v : ℕ) (k : Kept) → 1 ≤ v → slice_get m.kept.items (v - 1) ≡ Some k → IsKept s h m.newest v k
+  pub kept_is : (v : ℕ) (k : KeptWrite) → 1 ≤ v → slice_get m.kept.items (v - 1) ≡ Some k → IsKept s h m.newest v k
   kept_is v k first is =
       let kept : IsKept s h m.newest (v - 1 + 1) (get_or m.kept.items (v - 1) k) = state.kept_are (v - 1) k (slice_get_within m.kept.items (v - 1) k is) in
       let number : v - 1 + 1 ≡ v = omega arith in
@@ -38,22 +38,22 @@ module _ (m : Replicas) (s : Store) (h : List Entry) (state : Stands m s h) wher
 
 -- The row of a version.
 module _ (m : Replicas) (s : Store) (h : List Entry) (at : At m s h) (v : ℕ) where
-  pub row_there : (k : Kept) → 1 ≤ v → slice_get m.kept.items (v - 1) ≡ Some k → row_of h v ≡ Some k.row
+  pub row_there : (k : KeptWrite) → 1 ≤ v → slice_get m.kept.items (v - 1) ≡ Some k → row_of h v ≡ Some k.row
   row_there k first is =
       let within : v - 1 < length m.kept.items = slice_get_within m.kept.items (v - 1) k is in
       let short : v - 1 < length (rows h) = omega (arith, count_is m s h at.state) in
       row_of_at s h at.legal v (v - 1) k.row (omega arith) short
-      ∙ ap (λ (r : Row). Some r) (row_is m s h at.state (v - 1) k k.row within ∙ ap (λ (x : Kept). x.row) (get_or_from_slice_get m.kept.items (v - 1) k k is))
+      ∙ ap (λ (r : Row). Some r) (row_is m s h at.state (v - 1) k k.row within ∙ ap (λ (x : KeptWrite). x.row) (get_or_from_slice_get m.kept.items (v - 1) k k is))
 
   pub row_absent : (v ≡ 0) ⊎ (length m.kept.items < v) → row_of h v ≡ None
   row_absent out =
       row_of_none s h at.legal v (⊎_elim (λ (low : v ≡ 0). inl low) (λ (high : length m.kept.items < v). inr (omega (arith, count_is m s h at.state))) out)
 
-  pub version_is : (k : Kept) → 1 ≤ v → slice_get m.kept.items (v - 1) ≡ Some k → k.row.version ≡ v
+  pub version_is : (k : KeptWrite) → 1 ≤ v → slice_get m.kept.items (v - 1) ≡ Some k → k.row.version ≡ v
   version_is k first is =
       let within : v - 1 < length m.kept.items = slice_get_within m.kept.items (v - 1) k is in
       let short : v - 1 < length (rows h) = omega (arith, count_is m s h at.state) in
-      let row : get_or (rows h) (v - 1) k.row ≡ k.row = row_is m s h at.state (v - 1) k k.row within ∙ ap (λ (x : Kept). x.row) (get_or_from_slice_get m.kept.items (v - 1) k k is) in
+      let row : get_or (rows h) (v - 1) k.row ≡ k.row = row_is m s h at.state (v - 1) k k.row within ∙ ap (λ (x : KeptWrite). x.row) (get_or_from_slice_get m.kept.items (v - 1) k k is) in
       let number : (get_or (rows h) (v - 1) k.row).version ≡ v - 1 + 1 = version_at s h at.legal (v - 1) k.row short in
       ap (λ (r : Row). r.version) (sym row) ∙ number ∙ omega arith
 
@@ -83,12 +83,12 @@ module _ (m : Replicas) (s : Store) (h : List Entry) (at : At m s h) (id : Write
       sym (any_none (λ r. bytes_eq r.key id.key) 0 (rows h) (rows_numbered s h at.legal) id.version
       (⊎_elim (λ (low : id.version ≡ 0). inl (omega arith)) (λ (high : length m.kept.items < id.version). inr (omega (arith, count_is m s h at.state))) out))
 
-  pub written_at : (k : Kept) → 1 ≤ id.version → slice_get m.kept.items (id.version - 1) ≡ Some k → bytes_eq k.row.key id.key ≡ is_written h id
+  pub written_at : (k : KeptWrite) → 1 ≤ id.version → slice_get m.kept.items (id.version - 1) ≡ Some k → bytes_eq k.row.key id.key ≡ is_written h id
   written_at k first is =
       let within : id.version - 1 < length m.kept.items = slice_get_within m.kept.items (id.version - 1) k is in
       let short : id.version - 1 < length (rows h) = omega (arith, count_is m s h at.state) in
       sym (any_at (λ r. bytes_eq r.key id.key) 0 (rows h) (rows_numbered s h at.legal) id.version (id.version - 1) k.row (omega arith) short
-      ∙ ap (λ (r : Row). bytes_eq r.key id.key) (row_is m s h at.state (id.version - 1) k k.row within ∙ ap (λ (x : Kept). x.row) (get_or_from_slice_get m.kept.items (id.version - 1) k k is)))
+      ∙ ap (λ (r : Row). bytes_eq r.key id.key) (row_is m s h at.state (id.version - 1) k k.row within ∙ ap (λ (x : KeptWrite). x.row) (get_or_from_slice_get m.kept.items (id.version - 1) k k is)))
 
 -- The loops over a lineage: an id goes to the end of what was found before it.
 

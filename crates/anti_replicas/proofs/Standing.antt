@@ -21,7 +21,7 @@ use Rattle.anti_kind.proofs.Rows.{is_write, is_shipping, new_row, rows_write, ro
 use Rattle.anti_kind.proofs.Shipped.{IsReadyShipment, ready_ship, ready_shipment}
 use Rattle.anti_kind.proofs.Units.{owed_write, owed_ship, owed_other, ship_owed}
 use Rattle.anti_replicas.specs.declared.replicas.Replicas.{Replicas}
-use Rattle.anti_replicas.specs.declared.kept.Kept.{Kept}
+use Rattle.anti_replicas.specs.declared.kept_write.KeptWrite.{KeptWrite}
 use Rattle.anti_replicas.specs.declared.newest.Newest.{Newest}
 use Rattle.anti_replicas.specs.inner.Marks.{mark_at, came, has_all, marked}
 use Rattle.anti_replicas.specs.inner.Newest.{newest_at, HasPlace, MakesPlace}
@@ -34,7 +34,7 @@ use Rattle.anti_replicas.proofs.Bringing.{replica_below, whole_of, its_part, no_
 use Rattle.anti_replicas.proofs.Shows.{shows_write, upto_write, shows_ship, shows_other, upto_other, whole_stays, elsewhere, of_another, another_part, upto_elsewhere}
 
 -- What is kept of a write stays, where nothing of its version is shipped and no key loses its place.
-kept_later : (s : Store) (h k : List Entry) (old new : Newest) (v : ℕ) (x : Kept) → ((g p : ℕ) → is_shipped k g v p ≡ is_shipped h g v p)
+kept_later : (s : Store) (h k : List Entry) (old new : Newest) (v : ℕ) (x : KeptWrite) → ((g p : ℕ) → is_shipped k g v p ≡ is_shipped h g v p)
     → ((key : List ℕ) → HasPlace old key → HasPlace new key) → IsKept s h old v x → IsKept s k new v x
 kept_later s h k old new v x same places kept = record {
   marks = λ g p low first last. kept.marks g p low first last ∙ sym (same g p);
@@ -46,17 +46,17 @@ kept_later s h k old new v x same places kept = record {
 }
 
 -- How far a region has everything, by the marks.
-module _ (s : Store) (h : List Entry) (newest : Newest) (ks : List Kept) (legal : IsLegal (store s) h) (rows_are : map (λ (k : Kept). k.row) ks ≡ rows h) (kept : AreKept s h newest ks) (g : ℕ) (low : g < 8) where
-  kept_whole : (i : ℕ) (d : Kept) (e : Row) → i < length ks → has_all g (get_or ks i d) ≡ is_whole s.kind h g (get_or (rows h) i e)
+module _ (s : Store) (h : List Entry) (newest : Newest) (ks : List KeptWrite) (legal : IsLegal (store s) h) (rows_are : map (λ (k : KeptWrite). k.row) ks ≡ rows h) (kept : AreKept s h newest ks) (g : ℕ) (low : g < 8) where
+  kept_whole : (i : ℕ) (d : KeptWrite) (e : Row) → i < length ks → has_all g (get_or ks i d) ≡ is_whole s.kind h g (get_or (rows h) i e)
   kept_whole i d e short =
-      let row : (get_or ks i d).row ≡ get_or (rows h) i e = sym (get_or-map (λ (k : Kept). k.row) ks i d e short) ∙ ap (λ (rs : List Row). get_or rs i e) rows_are in
-      let within : i < length (rows h) = omega (arith, length-map ks (λ (k : Kept). k.row), ap (λ (rs : List Row). length rs) rows_are) in
+      let row : (get_or ks i d).row ≡ get_or (rows h) i e = sym (get_or-map (λ (k : KeptWrite). k.row) ks i d e short) ∙ ap (λ (rs : List Row). get_or rs i e) rows_are in
+      let within : i < length (rows h) = omega (arith, length-map ks (λ (k : KeptWrite). k.row), ap (λ (rs : List Row). length rs) rows_are) in
       whole_of s h newest (i + 1) (get_or ks i d) (kept i d short) (ap (λ (r : Row). r.version) row ∙ version_at s h legal i e within) g low
       ∙ ap (is_whole s.kind h g) row
 
   upto_by : prefix_len (has_all g) ks ≡ upto_of s.kind h g
   upto_by =
-      prefix_alike (has_all g) (is_whole s.kind h g) ks (rows h) (sym (length-map ks (λ (k : Kept). k.row)) ∙ ap (λ (rs : List Row). length rs) rows_are)
+      prefix_alike (has_all g) (is_whole s.kind h g) ks (rows h) (sym (length-map ks (λ (k : KeptWrite). k.row)) ∙ ap (λ (rs : List Row). length rs) rows_are)
       (λ i d e short. kept_whole i d e short)
 
 -- what an entry weighs, from the reply that it is due
@@ -74,16 +74,16 @@ module _ (m n : Replicas) (s : Store) (h : List Entry) (e : Entry) (name key val
   abbrev the_row : Row
   the_row = record { key = key; version = v; value = value; lineage = lineage }
 
-  abbrev one_kept : Kept
+  abbrev one_kept : KeptWrite
   one_kept = record { row = the_row; marks = replicate 32 false; parts = parts_of m.kind value }
 
-  wrote_rows : map (λ (k : Kept). k.row) n.kept.items ≡ rows (h ++ e ∷ [])
+  wrote_rows : map (λ (k : KeptWrite). k.row) n.kept.items ≡ rows (h ++ e ∷ [])
   wrote_rows =
       let number : v ≡ length (rows h) + 1 = omega (arith, count_is m s h at.state) in
       let row : the_row ≡ new_row s h name value lineage =
       ap (λ (x : ℕ). let r : Row = record { key = key; version = x; value = value; lineage = lineage } in r) number
       ∙ ap (λ (x : List ℕ). let r : Row = record { key = x; version = length (rows h) + 1; value = value; lineage = lineage } in r) key_is in
-      ap (map (λ (k : Kept). k.row)) keeps.kept_is ∙ map_push (λ (k : Kept). k.row) m.kept.items one_kept
+      ap (map (λ (k : KeptWrite). k.row)) keeps.kept_is ∙ map_push (λ (k : KeptWrite). k.row) m.kept.items one_kept
       ∙ ap (λ (rs : List Row). rs ++ the_row ∷ []) at.state.rows_are
       ∙ ap (λ (r : Row). rows h ++ r ∷ []) row
       ∙ sym (rows_write s h e name value lineage f is)
@@ -158,7 +158,7 @@ now_if false m n region key v brings g k =
     ∙ ap (λ (b : Bool). max (cond b v 0) (newest_at m g k)) (sym (ap (λ (b : Bool). (region == g) && b) (and_false (bytes_eq key k)) ∙ and_false (region == g)))
 
 module _ (m n : Replicas) (s : Store) (h : List Entry) (e : Entry) (region version part : ℕ) (at : At m s h) (f : Follows (store s) h e) (is : e.call ≡ Ship region version part) (marks : Marks m n region version part) where
-  no_kept : Kept
+  no_kept : KeptWrite
   no_kept = record { row = absent []; marks = []; parts = 0 }
 
   ready_part : IsReadyShipment s h region version part
@@ -176,18 +176,18 @@ module _ (m n : Replicas) (s : Store) (h : List Entry) (e : Entry) (region versi
   legal : IsLegal (store s) (h ++ e ∷ [])
   legal = legal_more (store s) h e at.legal f
 
-  abbrev was : Kept → Kept
+  abbrev was : KeptWrite → KeptWrite
   was d = get_or m.kept.items (version - 1) d
 
-  abbrev new_one : Kept
+  abbrev new_one : KeptWrite
   new_one = marked region part (was no_kept)
 
-  shipped_rows : map (λ (k : Kept). k.row) n.kept.items ≡ rows (h ++ e ∷ [])
+  shipped_rows : map (λ (k : KeptWrite). k.row) n.kept.items ≡ rows (h ++ e ∷ [])
   shipped_rows =
-      ap (map (λ (k : Kept). k.row)) (marks.kept_is no_kept)
-      ∙ map-set (λ (k : Kept). k.row) m.kept.items (version - 1) new_one
-      ∙ sym (map-set (λ (k : Kept). k.row) m.kept.items (version - 1) (was no_kept))
-      ∙ ap (map (λ (k : Kept). k.row)) (set-get_or m.kept.items (version - 1) no_kept)
+      ap (map (λ (k : KeptWrite). k.row)) (marks.kept_is no_kept)
+      ∙ map-set (λ (k : KeptWrite). k.row) m.kept.items (version - 1) new_one
+      ∙ sym (map-set (λ (k : KeptWrite). k.row) m.kept.items (version - 1) (was no_kept))
+      ∙ ap (map (λ (k : KeptWrite). k.row)) (set-get_or m.kept.items (version - 1) no_kept)
       ∙ at.state.rows_are ∙ sym (rows_other h e (ap is_write is))
 
   was_kept : IsKept s h m.newest version (was no_kept)
@@ -260,9 +260,9 @@ module _ (m n : Replicas) (s : Store) (h : List Entry) (e : Entry) (region versi
 
   -- how far the region has everything moves on
   count_now : length n.kept.items ≡ length m.kept.items
-  count_now = ap (λ (ks : List Kept). length ks) (marks.kept_is no_kept) ∙ length-set m.kept.items (version - 1) new_one
+  count_now = ap (λ (ks : List KeptWrite). length ks) (marks.kept_is no_kept) ∙ length-set m.kept.items (version - 1) new_one
 
-  stay_whole : (i : ℕ) (d : Kept) → i < upto_of s.kind h region → has_all region (get_or n.kept.items i d) ≡ true
+  stay_whole : (i : ℕ) (d : KeptWrite) → i < upto_of s.kind h region → has_all region (get_or n.kept.items i d) ≡ true
   stay_whole i d less =
       let short : i < length n.kept.items = omega (arith, count_now, upto_within m s h at region) in
       kept_whole s (h ++ e ∷ []) n.newest n.kept.items legal shipped_rows kept_now region low i d (absent []) short
@@ -364,7 +364,7 @@ stands_with_place m n s h state makes kept is = subst (λ (x : Replicas). Stands
   number_is = state.number_is;
   regions_are = state.regions_are;
   replicas_are = state.replicas_are;
-  rows_are = ap (map (λ (k : Kept). k.row)) kept ∙ state.rows_are;
+  rows_are = ap (map (λ (k : KeptWrite). k.row)) kept ∙ state.rows_are;
   kept_are = subst (AreKept s h n.newest) (sym kept) (λ i d short.
       kept_later s h h m.newest n.newest (i + 1) (get_or m.kept.items i d) (λ g p. refl) makes.places (state.kept_are i d short));
   marks = state.marks;

@@ -5,7 +5,7 @@
 
 mod cells;
 mod channels;
-mod kept;
+mod kept_write;
 mod keyed;
 mod looks;
 mod newest;

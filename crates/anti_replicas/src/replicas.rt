@@ -2,7 +2,7 @@ ghost use Rattle.std.specs.Prelude.{◌≡◌, ◌≤◌, List, [], length, IfOk
 ghost use Rattle.anti_kind.specs.declared.entry.Entry.{Entry};
 ghost use Rattle.anti_kind.specs.Store.{Store, is_replica};
 
-use crate::kept::Kept;
+use crate::kept_write::KeptWrite;
 use crate::newest::Newest;
 use anti_ids::{MOST_REGIONS, NoMemory};
 use anti_kind::StoreKind;
@@ -16,7 +16,7 @@ pub struct Replicas {
     pub(crate) replicas: u8,
     pub(crate) regions: Vec<u32>,
     // the write of version v at the index v - 1
-    pub(crate) kept: Vec<Kept>,
+    pub(crate) kept: Vec<KeptWrite>,
     // for each region how many versions, from the first on, are whole there
     pub(crate) upto: [u64; MOST_REGIONS],
     pub(crate) newest: Newest,

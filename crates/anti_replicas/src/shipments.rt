@@ -7,12 +7,12 @@ ghost use Rattle.anti_kind.specs.Store.{Store, is_table, has_part, is_next, can_
 ghost use Rattle.anti_kind.specs.Objects.{store, Follows};
 ghost use Rattle.anti_replicas.specs.inner.Marks.{has_all};
 
-use crate::kept::{Kept, MOST_PARTS};
+use crate::kept_write::{KeptWrite, MOST_PARTS};
 use crate::replicas::Replicas;
 use anti_ids::MOST_REGIONS;
 
 // How many of these writes, from the first on, are whole at the region.
-fn whole_from(kept: &[Kept], region: u32) -> u64
+fn whole_from(kept: &[KeptWrite], region: u32) -> u64
     ensures { result ≡ prefix_len (has_all region) kept.now }
 {
     kept.iter().take_while(|kept| kept.is_whole(region)).count() as u64

@@ -4,7 +4,7 @@ ghost use Rattle.anti_kind.specs.Stored.{parts_of};
 ghost use Rattle.anti_kind.specs.Store.{Store, store_need, owed_shipments};
 ghost use Rattle.anti_kind.specs.Objects.{store, weight, held, Follows};
 
-use crate::kept::MOST_PARTS;
+use crate::kept_write::MOST_PARTS;
 use crate::replicas::Replicas;
 use anti_ids::{PART_BYTES, Value};
 use anti_kind::{Call, StoreKind};

@@ -6,14 +6,14 @@ ghost use Rattle.anti_kind.specs.Stored.{rows, row_of, parts_of};
 ghost use Rattle.anti_kind.specs.Store.{Store, key_for, is_there};
 ghost use Rattle.anti_kind.specs.Objects.{store, Follows};
 
-use crate::kept::{Kept, MARKS};
+use crate::kept_write::{KeptWrite, MARKS};
 use crate::replicas::Replicas;
 use crate::units::parts_of;
 use anti_ids::{Copies, Lineage, Name, NoMemory, Value};
 use anti_kind::Row;
 
 impl Replicas {
-    ghost use Rattle.anti_replicas.specs.declared.kept.Kept.{Kept};
+    ghost use Rattle.anti_replicas.specs.declared.kept_write.KeptWrite.{KeptWrite};
     ghost use Rattle.anti_replicas.specs.inner.Standing.{Stands, Keeps};
     ghost use Rattle.anti_replicas.specs.Stores.{At, MayWrite, kind_of, number_of, regions_of};
 
@@ -25,7 +25,7 @@ impl Replicas {
     }
 
     // What is kept of a version.
-    pub(crate) fn kept_at(&self, version: u64) -> Option<&Kept>
+    pub(crate) fn kept_at(&self, version: u64) -> Option<&KeptWrite>
         ensures first { IfSome result (λ kept. 1 ≤ version) }
         ensures kept { IfSome result (λ kept. slice_get self.now.kept.items (version - 1) ≡ Some kept.now) }
         ensures none { IfNone result ((version ≡ 0) ⊎ (length self.now.kept.items < version)) }
@@ -93,7 +93,7 @@ impl Replicas {
             lineage: lineage.copy(self.alloc)?,
         };
         self.newest.make_place(key)?;
-        let kept = Kept {
+        let kept = KeptWrite {
             row,
             marks: [false; MARKS],
             parts,

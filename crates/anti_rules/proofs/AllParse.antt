@@ -15,7 +15,7 @@ use Rattle.anti_rules.specs.Statements.{body_in}
 use Rattle.anti_rules.specs.Rules.{table_line, rule_line}
 use Rattle.anti_rules.specs.Order.{rules, breach_from, first_breach}
 use Rattle.anti_rules.specs.inner.Parses.{if_parsed, body_stated, body_parses, bodies_parse, service_parses, all_parse, all_bodies, parsed_bodies}
-use Rattle.anti_rules.specs.declared.keys.Kind.TheVariants.{Text, Things}
+use Rattle.anti_rules.specs.declared.table_keys.KeyKind.TheVariants.{Text, Things}
 use Rattle.anti_rules.specs.declared.rule.Rule.{Rule}
 use Rattle.anti_rules.specs.declared.rule.Rule.TheVariants.{Typed, Counted, Statements, Blocks, Variables}
 use Rattle.anti_rules.specs.declared.place.Part.TheVariants.{Handler}

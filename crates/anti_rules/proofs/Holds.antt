@@ -9,7 +9,7 @@ use Rattle.std.specs.Option.{option_and_then}
 use Rattle.toml.specs.Data.{Data, Members, get_member, as_array}
 use Rattle.anti_ids.specs.Names.{is_plain}
 use Rattle.anti_rules.specs.Keys.{keys_of, all_fit, has_count, elements_of}
-use Rattle.anti_rules.specs.declared.keys.Kind.TheVariants.{Things}
+use Rattle.anti_rules.specs.declared.table_keys.KeyKind.TheVariants.{Things}
 use Rattle.anti_lang.specs.Words.{words}
 use Rattle.anti_lang.specs.Program.{Block}
 use Rattle.anti_lang.specs.Lines.{Line, read_line}

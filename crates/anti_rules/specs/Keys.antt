@@ -6,32 +6,32 @@ use Rattle.std.specs.Str.{bytes_eq}
 use Rattle.toml.specs.Data.{Data, Members, get_member, as_str, as_integer, as_array}
 use Rattle.anti_ids.specs.declared.limits.TheConstants.{GREATEST_SEED, MOST_CHOICES, MOST_HANDLERS, MOST_LINES, MOST_REGIONS, MOST_REPLICAS, MOST_REQUESTS, MOST_SERVICES, MOST_STORES, MOST_SUBS, MOST_TRIES, MOST_WORKERS}
 use Rattle.anti_rules.specs.Trees.{names, elements}
-use Rattle.anti_rules.specs.declared.keys.Kind.{Kind}
-use Rattle.anti_rules.specs.declared.keys.Kind.TheVariants.{Text, Number, Texts, Things}
-use Rattle.anti_rules.specs.declared.keys.Key as code
+use Rattle.anti_rules.specs.declared.table_keys.KeyKind.{KeyKind}
+use Rattle.anti_rules.specs.declared.table_keys.KeyKind.TheVariants.{Text, Number, Texts, Things}
+use Rattle.anti_rules.specs.declared.table_keys.TableKey as code
 use Rattle.anti_rules.specs.declared.rule.Rule.{Rule}
 use Rattle.anti_rules.specs.declared.rule.Rule.TheVariants.{Typed, Counted, Ranged}
 use Rattle.anti_rules.specs.declared.place.Part.{Part}
 use Rattle.anti_rules.specs.declared.place.Part.TheVariants.{Top, Region, Store, Service, Handler, Sub, Request, Choice}
 
 -- A key: what stands there, and whether it has no default.
-pub record Key : Type 0 where
+pub record TableKey : Type 0 where
   pub name : List ℕ
-  pub kind : Kind
+  pub kind : KeyKind
   pub is_needed : Bool
 
 -- The key that a key of the code is.
-abbrev pub key_view : code.Key → Key
+abbrev pub key_view : code.TableKey → TableKey
 key_view key = record { name = key.name.now; kind = key.kind; is_needed = key.is_needed }
 
-abbrev pub needed : List ℕ → Kind → Key
+abbrev pub needed : List ℕ → KeyKind → TableKey
 needed name kind = record { name = name; kind = kind; is_needed = true }
 
-abbrev pub optional : List ℕ → Kind → Key
+abbrev pub optional : List ℕ → KeyKind → TableKey
 optional name kind = record { name = name; kind = kind; is_needed = false }
 
 -- The keys of the tables of each part. The lists whose elements have places of their own are `Things`: so are a body and its lines.
-abbrev pub keys_of : Part → List Key
+abbrev pub keys_of : Part → List TableKey
 keys_of Top =
     needed (codes "regions") (Things 1 MOST_REGIONS)
     ∷ optional (codes "seed") (Number (pos 0) (pos GREATEST_SEED))
@@ -88,42 +88,42 @@ abbrev pub elements_of : Data → List Data
 elements_of d = option_map_or elements (as_array d) []
 
 -- Whether a thing has the type of a key.
-abbrev pub has_type : Kind → Data → Bool
+abbrev pub has_type : KeyKind → Data → Bool
 has_type Text d = is_text d
 has_type (Number least most) d = is_some (as_integer d)
 has_type (Texts least most) d = is_some (as_array d) && are_texts (elements_of d)
 has_type (Things least most) d = is_some (as_array d)
 
 -- Whether a thing has a number of elements in the range of a key.
-abbrev pub has_count : Kind → Data → Bool
+abbrev pub has_count : KeyKind → Data → Bool
 has_count (Texts least most) d = is_count least most (elements_of d)
 has_count (Things least most) d = is_count least most (elements_of d)
 has_count _ d = true
 
 -- Whether a thing is in the range of a key.
-abbrev pub has_range : Kind → Data → Bool
+abbrev pub has_range : KeyKind → Data → Bool
 has_range (Number least most) d = option_map_or (λ number. int_le least number && int_le number most) (as_integer d) true
 has_range _ d = true
 
 -- The test that a rule makes of what stands at a key.
-abbrev pub fits : Rule → Kind → Data → Bool
+abbrev pub fits : Rule → KeyKind → Data → Bool
 fits Typed kind d = has_type kind d
 fits Counted kind d = has_count kind d
 fits Ranged kind d = has_range kind d
 fits _ kind d = true
 
 -- Whether a name is that of a key.
-abbrev pub is_key : List Key → List ℕ → Bool
+abbrev pub is_key : List TableKey → List ℕ → Bool
 is_key keys name = list_any (λ key. bytes_eq name key.name) keys
 
 -- Whether each key of a table is listed.
-abbrev pub are_listed : List Key → Members → Bool
+abbrev pub are_listed : List TableKey → Members → Bool
 are_listed keys ms = list_all (is_key keys) (names ms)
 
 -- Whether each key without a default is there.
-abbrev pub are_there : List Key → Members → Bool
+abbrev pub are_there : List TableKey → Members → Bool
 are_there keys ms = list_all (λ key. not key.is_needed || is_some (get_member key.name ms)) keys
 
 -- Whether what stands at the keys passes a test of its kind.
-abbrev pub all_fit : (Kind → Data → Bool) → List Key → Members → Bool
+abbrev pub all_fit : (KeyKind → Data → Bool) → List TableKey → Members → Bool
 all_fit test keys ms = list_all (λ key. option_map_or (test key.kind) (get_member key.name ms) true) keys

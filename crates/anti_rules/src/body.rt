@@ -10,7 +10,7 @@ ghost use Rattle.anti_rules.specs.Statements.{next, body_in, fault_of, body_faul
 
 use crate::rule::Rule;
 use crate::statement::line_fits;
-use crate::tree::{text_of, things_in};
+use crate::toml_tree::{text_of, things_in};
 use anti_ids::{Bytes, List, MOST_LINES, NoMemory};
 use anti_lang::{LangFault, Lines, parse, read_line};
 use std::alloc::Global;

@@ -4,7 +4,7 @@ ghost use Rattle.anti_rules.specs.Order.{rules, breach_from, first_breach};
 ghost use Rattle.anti_rules.specs.Walk.{first_place};
 ghost use Rattle.anti_rules.specs.inner.Parses.{parsed_bodies, all_bodies, is_shown, breach_in};
 
-use crate::parsed::{Bodies, parsed_bodies, services_fit};
+use crate::bodies::{Bodies, parsed_bodies, services_fit};
 use crate::place::Place;
 use crate::rule::Rule;
 use crate::walk::first_place;

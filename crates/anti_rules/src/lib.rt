@@ -1,20 +1,20 @@
 //! The rules of documents: what stands in the tables of a document, and the first rule that fails with its place.
 #![tactic(auto)]
 
+mod bodies;
 mod body;
 mod breach;
-mod keys;
-mod parsed;
 mod place;
 mod rule;
-mod rules;
+mod rule_lines;
 mod statement;
 mod store_facts;
 mod table;
-mod tree;
+mod table_keys;
+mod toml_tree;
 mod walk;
 
+pub use bodies::Bodies;
 pub use breach::{Breach, first_breach};
-pub use parsed::Bodies;
 pub use place::{Part, Place};
-pub use tree::{has_text, member, member_in, text_at, text_of, things_at, things_in};
+pub use toml_tree::{has_text, member, member_in, text_at, text_of, things_at, things_in};

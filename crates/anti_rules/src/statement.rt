@@ -8,7 +8,7 @@ ghost use Rattle.anti_rules.specs.inner.Parses.{body_fits};
 
 use crate::rule::Rule;
 use crate::store_facts::facts_at;
-use crate::tree::{is_among, is_named, named, services_in, stores_in, things_in};
+use crate::toml_tree::{is_among, is_named, named, services_in, stores_in, things_in};
 use anti_ids::Name;
 use anti_kind::Facts;
 use anti_lang::{Line, Statement};

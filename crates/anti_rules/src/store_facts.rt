@@ -2,7 +2,7 @@ ghost use Rattle.std.specs.Prelude.{◌≡◌};
 ghost use Rattle.toml.specs.View.{view};
 ghost use Rattle.anti_rules.specs.StoreFacts.{facts_at};
 
-use crate::tree::text_at;
+use crate::toml_tree::text_at;
 use anti_kind::{Facts, StoreKind};
 use toml::Value;
 

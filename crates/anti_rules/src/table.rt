@@ -2,13 +2,13 @@ ghost use Rattle.std.specs.Prelude.{◌≡◌, map};
 ghost use Rattle.toml.specs.View.{view, table_view};
 ghost use Rattle.anti_rules.specs.Keys.{key_view, is_key, are_listed, are_there, is_text, are_texts, elements_of, is_count, has_type, has_count, has_range, fits, all_fit};
 
-use crate::keys::{Key, Kind};
 use crate::rule::Rule;
-use crate::tree::{elements, member};
+use crate::table_keys::{KeyKind, TableKey};
+use crate::toml_tree::{elements, member};
 use toml::{Table, Value};
 
 // Whether a name is that of a key.
-fn is_key(keys: &[Key], name: &str) -> bool
+fn is_key(keys: &[TableKey], name: &str) -> bool
     ensures { result ≡ is_key (map key_view keys.now) name.now }
 {
     for key in keys {
@@ -20,7 +20,7 @@ fn is_key(keys: &[Key], name: &str) -> bool
 }
 
 /// Whether each key of a table is listed.
-pub fn are_listed(keys: &[Key], table: &Table) -> bool
+pub fn are_listed(keys: &[TableKey], table: &Table) -> bool
     ensures { result ≡ are_listed (map key_view keys.now) (table_view table.now) }
 {
     for name in table.keys() {
@@ -32,7 +32,7 @@ pub fn are_listed(keys: &[Key], table: &Table) -> bool
 }
 
 /// Whether each key without a default is there.
-pub fn are_there(keys: &[Key], table: &Table) -> bool
+pub fn are_there(keys: &[TableKey], table: &Table) -> bool
     ensures { result ≡ are_there (map key_view keys.now) (table_view table.now) }
 {
     for key in keys {
@@ -73,27 +73,27 @@ fn elements_of(value: &Value) -> &[Value]
 }
 
 // Whether a thing has the type of a key.
-fn has_type(kind: Kind, value: &Value) -> bool
+fn has_type(kind: KeyKind, value: &Value) -> bool
     ensures { result ≡ has_type kind (view value.now) }
 {
     match kind {
-        Kind::Text => is_text(value),
-        Kind::Number { least: _, most: _ } => value.as_integer().is_some(),
-        Kind::Texts { least: _, most: _ } => value.as_array().is_some()
+        KeyKind::Text => is_text(value),
+        KeyKind::Number { least: _, most: _ } => value.as_integer().is_some(),
+        KeyKind::Texts { least: _, most: _ } => value.as_array().is_some()
             && are_texts(elements_of(value)),
-        Kind::Things { least: _, most: _ } => value.as_array().is_some(),
+        KeyKind::Things { least: _, most: _ } => value.as_array().is_some(),
     }
 }
 
 // Whether a thing has a number of elements in the range of a key.
-fn has_count(kind: Kind, value: &Value) -> bool
+fn has_count(kind: KeyKind, value: &Value) -> bool
     ensures { result ≡ has_count kind (view value.now) }
 {
     match kind {
-        Kind::Text => true,
-        Kind::Number { least: _, most: _ } => true,
-        Kind::Texts { least, most } => is_count(least, most, elements_of(value)),
-        Kind::Things { least, most } => is_count(least, most, elements_of(value)),
+        KeyKind::Text => true,
+        KeyKind::Number { least: _, most: _ } => true,
+        KeyKind::Texts { least, most } => is_count(least, most, elements_of(value)),
+        KeyKind::Things { least, most } => is_count(least, most, elements_of(value)),
     }
 }
 
@@ -105,22 +105,22 @@ fn is_count(least: usize, most: usize, values: &[Value]) -> bool
 }
 
 // Whether a thing is in the range of a key.
-fn has_range(kind: Kind, value: &Value) -> bool
+fn has_range(kind: KeyKind, value: &Value) -> bool
     ensures { result ≡ has_range kind (view value.now) }
 {
     match kind {
-        Kind::Text => true,
-        Kind::Number { least, most } => match value.as_integer() {
+        KeyKind::Text => true,
+        KeyKind::Number { least, most } => match value.as_integer() {
             Some(number) => least <= number && number <= most,
             None => true,
         },
-        Kind::Texts { least: _, most: _ } => true,
-        Kind::Things { least: _, most: _ } => true,
+        KeyKind::Texts { least: _, most: _ } => true,
+        KeyKind::Things { least: _, most: _ } => true,
     }
 }
 
 // The test that a rule makes of what stands at a key.
-fn fits(rule: Rule, kind: Kind, value: &Value) -> bool
+fn fits(rule: Rule, kind: KeyKind, value: &Value) -> bool
     ensures { result ≡ fits rule kind (view value.now) }
 {
     match rule {
@@ -132,7 +132,7 @@ fn fits(rule: Rule, kind: Kind, value: &Value) -> bool
 }
 
 /// Whether what stands at the keys passes a rule's test.
-pub fn all_fit(rule: Rule, keys: &[Key], table: &Table) -> bool
+pub fn all_fit(rule: Rule, keys: &[TableKey], table: &Table) -> bool
     ensures { result ≡ all_fit (fits rule) (map key_view keys.now) (table_view table.now) }
 {
     for key in keys {

@@ -7,8 +7,8 @@ ghost use Rattle.anti_rules.specs.Walk.{passed, first_from, first_at, first_hand
 use crate::body::next;
 use crate::place::{Part, Place};
 use crate::rule::Rule;
-use crate::rules::{rule_line, table_line};
-use crate::tree::{services_in, text_at, things_at, things_in};
+use crate::rule_lines::{rule_line, table_line};
+use crate::toml_tree::{services_in, text_at, things_at, things_in};
 use anti_ids::NoMemory;
 use std::alloc::Global;
 use toml::{Table, Value};

@@ -5,7 +5,7 @@
 //! What contracts see stands in `specs/Passes.antt`.
 #![tactic(auto)]
 
-mod calling;
+mod calls;
 mod kept;
 mod pass;
 mod port;

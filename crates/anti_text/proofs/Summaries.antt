@@ -5,7 +5,7 @@ use Rattle.anti_app.specs.declared.app.App.{App}
 use Rattle.anti_trace.specs.declared.ends.ProcessEnd.{ProcessEnd}
 use Rattle.anti_trace.specs.Ends.{ends_of}
 use Rattle.anti_order.specs.Counts.{AreCountsOf}
-use Rattle.anti_order.specs.declared.counting.AnswerCounts.{AnswerCounts}
+use Rattle.anti_order.specs.declared.answer_counts.AnswerCounts.{AnswerCounts}
 use Rattle.anti_text.specs.Report.{IsPrinted}
 use Rattle.anti_text.specs.Summary.{entry_counts, process_counts, span_counts, summary_of}
 

@@ -3,7 +3,7 @@ use Rattle.std.specs.Prelude.{ℕ, List, ◌++◌, codes, decimal}
 use Rattle.std.specs.List.{flat_map}
 use Rattle.anti_app.specs.declared.app.App.{App}
 use Rattle.anti_trace.specs.declared.mark.Mark.{Mark}
-use Rattle.anti_past.specs.declared.reading.Span.{Span}
+use Rattle.anti_past.specs.declared.span_reads.Span.{Span}
 use Rattle.anti_order.specs.declared.answer.OrderAnswer.{OrderAnswer}
 use Rattle.anti_order.specs.declared.answer.OrderAnswer.TheVariants.{Lossy, Unguarded, Order}
 use Rattle.anti_order.specs.declared.answer.SpanAnswer.{SpanAnswer}

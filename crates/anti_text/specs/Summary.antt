@@ -7,7 +7,7 @@ use Rattle.anti_proc.specs.Barriers.{is_look}
 use Rattle.anti_proc.specs.declared.end.End.{End}
 use Rattle.anti_proc.specs.declared.end.End.TheVariants.{Fine}
 use Rattle.anti_trace.specs.declared.ends.ProcessEnd.{ProcessEnd}
-use Rattle.anti_causal.specs.Words.{reads}
+use Rattle.law_causal.specs.Words.{reads}
 use Rattle.anti_order.specs.Counts.{how_many, is_lossy, is_ordered, is_unguarded}
 use Rattle.anti_text.specs.Report.{Told}
 

@@ -5,7 +5,7 @@ ghost use Rattle.anti_text.specs.inner.Runs.{IsRun, kept_text, run_text};
 
 use crate::lists::{empty_lists, item_at, item_count};
 use crate::output::Output;
-use crate::pieces::{Pieces, Run};
+use crate::pieces::{PieceRun, Pieces};
 use anti_ids::{Lineage, Name, NoMemory, WriteId};
 use anti_kind::{Entry, Reply};
 use std::alloc::Global;
@@ -121,7 +121,7 @@ impl IdTexts {
     }
 
     // Goes on with an id and a comma behind a run.
-    fn go_on(&self, out: &mut Output, run: Run, id: &WriteId) -> Result<Run, NoMemory>
+    fn go_on(&self, out: &mut Output, run: PieceRun, id: &WriteId) -> Result<PieceRun, NoMemory>
         requires { IsRun self.now.pieces run }
         ensures text { IfOk result (λ next. out.new ++ run_text self.now.pieces next
             ≡ (out.old ++ run_text self.now.pieces run) ++ kept_text self.now.stores.items id.now) }
@@ -133,7 +133,7 @@ impl IdTexts {
                 self.pieces.write(out, run)?;
                 out.id(self.stores.as_slice(), id)?;
                 out.put(b",")?;
-                Ok(Run { from: 0, to: 0 })
+                Ok(PieceRun { from: 0, to: 0 })
             }
         }
     }
@@ -143,7 +143,7 @@ impl IdTexts {
         ensures { OnOk result
             (out.new ≡ out.old ++ flat_map (kept_text self.now.stores.items) lineage.now) }
     {
-        let mut run = Run { from: 0, to: 0 };
+        let mut run = PieceRun { from: 0, to: 0 };
         for id in lineage.iter() {
             run = self.go_on(out, run, &id)?;
         }

@@ -3,6 +3,7 @@
 
 mod call_words;
 mod entry_lines;
+mod form;
 mod id_texts;
 mod json_items;
 mod json_texts;
@@ -11,19 +12,20 @@ mod mark_texts;
 mod output;
 mod pieces;
 mod placement;
-mod printed;
-mod printed_json;
 mod printer;
 mod process_lines;
+mod record_json;
+mod record_text;
 mod reply_words;
 mod report;
+mod run_summary;
 mod span_lines;
-mod summarizing;
 mod wait_lines;
 mod words;
 
+pub use form::{Form, RecordJson, RecordText, Summary};
 pub use placement::placement_line;
-pub use printed::{print, text};
-pub use printed_json::{json, print_json};
+pub use record_json::{json, print_json};
+pub use record_text::{print, text};
 pub use report::Report;
-pub use summarizing::{summarize, summary};
+pub use run_summary::{summarize, summary};

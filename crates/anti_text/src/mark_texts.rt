@@ -5,7 +5,7 @@ ghost use Rattle.anti_text.specs.inner.Runs.{IsRun, run_text};
 
 use crate::lists::{empty_lists, item_at};
 use crate::output::Output;
-use crate::pieces::{Pieces, Run};
+use crate::pieces::{PieceRun, Pieces};
 use crate::words::spaced_mark;
 use anti_app::App;
 use anti_ids::NoMemory;
@@ -111,7 +111,7 @@ impl<'a> MarkTexts<'a> {
     }
 
     // Goes on with a mark behind a run. Where it is not kept, the next run is expected behind this one.
-    fn go_on(&self, out: &mut Output, run: Run, mark: Mark) -> Result<Run, NoMemory>
+    fn go_on(&self, out: &mut Output, run: PieceRun, mark: Mark) -> Result<PieceRun, NoMemory>
         requires { IsRun self.now.pieces run }
         ensures text { IfOk result (λ next. out.new ++ run_text self.now.pieces next
             ≡ (out.old ++ run_text self.now.pieces run) ++ spaced_mark self.now.app.now mark) }
@@ -122,7 +122,7 @@ impl<'a> MarkTexts<'a> {
             None => {
                 self.pieces.write(out, run)?;
                 spaced_mark(out, self.app, mark)?;
-                Ok(Run {
+                Ok(PieceRun {
                     from: run.to,
                     to: run.to,
                 })
@@ -135,7 +135,7 @@ impl<'a> MarkTexts<'a> {
         ensures { OnOk result
             (out.new ≡ out.old ++ flat_map (spaced_mark self.now.app.now) marks.now) }
     {
-        let mut run = Run { from: 0, to: 0 };
+        let mut run = PieceRun { from: 0, to: 0 };
         for mark in marks {
             run = self.go_on(out, run, *mark)?;
         }

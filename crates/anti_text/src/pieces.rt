@@ -14,7 +14,7 @@ use std::marker::Model;
 
 /// The numbers of texts that stand behind one another, from one up to another, which are copied at once.
 #[derive(Clone, Copy)]
-pub struct Run {
+pub struct PieceRun {
     pub from: usize,
     pub to: usize,
 }
@@ -93,7 +93,7 @@ impl Pieces {
     }
 
     // The texts of a run.
-    fn bytes(&self, run: Run) -> &[u8]
+    fn bytes(&self, run: PieceRun) -> &[u8]
         requires { IsRun self.now run }
         ensures { result.now ≡ run_text self.now run }
     {
@@ -113,7 +113,7 @@ impl Pieces {
 
     /// Writes a run of the texts.
     #[tactic(auto, using(crate::proofs::Runs::none_written))]
-    pub fn write(&self, out: &mut Output, run: Run) -> Result<(), NoMemory>
+    pub fn write(&self, out: &mut Output, run: PieceRun) -> Result<(), NoMemory>
         requires { IsRun self.now run }
         ensures { OnOk result (out.new ≡ out.old ++ run_text self.now run) }
     {
@@ -126,7 +126,12 @@ impl Pieces {
     /// Goes on with the text of a number behind a run. Where it stands behind the run it is left to be written with it; otherwise the run is
     /// written, and a new one begins.
     #[tactic(auto, using(crate::proofs::Runs::one_more, crate::proofs::Runs::another))]
-    pub fn go_on(&self, out: &mut Output, run: Run, number: usize) -> Result<Run, NoMemory>
+    pub fn go_on(
+        &self,
+        out: &mut Output,
+        run: PieceRun,
+        number: usize,
+    ) -> Result<PieceRun, NoMemory>
         requires run { IsRun self.now run }
         requires number { number < length self.now }
         ensures text { IfOk result (λ next. out.new ++ run_text self.now next
@@ -134,13 +139,13 @@ impl Pieces {
         ensures run { IfOk result (λ next. IsRun self.now next) }
     {
         if number == run.to {
-            return Ok(Run {
+            return Ok(PieceRun {
                 from: run.from,
                 to: self.behind(number),
             });
         }
         self.write(out, run)?;
-        Ok(Run {
+        Ok(PieceRun {
             from: number,
             to: self.behind(number),
         })

@@ -15,7 +15,7 @@ use Rattle.anti_kind.proofs.Histories.{few_entries}
 use Rattle.anti_kind.proofs.Pulls.{no_sub_pulled, pulled_by_last}
 use Rattle.anti_kind.proofs.Rows.{row_of_none}
 use Rattle.anti_replicas.specs.Stores.{At as BaseAt}
-use Rattle.anti_topic.specs.declared.cursor.Cursor.{Cursor}
+use Rattle.anti_topic.specs.declared.pull_cursor.PullCursor.{PullCursor}
 use Rattle.anti_topic.specs.declared.topic_store.Topic.{Topic}
 use Rattle.anti_topic.specs.TopicStates.{its_store, its_start, At}
 use Rattle.anti_topic.specs.inner.Cursors.{IsCursor}
@@ -37,7 +37,7 @@ module _ (m : Topic) (h : List Entry) (at : At m h) where
 
   -- A subscription with its cursor.
 
-  module _ (n : ℕ) (sub : Sub) (place : Cursor) (has : slice_get m.subs.items n ≡ Some sub) (stands : slice_get m.cursors.items n ≡ Some place) where
+  module _ (n : ℕ) (sub : Sub) (place : PullCursor) (has : slice_get m.subs.items n ≡ Some sub) (stands : slice_get m.cursors.items n ≡ Some place) where
     come : IsCursor h n sub.channel place
     come = at.state.cursors n sub place has stands
 

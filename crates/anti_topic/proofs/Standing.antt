@@ -24,7 +24,7 @@ use Rattle.anti_replicas.specs.Channels.{Counts}
 use Rattle.anti_replicas.specs.Stores.{number_of, regions_of, IsOther}
 use Rattle.anti_replicas.specs.inner.Standing.{Stands}
 use Rattle.anti_replicas.proofs.Counting.{counts_other}
-use Rattle.anti_topic.specs.declared.cursor.Cursor.{Cursor}
+use Rattle.anti_topic.specs.declared.pull_cursor.PullCursor.{PullCursor}
 use Rattle.anti_topic.specs.declared.topic_store.Topic.{Topic}
 use Rattle.anti_topic.specs.TopicStates.{its_store, its_start, TopicStands, At}
 use Rattle.anti_topic.specs.inner.Changes.{IsQuiet, MovesOn}
@@ -35,7 +35,7 @@ use Rattle.anti_topic.proofs.Pulling.{few_pulls}
 own_store : (m n : Topic) → number_of n.base ≡ number_of m.base → regions_of n.base ≡ regions_of m.base → n.subs.items ≡ m.subs.items → its_store n ≡ its_store m
 own_store m n number regions subs = rw (number, regions, subs) refl
 
-none_pulled : Cursor
+none_pulled : PullCursor
 none_pulled = record { count = 0; last = 0 }
 
 -- No call was made yet.
@@ -44,17 +44,17 @@ pub stands_empty : (m : Topic) → Stands m.base (its_store m) [] → Counts m.c
 stands_empty m base counts are = record {
   base = base;
   counts = counts;
-  many = ap (λ (cs : List Cursor). length cs) are ∙ length-replicate (length m.subs.items) _;
+  many = ap (λ (cs : List PullCursor). length cs) are ∙ length-replicate (length m.subs.items) _;
   cursors = first;
 } where
   first : AreCursors m.subs.items m.cursors.items []
   first n sub place has stands =
       let short : n < length m.subs.items = slice_get_within m.subs.items n sub has in
-      let blank : Cursor = record { count = 0; last = 0 } in
+      let blank : PullCursor = record { count = 0; last = 0 } in
       let is : place ≡ blank =
       sym (get_or_from_slice_get m.cursors.items n place blank stands)
-      ∙ ap (λ (cs : List Cursor). get_or cs n blank) are ∙ get_or-replicate (length m.subs.items) n blank blank short in
-      record { count = ap (λ (x : Cursor). x.count) is; last = ap (λ (x : Cursor). x.last) is }
+      ∙ ap (λ (cs : List PullCursor). get_or cs n blank) are ∙ get_or-replicate (length m.subs.items) n blank blank short in
+      record { count = ap (λ (x : PullCursor). x.count) is; last = ap (λ (x : PullCursor). x.last) is }
 
 -- An entry that is no pull of a subscription leaves its cursor.
 
@@ -67,7 +67,7 @@ pulls_none n (Pull sub) off = absurd (cc)
 pulls_none n _ off = refl
 
 module _ (m : Topic) (h : List Entry) (e : Entry) (at : At m h) (f : Follows (its_start m) h e) where
-  cursor_kept : (n : ℕ) (sub : Sub) (place : Cursor) → slice_get m.subs.items n ≡ Some sub → is_pull_by n e.call ≡ false → IsCursor h n sub.channel place → IsCursor (h ++ e ∷ []) n sub.channel place
+  cursor_kept : (n : ℕ) (sub : Sub) (place : PullCursor) → slice_get m.subs.items n ≡ Some sub → is_pull_by n e.call ≡ false → IsCursor h n sub.channel place → IsCursor (h ++ e ∷ []) n sub.channel place
   cursor_kept n sub place has off was =
       let new : List Row = filter (is_in sub.channel) (wrote e.call e.reply) in
       let more : cursor (h ++ e ∷ []) n ≡ cursor h n + 0 = cursor_more h e n ∙ ap (λ (b : Bool). cursor h n + cond b 1 0) off in
@@ -98,7 +98,7 @@ module _ (m : Topic) (h : List Entry) (e : Entry) (at : At m h) (f : Follows (it
     the_next : (r : Row) × (next (its_store m) h number ≡ Some r)
     the_next = is_there_some (next (its_store m) h number) (ap (λ (c : Call). store_ready (its_store m) h c) (sym is) ∙ f.is_ready)
 
-    cursor_moved : (sub : Sub) (place : Cursor) → slice_get m.subs.items number ≡ Some sub → IsCursor h number sub.channel place
+    cursor_moved : (sub : Sub) (place : PullCursor) → slice_get m.subs.items number ≡ Some sub → IsCursor h number sub.channel place
         → IsCursor (h ++ e ∷ []) number sub.channel (moved place version)
     cursor_moved sub place has was =
         let r : Row = the_next.0 in
@@ -117,10 +117,10 @@ module _ (m : Topic) (h : List Entry) (e : Entry) (at : At m h) (f : Follows (it
         record { count = omega (arith, was.count, up, few_pulls m h at number); last = sym last }
 
     module _ (n : Topic) (moves : MovesOn m n number version) where
-      abbrev stood : Cursor
+      abbrev stood : PullCursor
       stood = get_or m.cursors.items number none_pulled
 
-      abbrev stands_now : Cursor
+      abbrev stands_now : PullCursor
       stands_now = moved stood version
 
       cursors_moved : AreCursors m.subs.items (set m.cursors.items number stands_now) (h ++ e ∷ [])
@@ -132,11 +132,11 @@ module _ (m : Topic) (h : List Entry) (e : Entry) (at : At m h) (f : Follows (it
           let within : number < length m.cursors.items = omega arith in
           let now : stands_now ≡ place = sym (ap (λ (x : ℕ). get_or (set m.cursors.items number stands_now) x none_pulled) same ∙ get_or-set_same m.cursors.items number stands_now none_pulled within) ∙ was in
           let before : IsCursor h number sub.channel stood = at.state.cursors number sub stood has' (slice_get-get_or m.cursors.items number none_pulled within) in
-          subst (λ (x : Cursor). IsCursor (h ++ e ∷ []) k sub.channel x) now
+          subst (λ (x : PullCursor). IsCursor (h ++ e ∷ []) k sub.channel x) now
           (subst (λ (x : ℕ). IsCursor (h ++ e ∷ []) x sub.channel stands_now) (sym same) (cursor_moved sub stood has' before)))
           (λ (other : k ≡ number → ⊥).
           let was_there : slice_get m.cursors.items k ≡ Some place =
-          slice_get-get_or m.cursors.items k none_pulled short ∙ ap (λ (x : Cursor). Some x) (sym (get_or-set_other m.cursors.items number k stands_now none_pulled other) ∙ was) in
+          slice_get-get_or m.cursors.items k none_pulled short ∙ ap (λ (x : PullCursor). Some x) (sym (get_or-set_other m.cursors.items number k stands_now none_pulled other) ∙ was) in
           cursor_kept k sub place has (ap (is_pull_by k) is ∙ ne_eqb number k (λ x. other (sym x))) (at.state.cursors k sub place has was_there))
           (cases_eq k number)
 
@@ -145,9 +145,9 @@ module _ (m : Topic) (h : List Entry) (e : Entry) (at : At m h) (f : Follows (it
         base = subst (λ (s : Store). Stands base s (h ++ e ∷ []))
             (sym (own_store m (record n { base = base }) (number_is ∙ ap (λ (b : Replicas). number_of b) moves.base_is) (regions_are ∙ ap (λ (b : Replicas). regions_of b) moves.base_is) (ap (λ (v : _). v.items) moves.subs_are))) stands;
         counts = subst (λ (c : Channels). Counts c (h ++ e ∷ [])) (sym moves.channels_are) (counts_other m.channels h e (ap is_write is) at.state.counts);
-        many = ap (λ (cs : List Cursor). length cs) (moves.cursors_are none_pulled) ∙ length-set m.cursors.items number stands_now ∙ at.state.many ∙ sym (ap (λ (v : _). length v.items) moves.subs_are);
+        many = ap (λ (cs : List PullCursor). length cs) (moves.cursors_are none_pulled) ∙ length-set m.cursors.items number stands_now ∙ at.state.many ∙ sym (ap (λ (v : _). length v.items) moves.subs_are);
         cursors =
-            subst (λ (cs : List Cursor). AreCursors n.subs.items cs (h ++ e ∷ [])) (sym (moves.cursors_are none_pulled))
+            subst (λ (cs : List PullCursor). AreCursors n.subs.items cs (h ++ e ∷ [])) (sym (moves.cursors_are none_pulled))
             (subst (λ (subs : List Sub). AreCursors subs (set m.cursors.items number stands_now) (h ++ e ∷ [])) (sym (ap (λ (v : _). v.items) moves.subs_are)) cursors_moved);
       }
 

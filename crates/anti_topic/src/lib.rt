@@ -3,7 +3,7 @@
 #![tactic(auto)]
 
 mod changes;
-mod cursor;
+mod pull_cursor;
 mod pulls;
 mod topic_store;
 

@@ -6,7 +6,7 @@ ghost use Rattle.anti_kind.specs.Stored.{row_of};
 ghost use Rattle.anti_kind.specs.Store.{next, was_pulled, is_there, or_absent};
 ghost use Rattle.anti_kind.specs.Objects.{Follows, MayMake};
 
-use crate::cursor::Cursor;
+use crate::pull_cursor::PullCursor;
 use crate::topic_store::Topic;
 use anti_ids::NoMemory;
 use anti_kind::{Handle, Reply, Sub};
@@ -25,7 +25,7 @@ impl Topic {
     }
 
     // Its cursor.
-    fn cursor_at(&self, number: u32) -> Option<&Cursor>
+    fn cursor_at(&self, number: u32) -> Option<&PullCursor>
         ensures found { IfSome result (λ place. slice_get self.now.cursors.items number ≡ Some place.now) }
         ensures none { IfNone result (length self.now.cursors.items ≤ number) }
     {

@@ -1,7 +1,7 @@
 ghost use Rattle.std.specs.Prelude.{◌≡◌, [], IfOk};
 ghost use Rattle.anti_kind.specs.Objects.{IsStart};
 
-use crate::cursor::{Cursor, new_cursors};
+use crate::pull_cursor::{PullCursor, new_cursors};
 use anti_ids::NoMemory;
 use anti_kind::{Awaited, Call, Handle, Kind, Machine, Reply, StoreKind, Sub};
 use anti_replicas::{Channels, Replicas};
@@ -15,7 +15,7 @@ pub struct Topic {
     pub(crate) channels: Channels,
     pub(crate) subs: Vec<Sub>,
     // that of each subscription
-    pub(crate) cursors: Vec<Cursor>,
+    pub(crate) cursors: Vec<PullCursor>,
 }
 
 // A copy of the subscriptions.

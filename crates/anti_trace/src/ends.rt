@@ -8,7 +8,7 @@ ghost use Rattle.anti_trace.specs.inner.Living.{AreProcessesOf, LivesItself, lis
 ghost use Rattle.anti_trace.specs.inner.Shown.{shown_end};
 ghost use Rattle.anti_proc.specs.inner.Standing.{birth_of};
 
-use crate::objects::{Objects, ObjectsAfter};
+use crate::objects::{EndOfObjects, ObjectsAfter};
 use crate::processes::Processes;
 use anti_app::{App, object_count};
 use anti_ids::{List, NoMemory};
@@ -33,7 +33,7 @@ pub struct ProcessEnd {
 pub type Ends = List<ProcessEnd>;
 
 // How a process ended, where it did, by the objects after all that happened.
-fn ended<T: Objects>(objects: &T, process: &Process) -> Option<End>
+fn ended<T: EndOfObjects>(objects: &T, process: &Process) -> Option<End>
     ensures { (app : App) (trace : Entries) → IsTrue (is_sound app) → IsLegalTrace app trace
         → LivesItself app trace process.now → T.After objects.now app trace
         → result ≡ end_in app trace (birth_of process.now) }
@@ -48,7 +48,7 @@ fn ended<T: Objects>(objects: &T, process: &Process) -> Option<End>
 }
 
 // A process, and how it ended.
-fn shown<T: Objects>(objects: &T, process: &Process) -> ProcessEnd
+fn shown<T: EndOfObjects>(objects: &T, process: &Process) -> ProcessEnd
     ensures { (app : App) (trace : Entries) → IsTrue (is_sound app) → IsLegalTrace app trace
         → LivesItself app trace process.now → T.After objects.now app trace
         → result ≡ shown_end app trace process.now }
@@ -63,7 +63,11 @@ fn shown<T: Objects>(objects: &T, process: &Process) -> ProcessEnd
 }
 
 // Adds processes and how they ended.
-fn add_ends<T: Objects>(ends: &mut Ends, objects: &T, processes: &[Process]) -> Result<(), NoMemory>
+fn add_ends<T: EndOfObjects>(
+    ends: &mut Ends,
+    objects: &T,
+    processes: &[Process],
+) -> Result<(), NoMemory>
     ensures { (app : App) (trace : Entries) → IsTrue (is_sound app) → IsLegalTrace app trace
         → All (LivesItself app trace) processes.now → T.After objects.now app trace
         → OnOk result (ends.new.items ≡ ends.old.items ++ map (shown_end app trace) processes.now) }
@@ -92,7 +96,7 @@ fn processes_of(alloc: Global, app: &App, trace: &[Entry]) -> Result<Processes, 
 
 impl Processes {
     /// How each process ended by the end of a legal trace, by the objects after it.
-    pub fn ends<T: Objects>(&self, alloc: Global, objects: &T) -> Result<Ends, NoMemory>
+    pub fn ends<T: EndOfObjects>(&self, alloc: Global, objects: &T) -> Result<Ends, NoMemory>
         ensures { (app : App) (trace : Entries) → IsTrue (is_sound app) → IsLegalTrace app trace
             → AreProcessesOf app (lists self.now) trace → T.After objects.now app trace
             → IfOk result (λ ends. ends.items ≡ ends_of app trace) }

@@ -8,23 +8,23 @@
 #![tactic(auto)]
 
 mod ends;
-mod feeding;
-mod following;
 mod heads;
+mod history_merge;
 mod laws;
 mod mark;
-mod merging;
 mod objects;
 mod owners;
+mod process_steps;
 mod processes;
+mod processes_along;
 mod trace;
 
 pub use ends::{Ends, ProcessEnd, ends_of};
-pub use feeding::{advance, born};
+pub use history_merge::{Histories, merge};
 pub use laws::{legal_traces_are_known, nothing_is_foreign};
 pub use mark::Mark;
-pub use merging::{Histories, merge};
-pub use objects::{Objects, ObjectsAfter};
+pub use objects::{EndOfObjects, ObjectsAfter};
 pub use owners::{is_by, is_on};
+pub use process_steps::{advance, born};
 pub use processes::{AtObject, Processes};
 pub use trace::Trace;

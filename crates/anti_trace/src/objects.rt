@@ -14,7 +14,7 @@ use anti_object::Object;
 use std::alloc::Global;
 
 /// The objects of an application after all that happened on them in a trace.
-pub trait Objects {
+pub trait EndOfObjects {
     ghost use Rattle.std.specs.Prelude.{◌≡◌};
     ghost use Rattle.anti_app.specs.declared.app.App.{App};
     ghost use Rattle.anti_object.specs.Starts.{start_of};
@@ -85,7 +85,7 @@ impl ObjectsAfter {
     }
 }
 
-impl Objects for ObjectsAfter {
+impl EndOfObjects for ObjectsAfter {
     ghost use Rattle.anti_app.specs.declared.app.App.{App};
     ghost use Rattle.anti_trace.specs.Traces.{Entries};
     ghost use Rattle.anti_trace.specs.inner.After.{AreAfter};

@@ -6,13 +6,13 @@
 //! value out of its slot and back into it. Parking and waking change nothing.
 #![tactic(auto)]
 
-mod closing;
-mod entering;
+mod close;
+mod enter;
 mod listed;
 mod plays;
 mod rule;
 mod seat;
-mod splitting;
+mod split;
 mod tally;
 mod turn;
 mod view;

@@ -9,9 +9,9 @@ use Rattle.anti_ids.specs.Ids.{id_cmp}
 use Rattle.anti_ids.specs.declared.id.WriteId.{WriteId}
 use Rattle.anti_kind.specs.declared.entry.Entry.{Entry}
 use Rattle.anti_app.specs.declared.app.App.{App}
-use Rattle.anti_causal.specs.Reads.{places}
+use Rattle.law_causal.specs.Reads.{places}
 use Rattle.anti_past.specs.declared.before_reads.Past.{Past}
-use Rattle.anti_serial.specs.Order.{is_in_past, listing, writes_at}
+use Rattle.law_serial.specs.Order.{is_in_past, listing, writes_at}
 use Rattle.anti_order.specs.declared.writes.Writes.{Writes}
 
 -- whether the write at a place is listed; past the end none is

@@ -4,16 +4,16 @@ use Rattle.std.specs.List.{find}
 use Rattle.std.specs.Option.{option_map_or}
 use Rattle.anti_kind.specs.declared.entry.Entry.{Entry}
 use Rattle.anti_app.specs.declared.app.App.{App}
-use Rattle.anti_causal.specs.Carried.{IsLossless}
-use Rattle.anti_causal.specs.Reads.{reads_of}
+use Rattle.law_causal.specs.Carried.{IsLossless}
+use Rattle.law_causal.specs.Reads.{reads_of}
 use Rattle.anti_past.specs.Losses.{LosesFirst}
 use Rattle.anti_past.specs.Pasts.{ArePastsOf}
 use Rattle.anti_past.specs.declared.before_reads.Past.{Past}
-use Rattle.anti_past.specs.declared.reading.ReadsOfSpan.{ReadsOfSpan}
+use Rattle.anti_past.specs.declared.span_reads.ReadsOfSpan.{ReadsOfSpan}
 use Rattle.anti_order.specs.Answers.{IsAnswer}
 use Rattle.anti_order.specs.declared.answer.SpanAnswer.{SpanAnswer}
-use Rattle.anti_order.specs.declared.answering.Grounds.{Grounds}
-use Rattle.anti_order.specs.declared.answering.Grounds.TheVariants.{Loss, NoLoss}
+use Rattle.anti_order.specs.declared.grounds.Grounds.{Grounds}
+use Rattle.anti_order.specs.declared.grounds.Grounds.TheVariants.{Loss, NoLoss}
 use Rattle.anti_order.specs.inner.Writes.{AreWritesOf}
 
 -- whether the past at a place is that of a settled read

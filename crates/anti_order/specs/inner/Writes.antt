@@ -5,9 +5,9 @@ use Rattle.std.specs.BTreeMap as tree
 use Rattle.anti_ids.specs.Ids.{has_id, id_cmp}
 use Rattle.anti_ids.specs.declared.id.WriteId.{WriteId}
 use Rattle.anti_kind.specs.declared.entry.Entry.{Entry}
-use Rattle.anti_causal.specs.Words.{wrote}
-use Rattle.anti_causal.specs.Reads.{is_at, places}
-use Rattle.anti_serial.specs.Order.{is_some_id, writes_at}
+use Rattle.law_causal.specs.Words.{wrote}
+use Rattle.law_causal.specs.Reads.{is_at, places}
+use Rattle.law_serial.specs.Order.{is_some_id, writes_at}
 use Rattle.anti_order.specs.declared.writes.Writes.{Writes}
 
 -- their places, in the order of the trace, and the place of each by its id

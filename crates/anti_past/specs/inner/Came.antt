@@ -7,11 +7,11 @@ use Rattle.anti_ids.specs.Ids.{has_id}
 use Rattle.anti_ids.specs.declared.id.WriteId.{WriteId}
 use Rattle.anti_kind.specs.declared.entry.Entry.{Entry}
 use Rattle.anti_app.specs.declared.app.App.{App}
-use Rattle.anti_causal.specs.Words.{brings}
+use Rattle.law_causal.specs.Words.{brings}
 use Rattle.anti_past.specs.Losses.{Loses}
 use Rattle.anti_past.specs.declared.came.AllCame.{AllCame}
 use Rattle.anti_past.specs.declared.came.Came.{Came}
-use Rattle.anti_past.specs.declared.keys.Key.{Key}
+use Rattle.anti_past.specs.declared.span_keys.SpanKey.{SpanKey}
 use Rattle.anti_past.specs.inner.Keys.{is_in, key_cmp}
 
 -- whether these ids are all in a lineage
@@ -23,7 +23,7 @@ abbrev pub IsRear : List WriteId → List WriteId → Type 0
 IsRear ids rest = (front : List WriteId) × (ids ≡ front ++ rest)
 
 -- what comes to a span with entries
-abbrev pub came_to : App → Key → List Entry → List WriteId
+abbrev pub came_to : App → SpanKey → List Entry → List WriteId
 came_to app q entries = flat_map (brings app) (filter (is_in q) entries)
 
 -- what the entry at an index brings
@@ -37,12 +37,12 @@ ids_since app trace since = flat_map (brought_at app trace) since
 abbrev pub came_ids : App → List Entry → Came → List WriteId
 came_ids app trace c = c.carried ++ ids_since app trace c.since.items
 
-abbrev pub ids_known : App → List Entry → AllCame → Key → List WriteId
+abbrev pub ids_known : App → List Entry → AllCame → SpanKey → List WriteId
 ids_known app trace all q = option_map_or (came_ids app trace) (tree.get key_cmp all.spans q) []
 
 -- For each span that is what came to it before the entry at index k.
 abbrev pub IsKnown : App → List Entry → ℕ → AllCame → Type 0
-IsKnown app trace k all = (q : Key) (w : WriteId) → has_id w (ids_known app trace all q) ≡ has_id w (came_to app q (take k trace))
+IsKnown app trace k all = (q : SpanKey) (w : WriteId) → has_id w (ids_known app trace all q) ≡ has_id w (came_to app q (take k trace))
 
 -- no entry before index k loses an id
 abbrev pub NoneLoses : App → List Entry → ℕ → Type 0

@@ -4,13 +4,13 @@ use Rattle.std.specs.BTreeMap.{BTreeMap, get}
 use Rattle.std.specs.Global.{Vec}
 use Rattle.std.specs.List.{filter, list_any, range_with_len}
 use Rattle.anti_kind.specs.declared.entry.Entry.{Entry}
-use Rattle.anti_causal.specs.Reads.{is_at}
-use Rattle.anti_past.specs.declared.keys.Key.{Key}
-use Rattle.anti_past.specs.declared.reading.ReadsOfSpan.{ReadsOfSpan}
+use Rattle.law_causal.specs.Reads.{is_at}
+use Rattle.anti_past.specs.declared.span_keys.SpanKey.{SpanKey}
+use Rattle.anti_past.specs.declared.span_reads.ReadsOfSpan.{ReadsOfSpan}
 use Rattle.anti_past.specs.inner.Keys.{is_read_in, key_cmp, span_of}
 
 -- the places of the reads of a span before place k
-abbrev pub reads_before : List Entry → ℕ → Key → List ℕ
+abbrev pub reads_before : List Entry → ℕ → SpanKey → List ℕ
 reads_before trace k q = filter (is_at (is_read_in q) trace) (range_with_len 0 k)
 
 -- what is noted of these places: nothing where there is none
@@ -24,14 +24,14 @@ with_place true i noted = Some (unwrap_or noted [] ++ i ∷ [])
 with_place false i noted = noted
 
 -- what a map notes of a span
-abbrev pub noted_for : BTreeMap Key (Vec ℕ) → Key → Option (List ℕ)
+abbrev pub noted_for : BTreeMap SpanKey (Vec ℕ) → SpanKey → Option (List ℕ)
 noted_for noted q = option_map (λ reads. reads.items) (get key_cmp noted q)
 
 -- It notes the reads of each span before place k, and a span just where there is one.
-pub record AreNoted (trace : List Entry) (k : ℕ) (noted : BTreeMap Key (Vec ℕ)) : Type 0 where
-  pub places : (q : Key) → noted_for noted q ≡ filled (reads_before trace k q)
-  pub any : (q : Key) → is_some (noted_for noted q) ≡ list_any (is_read_in q) (take k trace)
+pub record AreNoted (trace : List Entry) (k : ℕ) (noted : BTreeMap SpanKey (Vec ℕ)) : Type 0 where
+  pub places : (q : SpanKey) → noted_for noted q ≡ filled (reads_before trace k q)
+  pub any : (q : SpanKey) → is_some (noted_for noted q) ≡ list_any (is_read_in q) (take k trace)
 
 -- a span and its reads, as an entry of the map has them
-abbrev pub reads_under : Key × Vec ℕ → ReadsOfSpan
+abbrev pub reads_under : SpanKey × Vec ℕ → ReadsOfSpan
 reads_under e = record { span = span_of e.0; reads = e.1 }

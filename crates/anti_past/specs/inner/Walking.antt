@@ -7,12 +7,12 @@ use Rattle.anti_proc.specs.Trees.{Ask}
 use Rattle.anti_trace.specs.Legal.{IsLegalTrace}
 use Rattle.anti_trace.specs.declared.processes.AtObject.{AtObject}
 use Rattle.anti_trace.specs.inner.Living.{AreProcessesOf}
-use Rattle.anti_causal.specs.Carried.{IsLossless, ask_at}
+use Rattle.law_causal.specs.Carried.{IsLossless, ask_at}
 use Rattle.anti_past.specs.Losses.{LosesFirst}
 use Rattle.anti_past.specs.Pasts.{ArePastsOf, IsPastOf}
 use Rattle.anti_past.specs.declared.before_reads.Past.{Past}
-use Rattle.anti_past.specs.declared.walking.Course.{Course}
-use Rattle.anti_past.specs.declared.walking.Course.TheVariants.{Loss, NoLoss}
+use Rattle.anti_past.specs.declared.course.Course.{Course}
+use Rattle.anti_past.specs.declared.course.Course.TheVariants.{Loss, NoLoss}
 
 -- The entry at place j of a legal trace is what its process asks for, and the processes stand for what comes before it.
 pub record IsAskedNext (app : App) (trace : List Entry) (j : ℕ) (processes : List AtObject) (e : Entry) : Type 0 where

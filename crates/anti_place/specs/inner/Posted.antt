@@ -6,8 +6,8 @@ use Rattle.anti_lang.specs.Blocks.{lines_of}
 use Rattle.anti_lang.specs.Lines.{Line}
 use Rattle.anti_app.specs.declared.app.App.{App}
 use Rattle.anti_app.specs.declared.app.HandlerDef.{HandlerDef}
-use Rattle.anti_place.specs.declared.naming.Posting.{Posting}
-use Rattle.anti_place.specs.declared.naming.Posting.TheVariants.{Calls, Sends}
+use Rattle.anti_place.specs.declared.targets.Posting.{Posting}
+use Rattle.anti_place.specs.declared.targets.Posting.TheVariants.{Calls, Sends}
 use Rattle.anti_place.specs.Placements.{calls_it, sends_it}
 
 -- whether a line posts to the handler

@@ -8,14 +8,14 @@ use Rattle.anti_kind.specs.Stored.{rows, is_shipped, parts_of, shows_of, upto_of
 use Rattle.anti_kind.specs.Store.{Store, owed_shipments}
 use Rattle.anti_kind.specs.Objects.{held}
 use Rattle.anti_replicas.specs.declared.replicas.Replicas.{Replicas}
-use Rattle.anti_replicas.specs.declared.kept.Kept.{Kept}
-use Rattle.anti_replicas.specs.declared.kept.TheConstants.{MOST_PARTS, MARKS}
+use Rattle.anti_replicas.specs.declared.kept_write.KeptWrite.{KeptWrite}
+use Rattle.anti_replicas.specs.declared.kept_write.TheConstants.{MOST_PARTS, MARKS}
 use Rattle.anti_replicas.specs.declared.newest.Newest.{Newest}
 use Rattle.anti_replicas.specs.inner.Marks.{came, has_all, marked}
 use Rattle.anti_replicas.specs.inner.Newest.{newest_at, HasPlace, MakesPlace, Brings}
 
 -- what is kept of the write of version v: its parts, with a mark for each shipment of one, and a place for its key
-pub record IsKept (s : Store) (h : List Entry) (newest : Newest) (v : ℕ) (k : Kept) : Type 0 where
+pub record IsKept (s : Store) (h : List Entry) (newest : Newest) (v : ℕ) (k : KeptWrite) : Type 0 where
   pub marks : (g p : ℕ) → g < MOST_REGIONS → 1 ≤ p → p ≤ MOST_PARTS → came k g p ≡ is_shipped h g v p
   pub size : length k.marks ≡ MARKS
   pub parts : k.parts ≡ parts_of s.kind k.row.value
@@ -23,8 +23,8 @@ pub record IsKept (s : Store) (h : List Entry) (newest : Newest) (v : ℕ) (k : 
   pub few : k.parts ≤ MOST_PARTS
   pub place : HasPlace newest k.row.key
 
-abbrev pub AreKept : Store → List Entry → Newest → List Kept → Type 0
-AreKept s h newest ks = (i : ℕ) (d : Kept) → i < length ks → IsKept s h newest (i + 1) (slice_index_or ks i d)
+abbrev pub AreKept : Store → List Entry → Newest → List KeptWrite → Type 0
+AreKept s h newest ks = (i : ℕ) (d : KeptWrite) → i < length ks → IsKept s h newest (i + 1) (slice_index_or ks i d)
 
 -- the rows of the history's writes with the marks of its shipments, what each region therefore has and shows, and the units that
 -- the history holds and owes
@@ -67,8 +67,8 @@ pub record Marks (m n : Replicas) (g v p : ℕ) : Type 0 where
   pub store_is : n.store ≡ m.store
   pub regions_are : n.regions ≡ m.regions
   pub replicas_are : n.replicas ≡ m.replicas
-  pub kept_is : (d : Kept) → n.kept.items ≡ slice_set m.kept.items (v - 1) (marked g p (slice_index_or m.kept.items (v - 1) d))
-  pub brings : (d : Kept) → BringsIf (has_all g (marked g p (slice_index_or m.kept.items (v - 1) d))) m.newest n.newest g (slice_index_or m.kept.items (v - 1) d).row.key v
+  pub kept_is : (d : KeptWrite) → n.kept.items ≡ slice_set m.kept.items (v - 1) (marked g p (slice_index_or m.kept.items (v - 1) d))
+  pub brings : (d : KeptWrite) → BringsIf (has_all g (marked g p (slice_index_or m.kept.items (v - 1) d))) m.newest n.newest g (slice_index_or m.kept.items (v - 1) d).row.key v
   pub upto_is : n.upto ≡ slice_set m.upto g (slice_index_or m.upto g 0 + prefix_len (has_all g) (drop (slice_index_or m.upto g 0) n.kept.items))
   pub held_is : n.held ≡ m.held + 1
   pub owed_is : n.owed + 1 ≡ m.owed
@@ -81,7 +81,7 @@ pub record Shippable (m : Replicas) (g v p : ℕ) : Type 0 where
   pub part : p ≤ MOST_PARTS
   pub marks : length m.upto ≡ MOST_REGIONS
   pub upto : slice_index_or m.upto g 0 ≤ length m.kept.items
-  pub size : (d : Kept) → length (slice_index_or m.kept.items (v - 1) d).marks ≡ MARKS
-  pub place : (d : Kept) → HasPlace m.newest (slice_index_or m.kept.items (v - 1) d).row.key
+  pub size : (d : KeptWrite) → length (slice_index_or m.kept.items (v - 1) d).marks ≡ MARKS
+  pub place : (d : KeptWrite) → HasPlace m.newest (slice_index_or m.kept.items (v - 1) d).row.key
   pub owed : 1 ≤ m.owed
   pub held : m.held < MOST_UNITS

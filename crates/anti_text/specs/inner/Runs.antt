@@ -3,14 +3,14 @@ use Rattle.std.specs.Prelude.{ℕ, ◌-◌, ◌≤◌, List, ◌++◌, codes, le
 use Rattle.std.specs.List.{concat}
 use Rattle.anti_ids.specs.declared.id.WriteId.{WriteId}
 use Rattle.anti_baggage.specs.Texts.{id_text}
-use Rattle.anti_text.specs.declared.pieces.Run.{Run}
+use Rattle.anti_text.specs.declared.pieces.PieceRun.{PieceRun}
 
 -- the texts from a number up to another, as one
-abbrev pub run_text : List (List ℕ) → Run → List ℕ
+abbrev pub run_text : List (List ℕ) → PieceRun → List ℕ
 run_text pieces run = concat (take (run.to - run.from) (drop run.from pieces))
 
 -- a run of these texts
-pub record IsRun (pieces : List (List ℕ)) (run : Run) : Type 0 where
+pub record IsRun (pieces : List (List ℕ)) (run : PieceRun) : Type 0 where
   pub ascends : run.from ≤ run.to
   pub within : run.to ≤ length pieces
 

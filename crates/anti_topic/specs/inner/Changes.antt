@@ -2,7 +2,7 @@
 use Rattle.std.specs.Prelude.{◌≡◌, ℕ, slice_set, slice_index_or}
 use Rattle.anti_kind.specs.declared.call.Call.{Call}
 use Rattle.anti_kind.specs.declared.call.Call.TheVariants.{Write, Ship, Pull}
-use Rattle.anti_topic.specs.declared.cursor.Cursor.{Cursor}
+use Rattle.anti_topic.specs.declared.pull_cursor.PullCursor.{PullCursor}
 use Rattle.anti_topic.specs.declared.topic_store.Topic.{Topic}
 use Rattle.anti_topic.specs.inner.Cursors.{moved}
 
@@ -18,5 +18,5 @@ pub record MovesOn (m n : Topic) (number version : ℕ) : Type 0 where
   pub base_is : n.base ≡ m.base
   pub channels_are : n.channels ≡ m.channels
   pub subs_are : n.subs ≡ m.subs
-  pub cursors_are : (d : Cursor) → n.cursors.items
+  pub cursors_are : (d : PullCursor) → n.cursors.items
       ≡ slice_set m.cursors.items number (moved (slice_index_or m.cursors.items number d) version)

@@ -1,8 +1,8 @@
 use Rattle.std.proofs.Common.{◌≡◌, ◌++◌, true, List, sym, ap₂, ◌∙◌}
 use Rattle.anti_ids.specs.declared.id.WriteId.{WriteId}
-use Rattle.anti_causal.specs.Words.{reads, rows_in}
+use Rattle.law_causal.specs.Words.{reads, rows_in}
 use Rattle.anti_proc.specs.Local.{rows_ids}
-use Rattle.anti_serial.specs.Order.{past_of}
+use Rattle.law_serial.specs.Order.{past_of}
 use Rattle.anti_order.specs.inner.Fresh.{carried_in}
 use Rattle.anti_order.proofs.InPast.{adds_both, brings_rows, carried_is, fresh_of_past, fresh_within}
 use Rattle.anti_order.proofs.Places.{is_at_entry}

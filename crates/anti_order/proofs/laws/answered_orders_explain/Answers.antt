@@ -1,4 +1,4 @@
-use Rattle.anti_causal.specs.Reads.{reads_of}
+use Rattle.law_causal.specs.Reads.{reads_of}
 use Rattle.anti_order.proofs.Explaining.{chains_are_explained}
 use Rattle.anti_order.proofs.laws.answered_orders_explain.Goals as goal
 

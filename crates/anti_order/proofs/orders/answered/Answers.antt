@@ -3,9 +3,9 @@ use Rattle.std.specs.Prelude.{All, true}
 use Rattle.std.proofs.lemmas.List.{take_all}
 use Rattle.std.proofs.lemmas.List.Elements.{All-same}
 use Rattle.anti_kind.specs.declared.entry.Entry.{Entry}
-use Rattle.anti_causal.specs.Reads.{is_at, reads_of}
-use Rattle.anti_causal.specs.Words.{reads}
-use Rattle.anti_past.specs.declared.reading.ReadsOfSpan.{ReadsOfSpan}
+use Rattle.law_causal.specs.Reads.{is_at, reads_of}
+use Rattle.law_causal.specs.Words.{reads}
+use Rattle.anti_past.specs.declared.span_reads.ReadsOfSpan.{ReadsOfSpan}
 use Rattle.anti_order.specs.Answers.{IsAnswer}
 use Rattle.anti_order.specs.declared.answer.SpanAnswer.{SpanAnswer}
 use Rattle.anti_order.specs.inner.Grounds.{AreAnswersFor}

@@ -1,8 +1,8 @@
 use Rattle.std.proofs.Common.{◌≡◌, ℕ, List, true, ◌∙◌, subst}
 use Rattle.std.specs.Prelude.{IfOk}
 use Rattle.std.proofs.lemmas.List.Elements.{All-same}
-use Rattle.anti_causal.specs.Reads.{is_at, reads_of}
-use Rattle.anti_causal.specs.Words.{reads}
+use Rattle.law_causal.specs.Reads.{is_at, reads_of}
+use Rattle.law_causal.specs.Words.{reads}
 use Rattle.anti_order.specs.Answers.{IsAnswer}
 use Rattle.anti_order.proofs.ReadPlaces.{are_reads}
 use Rattle.anti_order.proofs.orders.order.Goals as goal

@@ -3,8 +3,8 @@ use Rattle.std.specs.Prelude.{IsSome}
 use Rattle.std.proofs.lemmas.List.Elements.{All-same}
 use Rattle.std.proofs.lemmas.Result.{IfOk-weaker}
 use Rattle.anti_trace.specs.declared.mark.Mark.{Mark}
-use Rattle.anti_causal.specs.Reads.{is_at}
-use Rattle.anti_causal.specs.Words.{reads}
+use Rattle.law_causal.specs.Reads.{is_at}
+use Rattle.law_causal.specs.Words.{reads}
 use Rattle.anti_past.specs.inner.Marks.{place_known}
 use Rattle.anti_order.specs.Answers.{IsAnswer}
 use Rattle.anti_order.proofs.MarksKnown.{all_known, same_places}

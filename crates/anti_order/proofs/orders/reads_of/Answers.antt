@@ -1,5 +1,5 @@
 use Rattle.std.proofs.Common.{ℕ, Vec, Global, sym, ap, ◌∙◌}
-use Rattle.anti_causal.specs.Reads.{is_read_of}
+use Rattle.law_causal.specs.Reads.{is_read_of}
 use Rattle.anti_order.proofs.ReadPlaces.{kept_more, passed_more}
 use Rattle.anti_order.proofs.orders.reads_of.Goals as goal
 use Rattle.anti_order.proofs.orders.reads_of.Goals.{then-is_read_of+in_ok-push, else-is_read_of}

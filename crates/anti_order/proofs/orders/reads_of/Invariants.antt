@@ -1,6 +1,6 @@
 use Rattle.std.proofs.Common.{◌≡◌}
 use Rattle.std.specs.List.{filter, range_with_len}
-use Rattle.anti_causal.specs.Reads.{is_at, is_read_of}
+use Rattle.law_causal.specs.Reads.{is_at, is_read_of}
 use Rattle.anti_order.proofs.orders.reads_of.Given as goal
 
 -- the reads so far

@@ -1,9 +1,9 @@
 use Rattle.std.proofs.Common.{◌≡◌, sym, ◌∙◌, subst}
 use Rattle.std.specs.Prelude.{None, Some}
 use Rattle.anti_kind.specs.declared.entry.Entry.{Entry}
-use Rattle.anti_causal.specs.Carried.{carried_at}
-use Rattle.anti_causal.specs.Settled.{region_named}
-use Rattle.anti_causal.proofs.Lists.{same_at}
+use Rattle.law_causal.specs.Carried.{carried_at}
+use Rattle.law_causal.specs.Settled.{region_named}
+use Rattle.law_causal.proofs.Lists.{same_at}
 use Rattle.anti_past.specs.Pasts.{IsPastOf}
 use Rattle.anti_past.specs.declared.before_reads.Past.{Past}
 use Rattle.anti_past.specs.inner.Found.{has_found}

@@ -1,9 +1,9 @@
 use Rattle.std.proofs.Common.{◌≡◌, true, false, sym, ◌∙◌, subst}
 use Rattle.std.specs.Prelude.{None, Some}
 use Rattle.anti_kind.specs.declared.entry.Entry.{Entry}
-use Rattle.anti_causal.specs.Carried.{carried_at}
-use Rattle.anti_causal.specs.Words.{hands_all}
-use Rattle.anti_causal.proofs.Lists.{same_at}
+use Rattle.law_causal.specs.Carried.{carried_at}
+use Rattle.law_causal.specs.Words.{hands_all}
+use Rattle.law_causal.proofs.Lists.{same_at}
 use Rattle.anti_past.specs.inner.Came.{IsToldLoss}
 use Rattle.anti_past.specs.inner.Keys.{key_of}
 use Rattle.anti_past.proofs.CameBefore.{checked_asked}

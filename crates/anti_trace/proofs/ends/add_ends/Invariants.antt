@@ -10,5 +10,5 @@ use Rattle.anti_trace.proofs.ends.add_ends.Given as goal
 -- those so far are added
 abbrev pub invariant-loop-process : goal.invariant-loop-process
 invariant-loop-process g l =
-    (app : App) (trace : Entries) → IsTrue (is_sound app) → IsLegalTrace app trace → All (LivesItself app trace) l.processes → g.T.Objects.After l.objects app trace
+    (app : App) (trace : Entries) → IsTrue (is_sound app) → IsLegalTrace app trace → All (LivesItself app trace) l.processes → g.T.EndOfObjects.After l.objects app trace
     → l.ends.items ≡ l.initial.ends.items ++ map (shown_end app trace) (take l.process-index l.processes)

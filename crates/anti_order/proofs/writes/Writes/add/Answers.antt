@@ -3,8 +3,8 @@ use Rattle.std.specs.Prelude.{Some}
 use Rattle.std.specs.BTreeMap as tree
 use Rattle.anti_ids.specs.Ids.{has_id, id_cmp}
 use Rattle.anti_ids.specs.declared.id.WriteId.{WriteId}
-use Rattle.anti_causal.specs.Words.{wrote}
-use Rattle.anti_serial.specs.Order.{is_some_id}
+use Rattle.law_causal.specs.Words.{wrote}
+use Rattle.law_serial.specs.Order.{is_some_id}
 use Rattle.anti_order.proofs.Noting.{is_named}
 use Rattle.anti_order.proofs.writes.Writes.add.Goals as goal
 

@@ -1,7 +1,7 @@
 use Rattle.std.proofs.Common.{refl, ap, ◌∙◌}
 use Rattle.std.specs.Prelude.{Option}
 use Rattle.std.proofs.lemmas.Result.{IfOk-weaker}
-use Rattle.anti_proc.specs.declared.variables.Held.{Held}
+use Rattle.anti_proc.specs.declared.variables.Binding.{Binding}
 use Rattle.anti_proc.specs.Meaning.{add}
 use Rattle.anti_proc.specs.inner.Standing.{local_in}
 use Rattle.anti_proc.proofs.state.Draft.add.Goals as goal
@@ -10,5 +10,5 @@ pub returns-clause-goes : goal.returns-clause-goes
 returns-clause-goes c =
     IfOk-weaker c.add.result _ _
     (λ stage goes. λ s go. goes s (local_in c.args.self.now) go refl
-    ∙ ap (λ (held : Option Held). add held (local_in c.args.self.now) go) c.held_since-held.ensures)
+    ∙ ap (λ (held : Option Binding). add held (local_in c.args.self.now) go) c.held_since-held.ensures)
     c.add.ensures

@@ -11,5 +11,5 @@ use Rattle.anti_trace.proofs.processes.Processes.ends.Given as goal
 -- those of the objects so far are added
 abbrev pub invariant-loop-here : goal.invariant-loop-here
 invariant-loop-here g l =
-    (app : App) (trace : Entries) → IsTrue (is_sound app) → IsLegalTrace app trace → AreProcessesOf app l.self.at.items trace → g.T.Objects.After l.objects app trace
+    (app : App) (trace : Entries) → IsTrue (is_sound app) → IsLegalTrace app trace → AreProcessesOf app l.self.at.items trace → g.T.EndOfObjects.After l.objects app trace
     → l.ends.items ≡ flat_map (ends_on app trace) (range_with_len 0 l.here-index)

@@ -1,0 +1,29 @@
+-- What each command does: a row for each, of where its application comes from and of what is made of it.
+use Rattle.std.specs.Prelude.{ℕ, List}
+use Rattle.anti_app.specs.declared.app.App.{App}
+use Rattle.anti_text.specs.Json.{json_of}
+use Rattle.anti_text.specs.Record.{text_of}
+use Rattle.anti_text.specs.Report.{Told}
+use Rattle.anti_text.specs.Summary.{summary_of}
+use Rattle.anti_command.specs.declared.command.Command.{Command}
+use Rattle.anti_command.specs.declared.command.Command.TheVariants.{Step, Json, Place, Load}
+
+-- the document that the source has, or the load of so many requests
+pub data Origin : Type 0 where
+  Document : Origin
+  Requests : ℕ → Origin
+
+-- a run, printed in this form, or the placement of the application
+pub data Product : Type 0 where
+  Run : (App → Told → List ℕ) → Product
+  Placement : Product
+
+pub record CommandRow : Type 0 where
+  pub origin : Origin
+  pub product : Product
+
+abbrev pub row_of : Command → CommandRow
+row_of Step = record { origin = Document; product = Run text_of }
+row_of Json = record { origin = Document; product = Run json_of }
+row_of Place = record { origin = Document; product = Placement }
+row_of (Load requests) = record { origin = Requests requests; product = Run (λ app. summary_of) }

@@ -1,0 +1,155 @@
+// How what a lineage holds grows: by one id, or by those of another lineage.
+ghost use Rattle.std.specs.Prelude.{◌≡◌, ◌<◌, ◌≤◌, true, false, not, length, OnOk, OnErr, IfOk, IfErr, IsErrOf, IsTrue};
+ghost use Rattle.anti_ids.specs.Ids.{IsLineage, has_id, with_id, with_ids};
+ghost use Rattle.anti_ids.specs.inner.Held.{base_ids, held_ids};
+
+use crate::block::Block;
+use crate::held_ids::HeldIds;
+use crate::id::WriteId;
+use crate::ids::Ids;
+use crate::limits::MOST_IDS;
+use crate::lineage::LineageRefused;
+use crate::memory::NoMemory;
+use std::cmp::Ordering;
+
+// Adds an id to a block, and tells whether it is new.
+fn add_to(block: &mut Block, id: WriteId) -> Result<bool, LineageRefused>
+    requires lineage { IsLineage block.old }
+    requires written { 1 ≤ id.version }
+    ensures ok { IfOk result (λ _. block.new ≡ with_id id block.old) }
+    ensures lineage { IsLineage block.new }
+    ensures new { IfOk result (λ is_new. is_new ≡ not (has_id id block.old)) }
+    ensures fits { OnOk result (length (with_id id block.old) ≤ MOST_IDS) }
+    ensures full { IsErrOf result LineageRefused.Full → (has_id id block.old ≡ false) × (length block.old ≡ MOST_IDS) }
+    ensures too_many { IsErrOf result LineageRefused.Full → MOST_IDS < length (with_id id block.old) }
+    ensures err { OnErr result (block.new ≡ block.old) }
+{
+    let Err(at) = block.place_of(&id) else {
+        return Ok(false);
+    };
+    if block.len() == MOST_IDS {
+        return Err(LineageRefused::Full);
+    }
+    match block.grow(at, id) {
+        Ok(()) => Ok(true),
+        Err(NoMemory) => Err(LineageRefused::NoMemory),
+    }
+}
+
+// Adds ids to a block, one after another.
+fn add_each(block: &mut Block, further: Ids) -> Result<(), LineageRefused>
+    requires lineage { IsLineage block.old }
+    requires further { IsLineage further }
+    ensures ok { OnOk result (block.new ≡ with_ids further.entry block.old) }
+    ensures lineage { IsLineage block.new }
+    ensures full { IsErrOf result LineageRefused.Full → MOST_IDS < length (with_ids further.entry block.old) }
+{
+    for id in further {
+        add_to(block, id)?;
+    }
+    Ok(())
+}
+
+// Goes past the ids that are less than an id, and tells whether that one comes then.
+fn comes(ids: &mut Ids, id: &WriteId) -> bool
+    ensures there { IsTrue result → has_id id.now ids.old ≡ true }
+    ensures rest { (i : WriteId) → has_id i ids.new ≡ true → has_id i ids.old ≡ true }
+{
+    while let Some(next) = ids.next() {
+        match next.cmp(id) {
+            Ordering::Less => {}
+            Ordering::Equal => return true,
+            Ordering::Greater => return false,
+        }
+    }
+    false
+}
+
+impl HeldIds {
+    // Whether all of these ids are held. It goes over both once.
+    fn has_all(&self, ids: Ids) -> bool
+        requires { IsLineage (base_ids self.now) }
+        ensures { IsTrue result → with_ids ids.entry (held_ids self.now) ≡ held_ids self.now }
+    {
+        let mut held = self.ids();
+        for id in ids {
+            if !comes(&mut held, &id) {
+                return false;
+            }
+        }
+        true
+    }
+
+    // The ids in a block that may grow.
+    fn block_to_grow(&self) -> Result<Block, LineageRefused>
+        requires { IsLineage (base_ids self.now) }
+        ensures ids { IfOk result (λ b. b ≡ held_ids self.now) }
+        ensures lineage { IfOk result (λ b. IsLineage b) }
+        ensures err { IfErr result (λ refused. refused ≡ LineageRefused.NoMemory) }
+    {
+        match self.block() {
+            Ok(block) => Ok(block),
+            Err(NoMemory) => Err(LineageRefused::NoMemory),
+        }
+    }
+
+    // Adds an id, and tells whether it is new.
+    pub(crate) fn add(&mut self, id: WriteId) -> Result<bool, LineageRefused>
+        requires lineage { IsLineage (base_ids self.old) }
+        requires written { 1 ≤ id.version }
+        ensures ok { IfOk result (λ _. held_ids self.new ≡ with_id id (held_ids self.old)) }
+        ensures lineage { IsLineage (base_ids self.new) }
+        ensures new { IfOk result (λ is_new. is_new ≡ not (has_id id (held_ids self.old))) }
+        ensures fits { OnOk result (length (with_id id (held_ids self.old)) ≤ MOST_IDS) }
+        ensures full { IsErrOf result LineageRefused.Full → (has_id id (held_ids self.old) ≡ false) × (length (held_ids self.old) ≡ MOST_IDS) }
+        ensures too_many { IsErrOf result LineageRefused.Full → MOST_IDS < length (with_id id (held_ids self.old)) }
+        ensures err { OnErr result (held_ids self.new ≡ held_ids self.old) }
+    {
+        if let HeldIds::Whole(block) = self {
+            let is_new = add_to(block, id)?;
+            return Ok(is_new);
+        }
+        if self.has(&id) {
+            return Ok(false);
+        }
+        let mut block = self.block_to_grow()?;
+        let is_new = add_to(&mut block, id)?;
+        *self = HeldIds::Whole(block);
+        Ok(is_new)
+    }
+
+    // The ids of two lineages, for one that has some that the other has not.
+    fn union(&self, other: &HeldIds) -> Result<Block, LineageRefused>
+        requires lineage { IsLineage (base_ids self.now) }
+        requires other { IsLineage (base_ids other.now) }
+        ensures ok { IfOk result (λ b. b ≡ with_ids (held_ids other.now) (held_ids self.now)) }
+        ensures lineage { IfOk result (λ b. IsLineage b) }
+        ensures full { IsErrOf result LineageRefused.Full → MOST_IDS < length (with_ids (held_ids other.now) (held_ids self.now)) }
+    {
+        if other.has_all(self.ids()) {
+            let block = other.block_to_grow()?;
+            return Ok(block);
+        }
+        let mut block = self.block_to_grow()?;
+        add_each(&mut block, other.ids())?;
+        Ok(block)
+    }
+
+    // Adds the ids of another lineage.
+    pub(crate) fn transfer(&mut self, other: &HeldIds) -> Result<(), LineageRefused>
+        requires lineage { IsLineage (base_ids self.old) }
+        requires other { IsLineage (base_ids other.now) }
+        ensures ok { OnOk result (held_ids self.new ≡ with_ids (held_ids other.now) (held_ids self.old)) }
+        ensures lineage { IsLineage (base_ids self.new) }
+        ensures fits { OnOk result (length (with_ids (held_ids other.now) (held_ids self.old)) ≤ MOST_IDS) }
+        ensures full { IsErrOf result LineageRefused.Full → MOST_IDS < length (with_ids (held_ids other.now) (held_ids self.old)) }
+        ensures err { OnErr result (self.new ≡ self.old) }
+    {
+        if self.has_all(other.ids()) {
+            return Ok(());
+        }
+        let union = self.union(other)?;
+        *self = HeldIds::Whole(union);
+        Ok(())
+    }
+}

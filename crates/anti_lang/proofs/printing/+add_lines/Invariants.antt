@@ -1,9 +1,0 @@
-use Rattle.std.proofs.Common.{◌≡◌, ◌++◌, map, drop}
-use Rattle.anti_lang.specs.Bodies.{block_from, step_of}
-use Rattle.anti_lang.specs.Parsing.{printed, texts_of}
-use Rattle.anti_lang.proofs.printing.+add_lines.Given as goal
-
-abbrev pub invariant-loop-statement : goal.invariant-loop-statement
-invariant-loop-statement l =
-    texts_of l.lines ++ printed (block_from (map step_of (drop l.statement-index l.statements)))
-    ≡ texts_of l.fn.lines ++ printed (block_from (map step_of l.statements))

@@ -1,0 +1,50 @@
+ghost use Rattle.std.specs.Prelude.{IfOk, IsTrue};
+ghost use Rattle.anti_app.specs.Sound.{is_sound};
+ghost use Rattle.anti_trace.specs.Legal.{IsLegalTrace};
+ghost use Rattle.anti_past.specs.inner.Walking.{IsCourseOf};
+
+use crate::before_reads::{Past, past_at};
+use crate::came::AllCame;
+use crate::finds::Finds;
+use crate::losses::loses;
+use anti_app::{App, object_count};
+use anti_ids::NoMemory;
+use anti_trace::{Mark, Processes, Trace};
+use std::alloc::Global;
+
+/// What a walk along a trace comes to: a loss, or the end.
+#[derive(Drop)]
+pub enum Course {
+    /// The first entry that loses an id.
+    Loss(Mark),
+    /// No entry loses one: the pasts of the reads, by the places of the entries; `None` where an entry is no read.
+    NoLoss(Vec<Option<Past>>),
+}
+
+impl Course {
+    /// The course of a legal trace. The walk ends at the first loss. The only error is want of memory.
+    pub fn of(alloc: Global, app: &App, trace: &Trace) -> Result<Course, NoMemory>
+        requires sound { IsTrue (is_sound app.now) }
+        requires legal { IsLegalTrace app.now trace.now }
+        ensures { IfOk result (IsCourseOf app.now trace.now) }
+    {
+        let mut processes = Processes::new(alloc, object_count(app) as usize)?;
+        let mut came = AllCame::new(alloc);
+        let mut found = Finds::new(alloc);
+        let mut pasts = Vec::new(alloc);
+        for index in 0..trace.len() {
+            let entry = trace.at(index);
+            if loses(alloc, app, trace, index, &processes, &mut came)? {
+                return Ok(Course::Loss(Mark {
+                    object: entry.object,
+                    place: entry.place,
+                }));
+            }
+            let past = past_at(alloc, app, trace, index, &processes, &found)?;
+            pasts.push(past)?;
+            found.add(entry)?;
+            processes.follow(alloc, app, entry)?;
+        }
+        Ok(Course::NoLoss(pasts))
+    }
+}

@@ -1,7 +1,0 @@
-use Rattle.std.proofs.Common.{◌≡◌}
-use Rattle.anti_agenda.specs.declared.offer.Offer.TheVariants.{Ship}
-use Rattle.anti_play.specs.inner.Attending.{Below, WakesAll}
-use Rattle.anti_play.proofs.waking.wake_routes.Given as goal
-
-abbrev pub invariant-loop-replica : goal.invariant-loop-replica
-invariant-loop-replica l = WakesAll (Below (λ replica offer. offer ≡ Ship l.store replica) l.replica) l.fn.agenda l.agenda

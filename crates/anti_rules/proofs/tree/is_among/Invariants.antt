@@ -1,7 +1,0 @@
-use Rattle.std.proofs.Common.{◌≡◌, map, drop}
-use Rattle.toml.specs.View.{view}
-use Rattle.anti_rules.specs.Trees.{is_among}
-use Rattle.anti_rules.proofs.tree.is_among.Given as goal
-
-abbrev pub invariant-loop-value : goal.invariant-loop-value
-invariant-loop-value l = is_among l.text (map view (drop l.value-index l.values)) ≡ is_among l.text (map view l.values)

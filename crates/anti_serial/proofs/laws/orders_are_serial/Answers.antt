@@ -1,7 +1,0 @@
-use Rattle.anti_causal.proofs.Legal.{facts}
-use Rattle.anti_serial.proofs.Serial.{serial}
-use Rattle.anti_serial.proofs.laws.orders_are_serial.Goals as goal
-
-pub returns : goal.returns
-returns c = λ app trace sound legal lossless reads settled chain.
-    serial app trace legal (facts app trace sound legal) lossless reads settled chain

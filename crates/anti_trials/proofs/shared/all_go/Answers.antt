@@ -1,7 +1,0 @@
-use Rattle.std.proofs.Common.{[], ◌∷◌}
-use Rattle.anti_trials.proofs.Here.{here_stays}
-use Rattle.anti_trials.proofs.shared.all_go.Goals as goal
-
-pub loop-step-preserved : goal.loop-step-preserved
-loop-step-preserved g c =
-    here_stays (g.P.Port.start c.goes.new.port) (g.P.Port.start c.loop-step.port) 0 (0 ∷ []) c.goes.ensures c.loop-step.invariant

@@ -1,7 +1,0 @@
-use Rattle.std.proofs.Common.{[], ◌∷◌}
-use Rattle.anti_shim.specs.Sights.{IsHere}
-use Rattle.anti_trials.proofs.shared.all_go.Given as goal
-
--- the store stays as it is
-abbrev pub invariant-loop-step : goal.invariant-loop-step
-invariant-loop-step g l = IsHere (g.P.Port.start l.port) 0 (0 ∷ [])

@@ -1,6 +1,0 @@
-use Rattle.std.proofs.Common.{◌≡◌}
-use Rattle.anti_trials.proofs.shared.are_made.Given as goal
-
--- the pass is of the object
-abbrev pub invariant-loop-span : goal.invariant-loop-span
-invariant-loop-span g l = l.pass.id ≡ l.initial.pass.id

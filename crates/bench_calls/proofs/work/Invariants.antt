@@ -1,0 +1,9 @@
+use Rattle.std.proofs.Common.{◌≡◌}
+use Rattle.bench_calls.proofs.work.Given as goal
+
+-- the pass is of the object
+abbrev pub invariant-loop-turn : goal.invariant-loop-turn
+invariant-loop-turn g l = l.pass.id ≡ l.initial.pass.id
+
+abbrev pub invariant-loop : goal.invariant-loop
+invariant-loop g l = l.pass.id ≡ l.initial.pass.id

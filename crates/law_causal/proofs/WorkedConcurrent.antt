@@ -1,0 +1,146 @@
+-- A worked trace: two processes write to one key. A third reads the later write, learns of the other by a cell of a topic, and reads the
+-- key once more.
+use Rattle.std.proofs.Common.{◌≡◌, ℕ, false, List, [], ◌∷◌, refl, ap, inl, inr, arith}
+use Rattle.std.specs.Prelude.{codes}
+use Rattle.anti_ids.specs.Ids.{has_id}
+use Rattle.anti_ids.specs.declared.id.WriteId.{WriteId}
+use Rattle.anti_kind.specs.declared.actor.Actor.TheVariants.{Carrier}
+use Rattle.anti_kind.specs.declared.call.Call.{Call}
+use Rattle.anti_kind.specs.declared.call.Call.TheVariants as calls
+use Rattle.anti_kind.specs.declared.call.Reply.{Reply}
+use Rattle.anti_kind.specs.declared.call.Reply.TheVariants as replies
+use Rattle.anti_kind.specs.declared.entry.Entry.{Entry}
+use Rattle.anti_kind.specs.declared.store_kind.StoreKind.TheVariants.{Kv, Topic}
+use Rattle.anti_kind.specs.Store.{absent}
+use Rattle.anti_lang.specs.Bodies.{block_from}
+use Rattle.anti_lang.specs.Program as statements
+use Rattle.anti_lang.specs.Program.{Block}
+use Rattle.anti_lang.specs.declared.statement.KeyWord.TheVariants.{Plain}
+use Rattle.anti_lang.proofs.PlainLemmas.{block_again}
+use Rattle.anti_app.specs.declared.app.App.{App}
+use Rattle.anti_app.specs.declared.app.ServiceDef.{ServiceDef}
+use Rattle.law_causal.specs.Causal.{Before, lineage, program, row, through}
+use Rattle.law_causal.specs.Carried.{InPast, carried_at}
+use Rattle.law_causal.proofs.Ids.{id_for, not_none}
+use Rattle.law_causal.proofs.WorkedForms.{app_with, born_at, carried_with, clear, handler_with, made, read_as, request_for, row_of, service_in, shows, store_in, taken_at, write_to}
+
+-- ---- the application
+
+abbrev first_body : Block
+first_body =
+    block_from (write_to (codes "s") (codes "x") (codes "1") ∷ write_to (codes "s") (codes "k") (codes "u")
+    ∷ write_to (codes "t") (codes "n") (codes "note") ∷ [])
+
+abbrev second_body : Block
+second_body = block_from (write_to (codes "s") (codes "k") (codes "v") ∷ [])
+
+abbrev reader_body : Block
+reader_body =
+    block_from (read_as (codes "s") (codes "k") (codes "p") ∷ statements.Transfer (codes "p") ∷ statements.Barrier
+    ∷ read_as (codes "s") (codes "x") (codes "q") ∷ statements.Transfer (codes "q")
+    ∷ statements.Poll (codes "t") (Plain (codes "n#1")) (codes "o") ∷ statements.Transfer (codes "o") ∷ statements.Barrier
+    ∷ read_as (codes "s") (codes "k") (codes "z") ∷ [])
+
+abbrev runs : ℕ → List ℕ → Block → ServiceDef
+runs region name body = service_in region name (handler_with (codes "run") body ∷ [])
+
+-- The store `s` and the topic `t` are the objects 0 and 1, and the inboxes of `a`, `b` and `r` the objects 2, 3 and 4.
+abbrev app : App
+app =
+    app_with (codes "us" ∷ codes "eu" ∷ []) (store_in 1 Kv (codes "s") ∷ store_in 1 Topic (codes "t") ∷ [])
+    (runs 0 (codes "a") first_body ∷ runs 0 (codes "b") second_body ∷ runs 1 (codes "r") reader_body ∷ []) []
+    (request_for 0 0 [] ∷ request_for 1 0 [] ∷ request_for 2 0 [] ∷ [])
+
+-- ---- the trace
+
+abbrev x_id : WriteId
+x_id = id_for 0 (codes "x") 1
+
+abbrev u_id : WriteId
+u_id = id_for 0 (codes "k") 2
+
+abbrev v_id : WriteId
+v_id = id_for 0 (codes "k") 3
+
+abbrev note_id : WriteId
+note_id = id_for 1 (codes "n#1") 1
+
+-- the first process
+abbrev acted : ℕ → ℕ → ℕ → Call → Reply → Entry
+acted stamp object place call reply = made stamp object place (born_at 2 1) 1 call reply
+
+abbrev write_u : Entry
+write_u = acted 3 0 2 (calls.Write (codes "k") (codes "u") (x_id ∷ [])) (replies.Written (codes "k") 2)
+
+abbrev write_v : Entry
+write_v = made 4 0 3 (born_at 3 1) 1 (calls.Write (codes "k") (codes "v") []) (replies.Written (codes "k") 3)
+
+abbrev write_note : Entry
+write_note = acted 4 1 1 (calls.Write (codes "n") (codes "note") (x_id ∷ u_id ∷ [])) (replies.Written (codes "n#1") 1)
+
+abbrev ship : ℕ → ℕ → ℕ → ℕ → Entry
+ship stamp object place version = made stamp object place (Carrier 0) 0 (calls.Ship 1 version 1) replies.Moved
+
+-- the third process
+abbrev did : ℕ → ℕ → ℕ → Call → Reply → Entry
+did stamp object place call reply = made stamp object place (born_at 4 1) 1 call reply
+
+abbrev read : Entry
+read = did 6 0 5 (calls.Read 1 (codes "k")) (shows (row_of (codes "k") 3 (codes "v") []))
+
+abbrev poll : Entry
+poll = did 9 1 3 (calls.Poll 1 (codes "n#1")) (shows (row_of (codes "n#1") 1 (codes "note") (x_id ∷ u_id ∷ [])))
+
+abbrev read_again : Entry
+read_again = did 12 0 10 (calls.Read 1 (codes "k")) (shows (row_of (codes "k") 3 (codes "v") []))
+
+-- by stamp, and by object where two stamps are equal
+abbrev trace : List Entry
+trace =
+    taken_at 1 2 1 (codes "run") [] ∷ taken_at 1 3 1 (codes "run") [] ∷ taken_at 1 4 1 (codes "run") []
+    ∷ acted 2 0 1 (calls.Write (codes "x") (codes "1") []) (replies.Written (codes "x") 1) ∷ write_u ∷ write_v ∷ write_note
+    ∷ ship 5 0 4 3 ∷ read ∷ ship 6 1 2 1 ∷ did 7 0 6 (calls.Look 1 (v_id ∷ []) false) clear
+    ∷ did 8 0 7 (calls.Read 1 (codes "x")) (shows (absent (codes "x"))) ∷ ship 9 0 8 1 ∷ poll
+    ∷ did 10 0 9 (calls.Look 1 (x_id ∷ u_id ∷ v_id ∷ []) false) clear
+    ∷ did 11 1 4 (calls.Look 1 (note_id ∷ []) false) clear ∷ read_again ∷ []
+
+-- ---- what is carried
+
+into_read : carried_at app trace 8 read ≡ []
+into_read = ap (carried_with app trace 8 read) (block_again reader_body)
+
+into_read_again : carried_at app trace 16 read_again ≡ x_id ∷ u_id ∷ v_id ∷ note_id ∷ []
+into_read_again = ap (carried_with app trace 16 read_again) (block_again reader_body)
+
+-- The other write to the key is not in the past of the first read. It is in that of the last.
+not_in_past : InPast app trace 8 read u_id → ⊥
+not_in_past (inl carried) = not_none u_id (carried_at app trace 8 read) into_read carried
+not_in_past (inr came) = absurd (cc)
+
+in_past_again : InPast app trace 16 read_again u_id
+in_past_again = inl (ap (has_id u_id) into_read_again)
+
+-- ---- the causal order
+
+-- the write that both reads show
+v_before_read : Before trace 5 8
+v_before_read = row write_v read v_id refl refl refl refl
+
+v_before_read_again : Before trace 5 16
+v_before_read_again = row write_v read_again v_id refl refl refl refl
+
+-- the cell was stored with the ids of the writes before it, and the process goes on to the last read
+note_before_poll : Before trace 6 13
+note_before_poll = row write_note poll note_id refl refl refl refl
+
+u_before_poll : Before trace 4 13
+u_before_poll = lineage write_u poll u_id refl refl refl refl
+
+poll_before_read_again : Before trace 13 16
+poll_before_read_again = program poll read_again refl refl (record { before = omega arith; process = refl; actor = refl; span = refl })
+
+u_before_read_again : Before trace 4 16
+u_before_read_again = through u_before_poll poll_before_read_again
+
+note_before_read_again : Before trace 6 16
+note_before_read_again = through note_before_poll poll_before_read_again

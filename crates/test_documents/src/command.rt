@@ -1,0 +1,270 @@
+// The words of the top call, its faults, and each read and write that fails.
+
+use crate::call_rows::{
+    NOTHING_AS_JSON, NOTHING_HAPPENED, Row, STEP, STORE_ALONE, assert_rows, comes_to, is_so,
+    served, step,
+};
+use anti_ids::{Bytes, LONGEST_DOCUMENT};
+use std::alloc::Global;
+use std::process::Abort;
+
+// A process that writes, and reads what it wrote once that is shipped; and the record.
+const WRITE_AND_READ: &str = served!(
+    "'take w 1', 'go w.1', 'ship s eu 1', 'go w.1', 'go w.1'",
+    "'write s k a', 'read s k as x'",
+    ""
+);
+
+const WRITTEN_AND_READ: &[u8] = b"record 1
+1 w.1 w.1/1 take 1 = got 1 request one 0 \"\" 1;
+2 s.1 w.1/1 write k \"a\" 1; = k@1
+3 s.2 ~0 ship eu 1 1 = moved
+4 s.3 w.1/1 read eu k = k@1 \"a\" 1;
+wait 5 go w.1
+process w.1 w one fine
+span w.1/1 unguarded s.3
+end 4
+";
+
+// Words that ask for nothing.
+static NO_COMMANDS: [&[&[u8]]; 14] = [
+    &[],
+    &[b"load"],
+    &[b"load", b""],
+    &[b"load", b"0"],
+    &[b"load", b"401"],
+    &[b"load", b"07"],
+    &[b"load", b"+7"],
+    &[b"load", b"7 "],
+    &[b"load", b"4294967297"],
+    &[b"load", b"all"],
+    &[b"load", b"7", b"7"],
+    &[b"place", b"7"],
+    &[b"step", b"x"],
+    &[b"step", b"json"],
+];
+
+// What a call with such words comes to.
+static USAGE: Row = Row {
+    status: 2,
+    err: b"usage\n",
+    ..STEP
+};
+
+#[test]
+fn words_that_are_no_command_are_told(rt: HostRuntime) {
+    for (i, words) in NO_COMMANDS.iter().enumerate() {
+        assert!(rt;
+            comes_to(rt.alloc(), words, STORE_ALONE, &USAGE),
+            "words {i}"
+        );
+    }
+}
+
+// Calls of the top call, and what each comes to.
+static ROWS: [Row; 18] = [
+    Row {
+        document: STORE_ALONE,
+        out: NOTHING_HAPPENED,
+        ..STEP
+    },
+    Row {
+        word: b"",
+        document: STORE_ALONE,
+        status: 2,
+        err: b"usage\n",
+        ..STEP
+    },
+    Row {
+        word: b"steps",
+        document: STORE_ALONE,
+        status: 2,
+        err: b"usage\n",
+        ..STEP
+    },
+    Row {
+        word: b"--help",
+        document: STORE_ALONE,
+        status: 2,
+        err: b"usage\n",
+        ..STEP
+    },
+    Row {
+        document: STORE_ALONE,
+        read_fails: 2,
+        status: 3,
+        err: b"read fault\n",
+        ..STEP
+    },
+    Row {
+        document: STORE_ALONE,
+        write_fails: 2,
+        status: 4,
+        out: b"record 1\ne",
+        err: b"write fault\n",
+        ..STEP
+    },
+    Row {
+        document: STORE_ALONE,
+        write_fails: 2,
+        line_fails: 1,
+        status: 4,
+        out: b"record 1\ne",
+        ..STEP
+    },
+    Row {
+        word: b"json",
+        document: STORE_ALONE,
+        out: NOTHING_AS_JSON,
+        ..STEP
+    },
+    Row {
+        word: b"json",
+        document: STORE_ALONE,
+        write_fails: 2,
+        status: 4,
+        out: b"{\"end\":0,\"",
+        err: b"write fault\n",
+        ..STEP
+    },
+    Row {
+        word: b"json",
+        document: b"regions = [",
+        status: 5,
+        err: b"not toml\n",
+        ..STEP
+    },
+    Row {
+        document: b"regions = [",
+        line_fails: 1,
+        status: 5,
+        ..STEP
+    },
+    Row {
+        line_fails: 2,
+        status: 5,
+        err: b"app 2 top ",
+        ..STEP
+    },
+    Row {
+        document: b"regions = [",
+        status: 5,
+        err: b"not toml\n",
+        ..STEP
+    },
+    Row {
+        document: b"regions = [\"us\"] # \xff",
+        status: 5,
+        err: b"not toml\n",
+        ..STEP
+    },
+    Row {
+        document: b"regions = [\"us\"]\n",
+        out: NOTHING_HAPPENED,
+        ..STEP
+    },
+    Row {
+        document: b"regions = [\"us\"]\n[[store]]\nname = \"s\"\nkind = \"file\"\nreplicas = [\"us\"]\n",
+        status: 5,
+        err: b"app 11 store 1 0\n",
+        ..STEP
+    },
+    Row {
+        document: b"choices = [\"go s\"]\nregions = [\"us\"]\n[[store]]\nname = \"s\"\nkind = \"kv\"\nreplicas = [\"us\"]\n",
+        status: 5,
+        err: b"choice 1\n",
+        ..STEP
+    },
+    Row {
+        document: b"regions = [\"us\"]\nchoices = [\"finish\"]\n",
+        out: NOTHING_HAPPENED,
+        ..STEP
+    },
+];
+
+#[test]
+fn runs_are_written_and_refusals_are_told(rt: HostRuntime) {
+    assert_rows(&rt, rt.alloc(), &ROWS);
+}
+
+// So many bytes, and what a document of these comes to that has one store, and else a comment.
+static LENGTHS: [(usize, Row); 2] = [
+    (
+        LONGEST_DOCUMENT as usize,
+        Row {
+            document: STORE_ALONE,
+            most: 5000,
+            out: NOTHING_HAPPENED,
+            ..STEP
+        },
+    ),
+    (
+        LONGEST_DOCUMENT as usize + 1,
+        Row {
+            document: STORE_ALONE,
+            most: 5000,
+            status: 5,
+            err: b"too long\n",
+            ..STEP
+        },
+    ),
+];
+
+// Whether the row's document comes to what the row wants with a comment behind it, and so many bytes in all. `false` where memory runs out,
+// too.
+fn is_so_at(alloc: Global, length: usize, row: &Row) -> bool {
+    let mut longer = Bytes::new(alloc);
+    let Ok(()) = longer.append(row.document) else {
+        return false;
+    };
+    for _ in row.document.len()..length {
+        let Ok(()) = longer.append(b"#") else {
+            return false;
+        };
+    }
+    comes_to(alloc, &[row.word], longer.bytes(), row)
+}
+
+#[test]
+fn a_longer_document_is_too_long(rt: HostRuntime) {
+    for (length, row) in &LENGTHS {
+        assert!(rt; is_so_at(rt.alloc(), *length, row), "{length} bytes");
+    }
+}
+
+// Asserts that a failing read of the document is told, whichever it is: one for each byte, or the one at the end.
+fn assert_reads(rt: &impl Abort, alloc: Global, document: &[u8]) {
+    let mut read: u32 = 0;
+    for _ in 0..=document.len() {
+        read = read.saturating_add(1);
+        let row = Row {
+            most: 1,
+            read_fails: read,
+            ..step(document, 3, b"", b"read fault\n")
+        };
+        assert!(rt; is_so(alloc, &row), "read {read}");
+    }
+}
+
+// Asserts that a failing write of a byte of the record is told, whichever it is.
+fn assert_writes<'a>(rt: &impl Abort, alloc: Global, document: &'a [u8], record: &'a [u8]) {
+    let mut write: u32 = 0;
+    for taken in 0..record.len() {
+        write = write.saturating_add(1);
+        let row = Row {
+            most: 1,
+            write_fails: write,
+            ..step(document, 4, &record[..taken], b"write fault\n")
+        };
+        assert!(rt; is_so(alloc, &row), "write {write}");
+    }
+}
+
+#[test]
+fn each_failing_read_and_write_is_told(rt: HostRuntime) {
+    let alloc = rt.alloc();
+    assert_reads(&rt, alloc, STORE_ALONE);
+    assert_writes(&rt, alloc, STORE_ALONE, NOTHING_HAPPENED);
+    assert_reads(&rt, alloc, WRITE_AND_READ.as_bytes());
+    assert_writes(&rt, alloc, WRITE_AND_READ.as_bytes(), WRITTEN_AND_READ);
+}

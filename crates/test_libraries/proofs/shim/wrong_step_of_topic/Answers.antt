@@ -1,0 +1,18 @@
+use Rattle.std.proofs.Common.{[], ◌∷◌, refl, sym, subst}
+use Rattle.anti_kind.specs.Objects.{IsStart}
+use Rattle.anti_kind.specs.Store.{topic_store}
+use Rattle.test_libraries.proofs.Subscribed.{topic_starts}
+use Rattle.test_libraries.proofs.shim.wrong_step_of_topic.Goals as goal
+
+pub new-requires : goal.new-requires
+new-requires c =
+    topic_starts c.in-Ok.first c.in-Ok-sub.second c.in-Ok.ensures.region c.in-Ok.ensures.plain c.in-Ok-sub.ensures.region c.in-Ok-sub.ensures.plain
+
+pub wrong_step-requires-clause-fresh : goal.wrong_step-requires-clause-fresh
+wrong_step-requires-clause-fresh c =
+    let sane = topic_starts c.in-Ok.first c.in-Ok-sub.second c.in-Ok.ensures.region c.in-Ok.ensures.plain c.in-Ok-sub.ensures.region c.in-Ok-sub.ensures.plain in
+    record { sane = subst IsStart (sym c.in-Ok-new.ensures.start) sane; legal = tt; state = c.in-Ok-new.ensures.stands }
+
+pub wrong_step-requires-clause-here : goal.wrong_step-requires-clause-here
+wrong_step-requires-clause-here c =
+    (topic_store 0 (0 ∷ []) (c.in-Ok.first ∷ c.in-Ok-sub.second ∷ []), c.in-Ok-new.ensures.start, refl, refl)
