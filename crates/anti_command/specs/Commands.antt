@@ -2,7 +2,7 @@
 use Rattle.std.specs.Prelude.{ℕ, ◌≡◌, ◌≤◌, List, length, Option, None, Some, IsSomeAnd, Ok, Bool, true, false, ◌&&◌}
 use Rattle.anti_app.specs.declared.app.App.{App}
 use Rattle.anti_load.specs.Load.{load_application}
-use Rattle.anti_text.specs.Report.{Told}
+use Rattle.anti_report.specs.Report.{Told}
 use Rattle.anti_command.specs.Faults.{writes}
 use Rattle.anti_command.specs.Placed.{IsPlacementOf}
 use Rattle.anti_command.specs.Rows.{Origin, Product, Document, Requests, Run, Placement, row_of}

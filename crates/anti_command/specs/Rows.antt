@@ -3,7 +3,7 @@ use Rattle.std.specs.Prelude.{ℕ, List}
 use Rattle.anti_app.specs.declared.app.App.{App}
 use Rattle.anti_text.specs.Json.{json_of}
 use Rattle.anti_text.specs.Record.{text_of}
-use Rattle.anti_text.specs.Report.{Told}
+use Rattle.anti_report.specs.Report.{Told}
 use Rattle.anti_text.specs.Summary.{summary_of}
 use Rattle.anti_command.specs.declared.command.Command.{Command}
 use Rattle.anti_command.specs.declared.command.Command.TheVariants.{Step, Json, Place, Load}

@@ -5,7 +5,7 @@ use Rattle.anti_app.specs.declared.app.App.{App}
 use Rattle.anti_app.specs.declared.app.AppFault.{AppFault}
 use Rattle.anti_app.specs.Sound.{is_sound}
 use Rattle.anti_app.specs.Stated.{app_of}
-use Rattle.anti_text.specs.Report.{IsPrinted, Told}
+use Rattle.anti_report.specs.Report.{IsPrinted, Told}
 use Rattle.anti_trace.specs.Legal.{IsLegalTrace}
 use Rattle.law_causal.specs.Settled.{BarriersFindAll, DryRunsName}
 use Rattle.anti_order.specs.Answers.{SpansAreExplained}

@@ -11,14 +11,14 @@ use crate::prepared::Prepared;
 use crate::products::{place_document, play_document, play_load};
 use anti_edge::Source;
 use anti_ids::Value;
-use anti_text::{RecordJson, RecordText, Summary};
+use anti_text::{RecordJson, RecordText, SummaryText};
 use std::alloc::Global;
 
 /// Does all that the words ask for, up to the first byte to be written.
 pub fn prepare<S: Source>(alloc: Global, words: &[Value], src: &mut S) -> Result<Prepared, TopFault>
     ensures done { IfOk result (λ p.
-        IsDone (command_of words.now) (S.left src.old) p.kept p.text.items) }
-    ensures plays { IfOk result (λ p. is_some p.kept ≡ plays (command_of words.now)) }
+        IsDone (command_of words.now) (S.left src.old) p.0 p.1.items) }
+    ensures plays { IfOk result (λ p. is_some p.0 ≡ plays (command_of words.now)) }
 
     // Each fault has its cause, and none is of writing.
     ensures cause { IfErr result (HasCause (command_of words.now) (S.left src.old) (S.left src.new)
@@ -31,7 +31,7 @@ pub fn prepare<S: Source>(alloc: Global, words: &[Value], src: &mut S) -> Result
         Some(Command::Step) => play_document::<RecordText, S>(alloc, src),
         Some(Command::Json) => play_document::<RecordJson, S>(alloc, src),
         Some(Command::Place) => place_document(alloc, src),
-        Some(Command::Load { requests }) => Ok(play_load::<Summary>(alloc, requests)?),
+        Some(Command::Load { requests }) => Ok(play_load::<SummaryText>(alloc, requests)?),
         None => Err(TopFault::Usage),
     }
 }

@@ -11,13 +11,14 @@ use crate::app_source::app_of;
 use crate::command::Command;
 use crate::fault::TopFault;
 use crate::prepared::Prepared;
-use crate::run::{RunAndEnds, run};
+use crate::run::run;
 use anti_app::App;
 use anti_edge::Source;
 use anti_ids::{MOST_REQUESTS, NoMemory};
 use anti_load::load_app;
 use anti_place::placed;
-use anti_text::{Form, placement_line};
+use anti_report::Form;
+use anti_text::placement_line;
 use law_placed::placed_applications_keep_all;
 use std::alloc::Global;
 
@@ -26,20 +27,17 @@ use std::alloc::Global;
 fn play_app<F: Form>(alloc: Global, app: App) -> Result<Prepared, NoMemory>
     requires { IsPlayable app }
     ensures { IfOk result (λ p.
-        IsMade (Run F.text_of) (λ played. played ≡ app) p.kept p.text.items) }
+        IsMade (Run F.text_of) (λ played. played ≡ app) p.0 p.1.items) }
 {
-    let RunAndEnds { kept, ends } = run(alloc, app)?;
+    let (kept, ends) = run(alloc, app)?;
     let text = F::print(alloc, &kept.app, &kept.trace, &kept.waits, ends)?;
-    Ok(Prepared {
-        kept: Some(kept),
-        text,
-    })
+    Ok((Some(kept), text))
 }
 
 /// Plays the choices of the document that the source has, and prints the run in this form. Each error has its cause, and none is of writing.
 pub fn play_document<F: Form, S: Source>(alloc: Global, src: &mut S) -> Result<Prepared, TopFault>
     ensures done { IfOk result (λ p.
-        IsMade (Run F.text_of) (IsFrom Document (S.left src.old)) p.kept p.text.items) }
+        IsMade (Run F.text_of) (IsFrom Document (S.left src.old)) p.0 p.1.items) }
     ensures cause { (asked : Option Command) → reads_source asked ≡ true →
         IfErr result (HasCause asked (S.left src.old) (S.left src.new)
         (Rose (S.faults src.old) (S.faults src.new)) ⊥) }
@@ -55,7 +53,7 @@ pub fn play_document<F: Form, S: Source>(alloc: Global, src: &mut S) -> Result<P
 #[tactic(auto, unfolding(crate::specs::Runs::IsPlayable))]
 pub fn place_document<S: Source>(alloc: Global, src: &mut S) -> Result<Prepared, TopFault>
     ensures done { IfOk result (λ p.
-        IsDone (Some Command.Place) (S.left src.old) p.kept p.text.items) }
+        IsDone (Some Command.Place) (S.left src.old) p.0 p.1.items) }
     ensures cause { (asked : Option Command) → reads_source asked ≡ true →
         IfErr result (HasCause asked (S.left src.old) (S.left src.new)
         (Rose (S.faults src.old) (S.faults src.new)) ⊥) }
@@ -64,7 +62,7 @@ pub fn place_document<S: Source>(alloc: Global, src: &mut S) -> Result<Prepared,
     let app = app_of(alloc, src)?;
     placed_applications_keep_all();
     let text = placement_line(alloc, &app, placed(&app))?;
-    Ok(Prepared { kept: None, text })
+    Ok((None, text))
 }
 
 /// Plays the load of so many requests, and prints the run in this form. Nothing is read. The only error is want of memory.
@@ -72,7 +70,7 @@ pub fn place_document<S: Source>(alloc: Global, src: &mut S) -> Result<Prepared,
 pub fn play_load<F: Form>(alloc: Global, requests: u32) -> Result<Prepared, NoMemory>
     requires { requests ≤ MOST_REQUESTS }
     ensures { IfOk result (λ p.
-        IsMade (Run F.text_of) (λ app. app ≡ load_application requests) p.kept p.text.items) }
+        IsMade (Run F.text_of) (λ app. app ≡ load_application requests) p.0 p.1.items) }
 {
     let app = load_app(alloc, requests)?;
     play_app::<F>(alloc, app)

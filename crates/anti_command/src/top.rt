@@ -58,7 +58,7 @@ pub fn antipode_plain<S: Source, K: Sink, E: Sink>(
     ensures whole { IfSome result.fault (λ fault. ¬ Rose (E.faults err.old) (E.faults err.new) →
         E.written err.new ≡ with_bytes (line_of fault) (E.written err.old)) }
 {
-    let prepared = match prepare(alloc, words, src) {
+    let (kept, text) = match prepare(alloc, words, src) {
         Ok(prepared) => prepared,
         Err(fault) => {
             tell(err, fault);
@@ -69,17 +69,17 @@ pub fn antipode_plain<S: Source, K: Sink, E: Sink>(
             };
         }
     };
-    match write_all(out, prepared.text.bytes()) {
+    match write_all(out, text.bytes()) {
         Ok(()) => Outcome {
             status: 0,
-            kept: prepared.kept,
+            kept,
             fault: None,
         },
         Err(Failed) => {
             tell(err, TopFault::WriteFault);
             Outcome {
                 status: 4,
-                kept: prepared.kept,
+                kept,
                 fault: Some(TopFault::WriteFault),
             }
         }

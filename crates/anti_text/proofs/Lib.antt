@@ -5,5 +5,4 @@ pub mod Items
 pub mod Looks
 pub mod Runs
 pub mod Shapes
-pub mod Summaries
 pub mod Worked

@@ -42,7 +42,7 @@ use Rattle.std.specs.Str.{chars, is_utf8}
 use Rattle.std.specs.Str.Lossy.{utf8_valid_len, utf8_lossy}
 use Rattle.anti_text.specs.Json.{text, entry_data, wait_data, process_data, span_data, record_data, json_of}
 use Rattle.anti_text.specs.Record.{text_of}
-use Rattle.anti_text.specs.Report.{Told}
+use Rattle.anti_report.specs.Report.{Told}
 use Rattle.anti_text.specs.Spans.{span_line}
 use Rattle.anti_text.specs.Summary.{summary_of}
 

@@ -11,7 +11,7 @@ use Rattle.anti_text.specs.Words.{object_name, mark_text, service_name, handler_
 use Rattle.anti_text.specs.Calls.{call_text, reply_text}
 use Rattle.anti_text.specs.Entries.{actor_name, choice_numbered}
 use Rattle.anti_text.specs.Processes.{end_text}
-use Rattle.anti_text.specs.Report.{Told}
+use Rattle.anti_report.specs.Report.{Told}
 use Rattle.anti_text.specs.Spans.{answer_text, span_name}
 use Rattle.anti_order.specs.declared.answer.SpanAnswer.{SpanAnswer}
 

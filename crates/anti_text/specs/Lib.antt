@@ -4,7 +4,6 @@ pub mod Json
 pub mod Placements
 pub mod Processes
 pub mod Record
-pub mod Report
 pub mod Spans
 pub mod Summary
 pub mod Words

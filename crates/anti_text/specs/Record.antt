@@ -4,7 +4,7 @@ use Rattle.std.specs.List.{flat_map}
 use Rattle.anti_app.specs.declared.app.App.{App}
 use Rattle.anti_text.specs.Entries.{entry_line, wait_line}
 use Rattle.anti_text.specs.Processes.{process_line}
-use Rattle.anti_text.specs.Report.{Told}
+use Rattle.anti_report.specs.Report.{Told}
 use Rattle.anti_text.specs.Spans.{span_line}
 
 -- a line for each entry in the order of the trace, for each choice that made none, for each process, and for each span with a read; last

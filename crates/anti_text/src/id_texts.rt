@@ -69,7 +69,6 @@ fn in_a_row(
     Ok((ids, starts))
 }
 
-// The texts of ids.
 fn pieces_of(alloc: Global, stores: &[Name], ids: &[WriteId]) -> Result<Pieces, NoMemory>
     ensures { IfOk result (λ pieces. pieces ≡ map (kept_text stores.now) ids.now) }
 {

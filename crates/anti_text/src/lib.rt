@@ -3,7 +3,6 @@
 
 mod call_words;
 mod entry_lines;
-mod form;
 mod id_texts;
 mod json_items;
 mod json_texts;
@@ -17,15 +16,12 @@ mod process_lines;
 mod record_json;
 mod record_text;
 mod reply_words;
-mod report;
 mod run_summary;
 mod span_lines;
 mod wait_lines;
 mod words;
 
-pub use form::{Form, RecordJson, RecordText, Summary};
 pub use placement::placement_line;
-pub use record_json::{json, print_json};
-pub use record_text::{print, text};
-pub use report::Report;
-pub use run_summary::{summarize, summary};
+pub use record_json::{RecordJson, json, print_json};
+pub use record_text::{RecordText, print, text};
+pub use run_summary::{SummaryText, print_summary, summary};

@@ -41,7 +41,6 @@ fn note(
     Ok(())
 }
 
-// The texts of marks.
 fn pieces_of(alloc: Global, app: &App, marks: &[Mark]) -> Result<Pieces, NoMemory>
     ensures { IfOk result (λ pieces. pieces ≡ map (spaced_mark app.now) marks.now) }
 {

@@ -7,10 +7,10 @@ ghost use Rattle.anti_text.specs.Words.{lineage_text};
 use crate::id_texts::IdTexts;
 use crate::mark_texts::MarkTexts;
 use crate::output::Output;
-use crate::report::Report;
 use anti_app::{App, store_names};
 use anti_ids::{Lineage, NoMemory};
 use anti_kind::Entry;
+use anti_report::Report;
 use anti_trace::Mark;
 use std::alloc::Global;
 

@@ -6,16 +6,16 @@ ghost use Rattle.anti_ids.specs.List.{plain};
 ghost use Rattle.anti_app.specs.Sound.{is_sound};
 ghost use Rattle.anti_trace.specs.Legal.{IsLegalTrace};
 ghost use Rattle.anti_text.specs.Json.{json_of};
-ghost use Rattle.anti_text.specs.Report.{IsPrinted};
+ghost use Rattle.anti_report.specs.Report.{IsPrinted};
 
 use crate::json_items::Item;
 use crate::json_texts::add_number;
 use crate::output::Output;
 use crate::printer::Printer;
-use crate::report::Report;
 use anti_app::{App, Waits};
 use anti_ids::{Bytes, NoMemory};
-use anti_trace::Trace;
+use anti_report::{Form, Report};
+use anti_trace::{Ends, Trace};
 use std::alloc::Global;
 
 // Adds the items behind the first of a list.
@@ -82,6 +82,26 @@ pub fn print_json(alloc: Global, app: &App, report: &Report) -> Result<Bytes, No
 {
     let printer = Printer::new(alloc, app, report)?;
     printed(&printer, report)
+}
+
+/// The record, as JSON.
+pub struct RecordJson;
+
+impl Form for RecordJson {
+    ghost use Rattle.anti_text.specs.Json.{json_of};
+
+    ghost text_of = { json_of };
+
+    fn print(
+        alloc: Global,
+        app: &App,
+        trace: &Trace,
+        waits: &Waits,
+        ends: Ends,
+    ) -> Result<Bytes, NoMemory> {
+        let report = Report::with_ends(alloc, app, trace, waits, ends)?;
+        print_json(alloc, app, &report)
+    }
 }
 
 /// The record of a run of an application, as JSON, by its trace and its waits. The only error is want of memory.

@@ -6,21 +6,21 @@ ghost use Rattle.anti_trace.specs.Legal.{IsLegalTrace};
 ghost use Rattle.anti_text.specs.Entries.{entry_line, wait_line};
 ghost use Rattle.anti_text.specs.Processes.{process_line};
 ghost use Rattle.anti_text.specs.Record.{text_of};
-ghost use Rattle.anti_text.specs.Report.{IsPrinted};
+ghost use Rattle.anti_report.specs.Report.{IsPrinted};
 ghost use Rattle.anti_text.specs.Spans.{span_line};
 
 use crate::entry_lines::entry_line;
 use crate::output::Output;
 use crate::printer::Printer;
 use crate::process_lines::process_line;
-use crate::report::Report;
 use crate::span_lines::span_line;
 use crate::wait_lines::wait_line;
 use anti_app::{App, Waits};
 use anti_ids::{Bytes, NoMemory};
 use anti_kind::Entry;
 use anti_order::SpanAnswer;
-use anti_trace::{ProcessEnd, Trace};
+use anti_report::{Form, Report};
+use anti_trace::{Ends, ProcessEnd, Trace};
 use itoa::Buffer;
 use std::alloc::Global;
 
@@ -115,6 +115,26 @@ pub fn print(alloc: Global, app: &App, report: &Report) -> Result<Bytes, NoMemor
 {
     let printer = Printer::new(alloc, app, report)?;
     printed(&printer, report)
+}
+
+/// The record, as text.
+pub struct RecordText;
+
+impl Form for RecordText {
+    ghost use Rattle.anti_text.specs.Record as record_text;
+
+    ghost text_of = { record_text.text_of };
+
+    fn print(
+        alloc: Global,
+        app: &App,
+        trace: &Trace,
+        waits: &Waits,
+        ends: Ends,
+    ) -> Result<Bytes, NoMemory> {
+        let report = Report::with_ends(alloc, app, trace, waits, ends)?;
+        print(alloc, app, &report)
+    }
 }
 
 /// The record of a run of an application, as text, by its trace and its waits. The only error is want of memory.

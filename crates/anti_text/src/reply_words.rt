@@ -37,7 +37,6 @@ fn version_text(out: &mut Output, key: &Name, version: u64) -> Result<(), NoMemo
     out.put_all(&[key.bytes(), b"@", digits.format(version).as_bytes()])
 }
 
-// Writes a row.
 fn row_text(out: &mut Output, printer: &Printer, row: &Row) -> Result<(), NoMemory>
     ensures { OnOk result (out.new ≡ out.old ++ row_text printer.now.app.now row.now) }
 {
@@ -51,7 +50,6 @@ fn row_text(out: &mut Output, printer: &Printer, row: &Row) -> Result<(), NoMemo
     printer.lineage(out, &row.lineage)
 }
 
-// Writes rows.
 fn rows_text(out: &mut Output, printer: &Printer, rows: &[Row]) -> Result<(), NoMemory>
     ensures { OnOk result (out.new ≡ out.old ++ rows_text printer.now.app.now rows.now) }
 {

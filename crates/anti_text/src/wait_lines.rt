@@ -94,7 +94,6 @@ fn go_text(out: &mut Output, app: &App, object: u32, place: u32) -> Result<(), N
     mark_text(out, app, object, place)
 }
 
-// Writes a choice.
 fn choice_text(out: &mut Output, app: &App, choice: &Choice) -> Result<(), NoMemory>
     ensures { OnOk result (out.new ≡ out.old ++ choice_text app.now choice.now) }
 {

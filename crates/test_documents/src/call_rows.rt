@@ -19,7 +19,7 @@ pub const NOTHING_AS_JSON: &[u8] =
 
 /// A call, and what it has to come to.
 #[derive(Clone, Copy)]
-pub struct Row<'a> {
+pub struct CallRow<'a> {
     /// The one word.
     pub word: &'a [u8],
     /// What the source has.
@@ -43,7 +43,7 @@ pub struct Row<'a> {
 }
 
 /// A call with the word `step` on an empty document, of whose reads and writes none fails.
-pub const STEP: Row = Row {
+pub const STEP: CallRow = CallRow {
     word: b"step",
     document: b"",
     most: 10,
@@ -57,21 +57,21 @@ pub const STEP: Row = Row {
 };
 
 /// The same, for `assert_texts`: the text beside a document is its whole record.
-pub static PLAYED: Row = STEP;
+pub static PLAYED: CallRow = STEP;
 
 /// The same where the text is the end of a long record.
-pub static ENDED: Row = Row {
+pub static ENDED: CallRow = CallRow {
     most: 5000,
     more: true,
     ..STEP
 };
 
 /// The same of documents that are refused: the text is the line that is told.
-pub static REFUSED: Row = Row { status: 5, ..STEP };
+pub static REFUSED: CallRow = CallRow { status: 5, ..STEP };
 
 /// A call with the word `step` on a document, with what it has to come to.
-pub fn step<'a>(document: &'a [u8], status: u8, out: &'a [u8], err: &'a [u8]) -> Row<'a> {
-    Row {
+pub fn step<'a>(document: &'a [u8], status: u8, out: &'a [u8], err: &'a [u8]) -> CallRow<'a> {
+    CallRow {
         document,
         status,
         out,
@@ -95,7 +95,7 @@ fn values(alloc: Global, words: &[&[u8]]) -> Option<List<Value>> {
 }
 
 // Whether what was written is what the row wants.
-fn is_written(row: &Row, written: &[u8]) -> bool {
+fn is_written(row: &CallRow, written: &[u8]) -> bool {
     if row.more {
         written.ends_with(row.out)
     } else {
@@ -121,7 +121,7 @@ fn is_told(
     words: &[Value],
     src: &mut MemorySource,
     out: &mut MemorySink,
-    row: &Row,
+    row: &CallRow,
 ) -> bool {
     match MemorySink::new(alloc, 1000, row.most.max(1), &[row.line_fails]) {
         Ok(mut err) => {
@@ -132,7 +132,12 @@ fn is_told(
 }
 
 // The same, and whether the text is what the row wants.
-fn is_told_and_written(alloc: Global, words: &[Value], src: &mut MemorySource, row: &Row) -> bool {
+fn is_told_and_written(
+    alloc: Global,
+    words: &[Value],
+    src: &mut MemorySource,
+    row: &CallRow,
+) -> bool {
     match MemorySink::new(alloc, 4_000_000, row.most.max(1), &[row.write_fails]) {
         Ok(mut out) => is_told(alloc, words, src, &mut out, row) && is_written(row, out.bytes()),
         Err(_) => false,
@@ -140,7 +145,7 @@ fn is_told_and_written(alloc: Global, words: &[Value], src: &mut MemorySource, r
 }
 
 // The same of a source that has the document.
-fn reads(alloc: Global, words: &[Value], document: &[u8], row: &Row) -> bool {
+fn reads(alloc: Global, words: &[Value], document: &[u8], row: &CallRow) -> bool {
     match MemorySource::new(alloc, document, row.most.max(1), &[row.read_fails]) {
         Ok(mut src) => is_told_and_written(alloc, words, &mut src, row),
         Err(_) => false,
@@ -149,7 +154,7 @@ fn reads(alloc: Global, words: &[Value], document: &[u8], row: &Row) -> bool {
 
 /// Whether the call with these words and on this document, in place of the row's own, comes to what the row wants. `false` where memory runs
 /// out, too.
-pub fn comes_to(alloc: Global, words: &[&[u8]], document: &[u8], row: &Row) -> bool {
+pub fn comes_to(alloc: Global, words: &[&[u8]], document: &[u8], row: &CallRow) -> bool {
     match values(alloc, words) {
         Some(words) => reads(alloc, words.as_slice(), document, row),
         None => false,
@@ -157,12 +162,12 @@ pub fn comes_to(alloc: Global, words: &[&[u8]], document: &[u8], row: &Row) -> b
 }
 
 /// Whether the call comes to what the row wants. `false` where memory runs out, too.
-pub fn is_so(alloc: Global, row: &Row) -> bool {
+pub fn is_so(alloc: Global, row: &CallRow) -> bool {
     comes_to(alloc, &[row.word], row.document, row)
 }
 
 /// Asserts that each call comes to what its row wants.
-pub fn assert_rows(rt: &impl Abort, alloc: Global, rows: &[Row]) {
+pub fn assert_rows(rt: &impl Abort, alloc: Global, rows: &[CallRow]) {
     for (i, row) in rows.iter().enumerate() {
         assert!(rt; is_so(alloc, row), "row {i}");
     }
@@ -170,14 +175,14 @@ pub fn assert_rows(rt: &impl Abort, alloc: Global, rows: &[Row]) {
 
 // Whether a call like this, but none of whose reads and writes fails, comes to a text on a document: what is written or, where the status is
 // not 0, the line of the fault. `false` where memory runs out, too.
-fn comes_to_text(alloc: Global, call: &Row, document: &[u8], text: &[u8]) -> bool {
+fn comes_to_text(alloc: Global, call: &CallRow, document: &[u8], text: &[u8]) -> bool {
     let nothing: &[u8] = b"";
     let (out, err) = if call.status == 0 {
         (text, nothing)
     } else {
         (nothing, text)
     };
-    let row = Row {
+    let row = CallRow {
         most: call.most,
         status: call.status,
         out,
@@ -190,7 +195,7 @@ fn comes_to_text(alloc: Global, call: &Row, document: &[u8], text: &[u8]) -> boo
 
 /// Asserts that a call like this, but none of whose reads and writes fails, comes on each document to the text beside it: what is written or,
 /// where the status is not 0, the line of the fault.
-pub fn assert_texts(rt: &impl Abort, alloc: Global, call: &Row, texts: &[(&str, &str)]) {
+pub fn assert_texts(rt: &impl Abort, alloc: Global, call: &CallRow, texts: &[(&str, &str)]) {
     for (document, text) in texts {
         assert!(rt;
             comes_to_text(alloc, call, document.as_bytes(), text.as_bytes()),

@@ -1,7 +1,7 @@
 // The words of the top call, its faults, and each read and write that fails.
 
 use crate::call_rows::{
-    NOTHING_AS_JSON, NOTHING_HAPPENED, Row, STEP, STORE_ALONE, assert_rows, comes_to, is_so,
+    CallRow, NOTHING_AS_JSON, NOTHING_HAPPENED, STEP, STORE_ALONE, assert_rows, comes_to, is_so,
     served, step,
 };
 use anti_ids::{Bytes, LONGEST_DOCUMENT};
@@ -45,7 +45,7 @@ static NO_COMMANDS: [&[&[u8]]; 14] = [
 ];
 
 // What a call with such words comes to.
-static USAGE: Row = Row {
+static USAGE: CallRow = CallRow {
     status: 2,
     err: b"usage\n",
     ..STEP
@@ -62,41 +62,41 @@ fn words_that_are_no_command_are_told(rt: HostRuntime) {
 }
 
 // Calls of the top call, and what each comes to.
-static ROWS: [Row; 18] = [
-    Row {
+static ROWS: [CallRow; 18] = [
+    CallRow {
         document: STORE_ALONE,
         out: NOTHING_HAPPENED,
         ..STEP
     },
-    Row {
+    CallRow {
         word: b"",
         document: STORE_ALONE,
         status: 2,
         err: b"usage\n",
         ..STEP
     },
-    Row {
+    CallRow {
         word: b"steps",
         document: STORE_ALONE,
         status: 2,
         err: b"usage\n",
         ..STEP
     },
-    Row {
+    CallRow {
         word: b"--help",
         document: STORE_ALONE,
         status: 2,
         err: b"usage\n",
         ..STEP
     },
-    Row {
+    CallRow {
         document: STORE_ALONE,
         read_fails: 2,
         status: 3,
         err: b"read fault\n",
         ..STEP
     },
-    Row {
+    CallRow {
         document: STORE_ALONE,
         write_fails: 2,
         status: 4,
@@ -104,7 +104,7 @@ static ROWS: [Row; 18] = [
         err: b"write fault\n",
         ..STEP
     },
-    Row {
+    CallRow {
         document: STORE_ALONE,
         write_fails: 2,
         line_fails: 1,
@@ -112,13 +112,13 @@ static ROWS: [Row; 18] = [
         out: b"record 1\ne",
         ..STEP
     },
-    Row {
+    CallRow {
         word: b"json",
         document: STORE_ALONE,
         out: NOTHING_AS_JSON,
         ..STEP
     },
-    Row {
+    CallRow {
         word: b"json",
         document: STORE_ALONE,
         write_fails: 2,
@@ -127,55 +127,55 @@ static ROWS: [Row; 18] = [
         err: b"write fault\n",
         ..STEP
     },
-    Row {
+    CallRow {
         word: b"json",
         document: b"regions = [",
         status: 5,
         err: b"not toml\n",
         ..STEP
     },
-    Row {
+    CallRow {
         document: b"regions = [",
         line_fails: 1,
         status: 5,
         ..STEP
     },
-    Row {
+    CallRow {
         line_fails: 2,
         status: 5,
         err: b"app 2 top ",
         ..STEP
     },
-    Row {
+    CallRow {
         document: b"regions = [",
         status: 5,
         err: b"not toml\n",
         ..STEP
     },
-    Row {
+    CallRow {
         document: b"regions = [\"us\"] # \xff",
         status: 5,
         err: b"not toml\n",
         ..STEP
     },
-    Row {
+    CallRow {
         document: b"regions = [\"us\"]\n",
         out: NOTHING_HAPPENED,
         ..STEP
     },
-    Row {
+    CallRow {
         document: b"regions = [\"us\"]\n[[store]]\nname = \"s\"\nkind = \"file\"\nreplicas = [\"us\"]\n",
         status: 5,
         err: b"app 11 store 1 0\n",
         ..STEP
     },
-    Row {
+    CallRow {
         document: b"choices = [\"go s\"]\nregions = [\"us\"]\n[[store]]\nname = \"s\"\nkind = \"kv\"\nreplicas = [\"us\"]\n",
         status: 5,
         err: b"choice 1\n",
         ..STEP
     },
-    Row {
+    CallRow {
         document: b"regions = [\"us\"]\nchoices = [\"finish\"]\n",
         out: NOTHING_HAPPENED,
         ..STEP
@@ -188,10 +188,10 @@ fn runs_are_written_and_refusals_are_told(rt: HostRuntime) {
 }
 
 // So many bytes, and what a document of these comes to that has one store, and else a comment.
-static LENGTHS: [(usize, Row); 2] = [
+static LENGTHS: [(usize, CallRow); 2] = [
     (
         LONGEST_DOCUMENT as usize,
-        Row {
+        CallRow {
             document: STORE_ALONE,
             most: 5000,
             out: NOTHING_HAPPENED,
@@ -200,7 +200,7 @@ static LENGTHS: [(usize, Row); 2] = [
     ),
     (
         LONGEST_DOCUMENT as usize + 1,
-        Row {
+        CallRow {
             document: STORE_ALONE,
             most: 5000,
             status: 5,
@@ -212,7 +212,7 @@ static LENGTHS: [(usize, Row); 2] = [
 
 // Whether the row's document comes to what the row wants with a comment behind it, and so many bytes in all. `false` where memory runs out,
 // too.
-fn is_so_at(alloc: Global, length: usize, row: &Row) -> bool {
+fn is_so_at(alloc: Global, length: usize, row: &CallRow) -> bool {
     let mut longer = Bytes::new(alloc);
     let Ok(()) = longer.append(row.document) else {
         return false;
@@ -237,7 +237,7 @@ fn assert_reads(rt: &impl Abort, alloc: Global, document: &[u8]) {
     let mut read: u32 = 0;
     for _ in 0..=document.len() {
         read = read.saturating_add(1);
-        let row = Row {
+        let row = CallRow {
             most: 1,
             read_fails: read,
             ..step(document, 3, b"", b"read fault\n")
@@ -251,7 +251,7 @@ fn assert_writes<'a>(rt: &impl Abort, alloc: Global, document: &'a [u8], record:
     let mut write: u32 = 0;
     for taken in 0..record.len() {
         write = write.saturating_add(1);
-        let row = Row {
+        let row = CallRow {
             most: 1,
             write_fails: write,
             ..step(document, 4, &record[..taken], b"write fault\n")

@@ -5,7 +5,7 @@ ghost use Rattle.anti_trace.specs.Legal.{IsLegalTrace};
 
 use crate::call_rows::{ENDED, assert_texts, served};
 use crate::past::WHOLE;
-use crate::run_rows::{Run, Wanted, assert_run};
+use crate::run_rows::{PlayedRun, Wanted, assert_run};
 use anti_kind::Birth;
 use anti_order::{Marks, OrderAnswer, SpanAnswer, answers, count_answers, order, order_of};
 use anti_past::reads;
@@ -131,7 +131,7 @@ fn is_order(answer: &OrderAnswer, marks: &[(u32, u32)]) -> bool {
 }
 
 // Whether the entry at an index, which is given by its mark, is a read whose order has these marks.
-fn has_order_at(alloc: Global, run: &Run, index: u32, marks: &[(u32, u32)]) -> bool
+fn has_order_at(alloc: Global, run: &PlayedRun, index: u32, marks: &[(u32, u32)]) -> bool
     requires sound { IsTrue (is_sound run.now.app) }
     requires legal { IsLegalTrace run.now.app run.now.trace }
     requires index { index < length run.now.trace }
@@ -155,7 +155,7 @@ fn has_order_at(alloc: Global, run: &Run, index: u32, marks: &[(u32, u32)]) -> b
 }
 
 /// Whether the last entry of a run is a read whose order has these marks. Where memory runs out it is not.
-pub fn has_last_order(alloc: Global, run: &Run, marks: &[(u32, u32)]) -> bool
+pub fn has_last_order(alloc: Global, run: &PlayedRun, marks: &[(u32, u32)]) -> bool
     requires sound { IsTrue (is_sound run.now.app) }
     requires legal { IsLegalTrace run.now.app run.now.trace }
 {
@@ -168,7 +168,7 @@ pub fn has_last_order(alloc: Global, run: &Run, marks: &[(u32, u32)]) -> bool
 
 /// Whether the reads in the first span of the process that began as the first entry of an object have an order with these marks. Where
 /// memory runs out they have not.
-pub fn has_order(alloc: Global, run: &Run, object: u32, marks: &[(u32, u32)]) -> bool
+pub fn has_order(alloc: Global, run: &PlayedRun, object: u32, marks: &[(u32, u32)]) -> bool
     requires sound { IsTrue (is_sound run.now.app) }
     requires legal { IsLegalTrace run.now.app run.now.trace }
 {
@@ -190,7 +190,7 @@ fn are_orders(answers: &[SpanAnswer]) -> bool {
 }
 
 /// Whether so many spans of a run have a read, and each has an order. Where memory runs out that is not so.
-pub fn have_orders(alloc: Global, run: &Run, count: usize) -> bool
+pub fn have_orders(alloc: Global, run: &PlayedRun, count: usize) -> bool
     requires sound { IsTrue (is_sound run.now.app) }
     requires legal { IsLegalTrace run.now.app run.now.trace }
 {
@@ -201,7 +201,7 @@ pub fn have_orders(alloc: Global, run: &Run, count: usize) -> bool
 }
 
 /// Whether some spans of a run have a read, and as is counted each has an order. Where memory runs out that is not so.
-pub fn are_all_ordered(alloc: Global, run: &Run) -> bool
+pub fn are_all_ordered(alloc: Global, run: &PlayedRun) -> bool
     requires sound { IsTrue (is_sound run.now.app) }
     requires legal { IsLegalTrace run.now.app run.now.trace }
 {

@@ -7,7 +7,7 @@ ghost use Rattle.law_causal.specs.Causal.{is_process};
 
 use crate::call_rows::served;
 use crate::pulls::BARRIER_WAITS;
-use crate::run_rows::{Run, Wanted, assert_run, assert_runs};
+use crate::run_rows::{PlayedRun, Wanted, assert_run, assert_runs};
 use anti_app::store_names;
 use anti_baggage::encode;
 use anti_ids::{Lineage, Name};
@@ -323,7 +323,7 @@ fn has_text(alloc: Global, stores: &[Name], lineage: &Lineage, text: &str) -> bo
 }
 
 // Whether the lineage with this text is carried into the entry at an index, behind the first of its process.
-fn is_carried_into(alloc: Global, run: &Run, index: u32, text: &str) -> bool
+fn is_carried_into(alloc: Global, run: &PlayedRun, index: u32, text: &str) -> bool
     requires sound { IsTrue (is_sound run.now.app) }
     requires legal { IsLegalTrace run.now.app run.now.trace }
     requires index { index < length run.now.trace }
@@ -341,7 +341,7 @@ fn is_carried_into(alloc: Global, run: &Run, index: u32, text: &str) -> bool
 }
 
 /// Whether the lineage with this text is carried into the entry at a place of an object. Where memory runs out it is not.
-pub fn is_carried(alloc: Global, run: &Run, at: (u32, u32), text: &str) -> bool
+pub fn is_carried(alloc: Global, run: &PlayedRun, at: (u32, u32), text: &str) -> bool
     requires sound { IsTrue (is_sound run.now.app) }
     requires legal { IsLegalTrace run.now.app run.now.trace }
 {
@@ -355,7 +355,7 @@ pub fn is_carried(alloc: Global, run: &Run, at: (u32, u32), text: &str) -> bool
 }
 
 /// Whether the entry at a place of an object is the first that loses an id. Where memory runs out it is not.
-pub fn is_first_loss(alloc: Global, run: &Run, at: (u32, u32)) -> bool
+pub fn is_first_loss(alloc: Global, run: &PlayedRun, at: (u32, u32)) -> bool
     requires sound { IsTrue (is_sound run.now.app) }
     requires legal { IsLegalTrace run.now.app run.now.trace }
 {
@@ -366,7 +366,7 @@ pub fn is_first_loss(alloc: Global, run: &Run, at: (u32, u32)) -> bool
 }
 
 /// Whether no entry loses an id. Where memory runs out that is not so.
-pub fn has_no_loss(alloc: Global, run: &Run) -> bool
+pub fn has_no_loss(alloc: Global, run: &PlayedRun) -> bool
     requires sound { IsTrue (is_sound run.now.app) }
     requires legal { IsLegalTrace run.now.app run.now.trace }
 {
@@ -374,7 +374,7 @@ pub fn has_no_loss(alloc: Global, run: &Run) -> bool
 }
 
 /// Whether the reads of a run are settled as these answers say. Where memory runs out that is not so.
-pub fn are_settled(alloc: Global, run: &Run, answers: &[bool]) -> bool
+pub fn are_settled(alloc: Global, run: &PlayedRun, answers: &[bool]) -> bool
     requires sound { IsTrue (is_sound run.now.app) }
     requires legal { IsLegalTrace run.now.app run.now.trace }
 {
@@ -414,7 +414,7 @@ fn are_listed(found: &[Span], listed: &[(u32, u32, u32)]) -> bool {
 }
 
 /// Whether the spans with a read in a run are those that are listed. Where memory runs out they are not.
-pub fn are_spans(alloc: Global, run: &Run, listed: &[(u32, u32, u32)]) -> bool {
+pub fn are_spans(alloc: Global, run: &PlayedRun, listed: &[(u32, u32, u32)]) -> bool {
     match spans(alloc, &run.trace) {
         Ok(found) => are_listed(found.as_slice(), listed),
         Err(_) => false,

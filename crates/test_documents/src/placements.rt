@@ -1,12 +1,12 @@
 // What `place` writes, and what it is worth: the runs of a placed application, whatever their schedule.
-use crate::call_rows::{Row, STEP, assert_texts, comes_to, served};
+use crate::call_rows::{CallRow, STEP, assert_texts, comes_to, served};
 use crate::past::WHOLE;
 use crate::run_rows::{Wanted, holds};
 use anti_ids::Bytes;
 use std::alloc::Global;
 
 // A call of `place`.
-const PLACE: Row = Row {
+const PLACE: CallRow = CallRow {
     word: b"place",
     ..STEP
 };
@@ -47,10 +47,10 @@ static LINES: [(&str, &str); 6] = [
 ];
 
 // A document that is refused, and one whose line is not written to its end.
-static FAULTS: [(&str, Row); 2] = [
+static FAULTS: [(&str, CallRow); 2] = [
     (
         "regions = ['us', 'us']",
-        Row {
+        CallRow {
             status: 5,
             err: b"app 7 region 2 0\n",
             ..PLACE
@@ -58,7 +58,7 @@ static FAULTS: [(&str, Row); 2] = [
     ),
     (
         WHOLE,
-        Row {
+        CallRow {
             most: 3,
             write_fails: 2,
             status: 4,

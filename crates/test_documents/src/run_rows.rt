@@ -15,7 +15,7 @@ use std::process::Abort;
 
 /// An application, and the trace of its run.
 #[derive(Drop)]
-pub struct Run {
+pub struct PlayedRun {
     /// What was played.
     pub app: App,
     /// All entries that were made.
@@ -56,7 +56,7 @@ pub fn application(alloc: Global, document: &[u8]) -> Option<App>
 }
 
 /// The run of the application that the bytes state. `None` where they state none or memory runs out.
-pub fn run_of(alloc: Global, document: &[u8]) -> Option<Run>
+pub fn run_of(alloc: Global, document: &[u8]) -> Option<PlayedRun>
     ensures sound { IfSome result (λ run. IsTrue (is_sound run.app)) }
     ensures legal { IfSome result (λ run. IsLegalTrace run.app run.trace) }
 {
@@ -64,13 +64,13 @@ pub fn run_of(alloc: Global, document: &[u8]) -> Option<Run>
         return None;
     };
     match play(alloc, &app) {
-        Ok(Played { trace, .. }) => Some(Run { app, trace }),
+        Ok(Played { trace, .. }) => Some(PlayedRun { app, trace }),
         Err(_) => None,
     }
 }
 
 // Whether this is so of a run. Where memory runs out it is not.
-fn is_so(alloc: Global, run: &Run, wanted: &Wanted) -> bool
+fn is_so(alloc: Global, run: &PlayedRun, wanted: &Wanted) -> bool
     requires sound { IsTrue (is_sound run.now.app) }
     requires legal { IsLegalTrace run.now.app run.now.trace }
 {

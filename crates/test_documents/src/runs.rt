@@ -1,6 +1,6 @@
 // Documents that are played through the top call, and their records.
 
-use crate::call_rows::{ENDED, PLAYED, Row, STEP, assert_texts, comes_to, served};
+use crate::call_rows::{CallRow, ENDED, PLAYED, STEP, assert_texts, comes_to, served};
 use anti_ids::Bytes;
 use std::alloc::Global;
 
@@ -290,11 +290,11 @@ fn add_shipments(alloc: Global, document: &mut Bytes, writes: u32) -> bool {
 }
 
 // How many of the 454 writes come to eight regions, the calls that are tried behind these, and what the document comes to.
-static FULL_STORES: [(u32, Texts, Row); 3] = [
+static FULL_STORES: [(u32, Texts, CallRow); 3] = [
     (
         454,
         &[],
-        Row {
+        CallRow {
             most: 5000,
             more: true,
             out: FULL_AND_SHIPPED,
@@ -304,7 +304,7 @@ static FULL_STORES: [(u32, Texts, Row); 3] = [
     (
         453,
         TRIES,
-        Row {
+        CallRow {
             most: 5000,
             more: true,
             out: FULL_AND_TRIED,
@@ -314,7 +314,7 @@ static FULL_STORES: [(u32, Texts, Row); 3] = [
     (
         454,
         &[("\"go w.1\",\n", 1)],
-        Row {
+        CallRow {
             most: 5000,
             status: 5,
             err: b"app 4 top 0 0\n",
@@ -332,7 +332,7 @@ fn add_full_store(alloc: Global, document: &mut Bytes, shipped: u32, tries: Text
 }
 
 // Whether the document comes to what the row wants. `false` where memory runs out, too.
-fn is_played(alloc: Global, shipped: u32, tries: Texts, row: &Row) -> bool {
+fn is_played(alloc: Global, shipped: u32, tries: Texts, row: &CallRow) -> bool {
     let mut document = Bytes::new(alloc);
     add_full_store(alloc, &mut document, shipped, tries)
         && comes_to(alloc, &[row.word], document.bytes(), row)

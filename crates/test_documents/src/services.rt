@@ -3,7 +3,7 @@ ghost use Rattle.std.specs.Prelude.{IsTrue};
 ghost use Rattle.anti_app.specs.Sound.{is_sound};
 
 use crate::call_rows::{ENDED, PLAYED, assert_texts};
-use crate::run_rows::{Run, run_of};
+use crate::run_rows::{PlayedRun, run_of};
 use anti_app::App;
 use anti_baggage::Baggage;
 use anti_ids::{Bytes, Copies, Name};
@@ -328,7 +328,7 @@ fn fault_of(alloc: Global, app: &App, entry: &Entry) -> Option<ProcFault>
 }
 
 // Whether this fault comes where the call that is taken in the run states this. `false` where memory runs out, too.
-fn is_fault_in(alloc: Global, run: &Run, stated: Stated, fault: Option<ProcFault>) -> bool
+fn is_fault_in(alloc: Global, run: &PlayedRun, stated: Stated, fault: Option<ProcFault>) -> bool
     requires { IsTrue (is_sound run.now.app) }
 {
     let Some(entry) = run.trace.as_slice().get(4) else {

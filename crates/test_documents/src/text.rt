@@ -6,7 +6,8 @@ use crate::run_rows::{Wanted, assert_runs};
 use anti_app::App;
 use anti_ids::Bytes;
 use anti_play::{Played, play};
-use anti_text::{Report, print, text};
+use anti_report::Report;
+use anti_text::{print, text};
 use std::alloc::Global;
 
 // Two services of which one calls the other, a store with two replicas, a call that goes too deep, and a choice that waits.

@@ -2,7 +2,7 @@ ghost use Rattle.std.specs.Prelude.{◌≡◌, IfOk, IsTrue};
 ghost use Rattle.anti_trace.specs.Ends.{ends_of};
 ghost use Rattle.anti_app.specs.Sound.{is_sound};
 ghost use Rattle.anti_trace.specs.Legal.{IsLegalTrace};
-ghost use Rattle.anti_text.specs.Report.{IsTold};
+ghost use Rattle.anti_report.specs.Report.{IsTold};
 
 use anti_app::{App, Waits};
 use anti_ids::NoMemory;
@@ -26,7 +26,7 @@ pub struct Report<'t, 'w> {
 }
 
 impl<'t, 'w> Model for Report<'t, 'w> {
-    ghost use Rattle.anti_text.specs.Report.{Told};
+    ghost use Rattle.anti_report.specs.Report.{Told};
 
     ghost Value = { Told };
 

@@ -2,8 +2,8 @@ use Rattle.std.proofs.Common.{◌∙◌, rules, tests}
 use Rattle.std.proofs.lemmas.Iterator.{YieldsList-from_slice}
 use Rattle.std.proofs.lemmas.Iterator.Consumers.{count_from_yields_List, YieldsList-from_filter}
 use Rattle.std.proofs.lemmas.List.Sums.{length-filter}
-use Rattle.anti_text.specs.Summary.{is_ship}
-use Rattle.anti_text.proofs.run_summary.count_ships.Goals as goal
+use Rattle.anti_report.specs.RunCounts.{is_ship}
+use Rattle.anti_report.proofs.run_counts.count_ships.Goals as goal
 
 pub returns : goal.returns
 returns c =

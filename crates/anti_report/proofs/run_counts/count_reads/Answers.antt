@@ -2,11 +2,11 @@ use Rattle.std.proofs.Common.{◌∙◌, rules, tests}
 use Rattle.std.proofs.lemmas.Iterator.{YieldsList-from_slice}
 use Rattle.std.proofs.lemmas.Iterator.Consumers.{count_from_yields_List, YieldsList-from_filter}
 use Rattle.std.proofs.lemmas.List.Sums.{length-filter}
-use Rattle.anti_text.specs.Summary.{is_write}
-use Rattle.anti_text.proofs.run_summary.count_writes.Goals as goal
+use Rattle.law_causal.specs.Words.{reads}
+use Rattle.anti_report.proofs.run_counts.count_reads.Goals as goal
 
 pub returns : goal.returns
 returns c =
     count_from_yields_List c.filter.result _ c.count.ensures.ran
-    (YieldsList-from_filter _ (λ e. is_write e.call) (YieldsList-from_slice c.args.entries.now (cc)) c.filter.ensures.closure (λ x b q k. search (rules, tests)))
-    ∙ length-filter (λ e. is_write e.call) c.args.entries.now
+    (YieldsList-from_filter _ (λ e. reads e.call) (YieldsList-from_slice c.args.entries.now (cc)) c.filter.ensures.closure (λ x b q k. search (rules, tests)))
+    ∙ length-filter (λ e. reads e.call) c.args.entries.now

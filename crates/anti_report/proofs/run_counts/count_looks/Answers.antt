@@ -3,7 +3,7 @@ use Rattle.std.proofs.lemmas.Iterator.{YieldsList-from_slice}
 use Rattle.std.proofs.lemmas.Iterator.Consumers.{count_from_yields_List, YieldsList-from_filter}
 use Rattle.std.proofs.lemmas.List.Sums.{length-filter}
 use Rattle.anti_proc.specs.Barriers.{is_look}
-use Rattle.anti_text.proofs.run_summary.count_looks.Goals as goal
+use Rattle.anti_report.proofs.run_counts.count_looks.Goals as goal
 
 pub returns : goal.returns
 returns c =
