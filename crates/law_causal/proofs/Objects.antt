@@ -8,14 +8,17 @@ use Rattle.std.proofs.lemmas.List.Concat.{flat_map-cons}
 use Rattle.anti_kind.specs.declared.entry.Entry.{Entry}
 use Rattle.anti_kind.specs.declared.message.Message.{Message}
 use Rattle.anti_kind.specs.Objects.{Start, store, inbox, Follows, IsLegal}
-use Rattle.anti_kind.specs.Stored.{shows_of}
+use Rattle.anti_kind.specs.Laws.{KeepsLaws}
+use Rattle.anti_kind.specs.Store.{store_of}
 use Rattle.anti_kind.proofs.Histories.{legal_front}
+use Rattle.anti_kind.proofs.Keeping.{keeps_laws}
 use Rattle.anti_app.specs.declared.app.App.{App}
 use Rattle.anti_app.specs.declared.app.StoreDef.{StoreDef}
 use Rattle.anti_app.specs.declared.app.ServiceDef.{ServiceDef}
 use Rattle.anti_app.specs.declared.app.HandlerDef.{HandlerDef}
 use Rattle.anti_app.specs.declared.app.RequestDef.{RequestDef}
-use Rattle.anti_object.specs.Starts.{start_of, store_start, inbox_start, message_to, message_of}
+use Rattle.anti_app.specs.Subs.{subs_on}
+use Rattle.anti_object.specs.Starts.{start_of, store_start, tries_of, inbox_start, message_to, message_of}
 use Rattle.anti_object.proofs.Starts.{start_of-store, start_of-inbox}
 use Rattle.anti_proc.specs.Meaning.{stated_in}
 use Rattle.anti_trace.specs.Legal.{IsLegalTrace}
@@ -25,13 +28,17 @@ use Rattle.law_causal.proofs.Places.{comes}
 
 -- ---- starts
 
+-- each store of an application keeps the laws, whatever its kind
+store_keeps : (app : App) (o : ℕ) (d : StoreDef) → KeepsLaws (store_of d.kind o d.replicas.items (subs_on app o) (tries_of d))
+store_keeps app o d = keeps_laws (store_of d.kind o d.replicas.items (subs_on app o) (tries_of d)) refl
+
 -- a message that states no lineage, as a request
 abbrev pub StatesNone : App → Message → Type 0
 StatesNone app m = stated_in app m ≡ []
 
--- A store has its own number, and its regions show the greatest version that is whole there. Requests state no lineage.
+-- A store has its own number, and keeps the laws of stores. Requests state no lineage.
 abbrev pub IsOfApp : App → ℕ → Start → Type 0
-IsOfApp app o (store s) = (s.number ≡ o) × (s.shows ≡ shows_of s.kind)
+IsOfApp app o (store s) = (s.number ≡ o) × KeepsLaws s
 IsOfApp app o (inbox requests) = All (StatesNone app) requests
 
 request_states_none : (app : App) (here : Bool) (r : RequestDef) (handler : Option HandlerDef) → All (StatesNone app) (cond here (message_to r handler) [])
@@ -49,7 +56,7 @@ requests_state_none app s service (r ∷ rs) =
 module _ (app : App) (o : ℕ) (start : Start) where
   of_store : (found : Option StoreDef) → option_map (store_start app o) found ≡ Some start → IsOfApp app o start
   of_store None is = absurd (cc)
-  of_store (Some s) is = let same : store_start app o s ≡ start = cc in subst (IsOfApp app o) same (refl, refl)
+  of_store (Some s) is = let same : store_start app o s ≡ start = cc in subst (IsOfApp app o) same (refl, store_keeps app o s)
 
   of_inbox : (service : ℕ) (found : Option ServiceDef) → option_map (inbox_start app service) found ≡ Some start → IsOfApp app o start
   of_inbox service None is = absurd (cc)

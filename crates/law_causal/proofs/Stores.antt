@@ -25,7 +25,7 @@ use Rattle.anti_kind.specs.Stored.{rows, stored, wrote as wrote_row}
 use Rattle.anti_kind.proofs.Finding.{Found, find_found, joined_from}
 use Rattle.anti_kind.proofs.Keeping.{looks_right}
 use Rattle.anti_kind.proofs.Rows.{version_at}
-use Rattle.anti_kind.proofs.Showing.{never_falls, rows-append, same_bytes}
+use Rattle.anti_kind.proofs.Showing.{rows-append, same_bytes}
 use Rattle.anti_kind.proofs.Sources.{calls_name_own, rows_have_sources}
 use Rattle.anti_app.specs.declared.app.App.{App}
 use Rattle.anti_object.specs.Starts.{start_of}
@@ -288,7 +288,7 @@ module _ (app : App) (trace : List Entry) (legal : IsLegalTrace app trace) where
       let known = start_is_of_app app o (store s) start in
       let l = legal_at app trace legal o (store s) start k in
       let more : s.shows (entries_on o (take i trace)) region w.key ≤ s.shows (entries_on o (take i trace) ++ cut.0) region w.key =
-      never_falls s known.1 (entries_on o (take i trace)) cut.0 (subst (IsLegal (store s)) cut.1 l) region w.key in
+      known.1.never_falls (entries_on o (take i trace)) cut.0 (subst (IsLegal (store s)) cut.1 l) region w.key in
       let low : w.version ≤ s.shows (entries_on o (take i trace)) region w.key = leb-true w.version _ was in
       ap (λ (h : List Entry). is_visible s h region w) cut.1 ∙ le-leb w.version _ (omega (arith, more, low))
 

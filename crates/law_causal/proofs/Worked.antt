@@ -14,7 +14,6 @@ use Rattle.anti_kind.specs.declared.message.Message.{Message}
 use Rattle.anti_kind.specs.declared.message.MessageKind.{MessageKind}
 use Rattle.anti_kind.specs.declared.message.MessageKind.TheVariants as kinds
 use Rattle.anti_kind.specs.declared.row.Row.{Row}
-use Rattle.anti_kind.specs.declared.store_kind.StoreKind.TheVariants.{Kv}
 use Rattle.anti_app.specs.declared.app.App.{App}
 use Rattle.anti_baggage.specs.Reading.{read_lineage}
 use Rattle.law_causal.specs.Words.{answered, asked, beside, brings, kept_with, posts_in, shown, wrote}
@@ -24,7 +23,9 @@ use Rattle.law_causal.specs.Settled.{found_in, is_visible_after, region_named}
 use Rattle.law_causal.proofs.WorkedForms.{app_with, born_at, made, service_in, store_in}
 
 abbrev app : App
-app = app_with (codes "eu" ∷ []) (store_in 0 Kv (codes "s") ∷ store_in 0 Kv (codes "t") ∷ []) (service_in 0 (codes "v") [] ∷ []) [] []
+app =
+    app_with (codes "eu" ∷ []) (store_in 0 (codes "kv") (codes "s") ∷ store_in 0 (codes "kv") (codes "t") ∷ [])
+    (service_in 0 (codes "v") [] ∷ []) [] []
 
 abbrev first : Actor
 first = born_at 2 1

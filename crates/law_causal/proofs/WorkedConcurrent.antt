@@ -10,7 +10,6 @@ use Rattle.anti_kind.specs.declared.call.Call.TheVariants as calls
 use Rattle.anti_kind.specs.declared.call.Reply.{Reply}
 use Rattle.anti_kind.specs.declared.call.Reply.TheVariants as replies
 use Rattle.anti_kind.specs.declared.entry.Entry.{Entry}
-use Rattle.anti_kind.specs.declared.store_kind.StoreKind.TheVariants.{Kv, Topic}
 use Rattle.anti_kind.specs.Store.{absent}
 use Rattle.anti_lang.specs.Bodies.{block_from}
 use Rattle.anti_lang.specs.Program as statements
@@ -47,7 +46,7 @@ runs region name body = service_in region name (handler_with (codes "run") body 
 -- The store `s` and the topic `t` are the objects 0 and 1, and the inboxes of `a`, `b` and `r` the objects 2, 3 and 4.
 abbrev app : App
 app =
-    app_with (codes "us" ∷ codes "eu" ∷ []) (store_in 1 Kv (codes "s") ∷ store_in 1 Topic (codes "t") ∷ [])
+    app_with (codes "us" ∷ codes "eu" ∷ []) (store_in 1 (codes "kv") (codes "s") ∷ store_in 1 (codes "topic") (codes "t") ∷ [])
     (runs 0 (codes "a") first_body ∷ runs 0 (codes "b") second_body ∷ runs 1 (codes "r") reader_body ∷ []) []
     (request_for 0 0 [] ∷ request_for 1 0 [] ∷ request_for 2 0 [] ∷ [])
 

@@ -12,7 +12,7 @@ use Rattle.anti_kind.specs.declared.call.Reply.TheVariants as replies
 use Rattle.anti_kind.specs.declared.entry.Entry.{Entry}
 use Rattle.anti_kind.specs.declared.message.MessageKind.TheVariants.{Request}
 use Rattle.anti_kind.specs.declared.row.Row.{Row}
-use Rattle.anti_kind.specs.declared.store_kind.StoreKind.{StoreKind}
+use Rattle.anti_kind.specs.Kinds.{kind_of}
 use Rattle.anti_lang.specs.Bodies.{body_of}
 use Rattle.anti_lang.specs.Program as statements
 use Rattle.anti_lang.specs.Program.{Block, Step}
@@ -40,9 +40,9 @@ write_to store key value = statements.Write store (Plain key) (Literal value) No
 abbrev pub read_as : List ℕ → List ℕ → List ℕ → Step
 read_as store key variable = statements.Read store (Plain key) variable
 
--- a store with one replica
-abbrev pub store_in : ℕ → StoreKind → List ℕ → StoreDef
-store_in region kind name = record { name = name; kind = kind; replicas = plain (region ∷ []); tries = 3 }
+-- a store with one replica, of the kind that a word names
+abbrev pub store_in : ℕ → List ℕ → List ℕ → StoreDef
+store_in region word name = record { name = name; kind = kind_of word; replicas = plain (region ∷ []); tries = 3 }
 
 abbrev pub handler_with : List ℕ → Block → HandlerDef
 handler_with name body = record { name = name; body = body_of body }

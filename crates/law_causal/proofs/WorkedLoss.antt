@@ -9,7 +9,6 @@ use Rattle.anti_kind.specs.declared.actor.Actor.TheVariants.{Carrier}
 use Rattle.anti_kind.specs.declared.call.Call.TheVariants as calls
 use Rattle.anti_kind.specs.declared.call.Reply.TheVariants as replies
 use Rattle.anti_kind.specs.declared.entry.Entry.{Entry}
-use Rattle.anti_kind.specs.declared.store_kind.StoreKind.TheVariants.{Kv}
 use Rattle.anti_kind.specs.Store.{absent}
 use Rattle.anti_lang.specs.Bodies.{block_from}
 use Rattle.anti_lang.specs.Program.{Block, Nack}
@@ -57,7 +56,7 @@ none_lost app trace j e all hands w b =
 -- The store `s` is object 0, and the inbox of the service is object 1. Each of its two handlers has a request.
 abbrev app_of : Block → Block → App
 app_of one two =
-    app_with (codes "eu" ∷ []) (store_in 0 Kv (codes "s") ∷ [])
+    app_with (codes "eu" ∷ []) (store_in 0 (codes "kv") (codes "s") ∷ [])
     (service_in 0 (codes "w") (handler_with (codes "one") one ∷ handler_with (codes "two") two ∷ []) ∷ []) []
     (request_for 0 0 [] ∷ request_for 0 1 [] ∷ [])
 

@@ -12,7 +12,6 @@ use Rattle.anti_kind.specs.declared.call.Call.TheVariants as calls
 use Rattle.anti_kind.specs.declared.call.Reply.{Reply}
 use Rattle.anti_kind.specs.declared.call.Reply.TheVariants as replies
 use Rattle.anti_kind.specs.declared.entry.Entry.{Entry}
-use Rattle.anti_kind.specs.declared.store_kind.StoreKind.TheVariants.{Kv, Queue}
 use Rattle.anti_lang.specs.Bodies.{block_from}
 use Rattle.anti_lang.specs.Program as statements
 use Rattle.anti_lang.specs.Program.{Block}
@@ -39,7 +38,7 @@ note_body = block_from (statements.Barrier ∷ statements.Read (codes "posts") k
 -- The stores `posts` and `notes` are the objects 0 and 1, and the inboxes of `poster` and `reader` the objects 2 and 3.
 abbrev app : App
 app =
-    app_with (codes "us" ∷ codes "eu" ∷ []) (store_in 1 Kv (codes "posts") ∷ store_in 1 Queue (codes "notes") ∷ [])
+    app_with (codes "us" ∷ codes "eu" ∷ []) (store_in 1 (codes "kv") (codes "posts") ∷ store_in 1 (codes "queue") (codes "notes") ∷ [])
     (service_in 0 (codes "poster") (handler_with (codes "post") post_body ∷ [])
     ∷ service_in 1 (codes "reader") (handler_with (codes "note") note_body ∷ []) ∷ [])
     (record { name = codes "fans"; store = 1; channel = codes "n"; service = 1; handler = 0 } ∷ [])

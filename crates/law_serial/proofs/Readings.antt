@@ -17,7 +17,6 @@ use Rattle.anti_kind.specs.Laws.{IsReading, IsRight, KeepsLaws, NamesOwn, ShowsW
 use Rattle.anti_kind.specs.Objects.{Start, Follows, IsLegal, due, inbox, ready, store}
 use Rattle.anti_kind.specs.Store.{Store, is_visible, shown_row}
 use Rattle.anti_kind.proofs.Finding.{find_found, none_passes}
-use Rattle.anti_kind.proofs.Keeping.{keeps_laws}
 use Rattle.anti_kind.proofs.Showing.{bytes_same, is_shown, same_bytes}
 use Rattle.anti_app.specs.declared.app.App.{App}
 use Rattle.anti_app.specs.declared.app.ServiceDef.{ServiceDef}
@@ -118,7 +117,7 @@ read_of app trace legal j b at is =
     let follows : Follows (store s) h b = follows_at app trace legal b.object (store s) start j b at refl in
     let legal_before : IsLegal (store s) h = legal_at app trace legal b.object (store s) start j in
     let known = start_is_of_app app b.object (store s) start in
-    let laws : KeepsLaws s = keeps_laws s known.1 in
+    let laws : KeepsLaws s = known.1 in
     let names : NamesOwn s b.call = laws.calls_name_own h b.call legal_before follows.is_ready in (
       s,
       record {
