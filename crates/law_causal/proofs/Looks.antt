@@ -1,11 +1,12 @@
 -- The looks of a legal trace: what they ask for and where, how one follows another, and that those of a barrier or a dry run leave out nothing
 -- that is carried.
-use Rattle.std.proofs.Common.{◌≡◌, ℕ, zero, suc, ◌<◌, ◌≤◌, ◌==◌, ◌&&◌, ◌||◌, ◌++◌, ◌⊎◌, Bool, true, false, List, [], ◌∷◌, map, refl, sym, ap, ◌∙◌, subst, eqb-true, inl, inr, arith}
+use Rattle.std.proofs.Common.{◌≡◌, ℕ, zero, suc, ◌<◌, ◌≤◌, ◌==◌, ◌&&◌, ◌||◌, ◌++◌, ◌⊎◌, Bool, true, false, List, [], ◌∷◌, length, length-append, map, refl, sym, ap, ap₂, ◌∙◌, subst, eqb-true, inl, inr, arith}
 use Rattle.std.specs.Prelude.{Option, Some, None, slice_get, take, drop, option_and_then}
-use Rattle.std.proofs.lemmas.Bool.{and_from, and_parts, or_cases}
+use Rattle.std.proofs.lemmas.Bool.{and_from, and_parts, cases_order, or_cases}
 use Rattle.anti_ids.specs.Ids.{has_id, ids_of}
 use Rattle.anti_ids.specs.declared.id.WriteId.{WriteId}
 use Rattle.anti_ids.proofs.IdLemmas.{has_id-ids_of}
+use Rattle.anti_kind.specs.declared.actor.Actor.{Actor}
 use Rattle.anti_kind.specs.declared.call.Call.{Call}
 use Rattle.anti_kind.specs.declared.call.Call.TheVariants as calls
 use Rattle.anti_kind.specs.declared.entry.Entry.{Entry}
@@ -24,10 +25,11 @@ use Rattle.anti_proc.proofs.LooksAreDue.{AreDue, FollowsLook, IsDue, LooksAreDue
 use Rattle.anti_proc.proofs.Plans.{among_here, asked_of}
 use Rattle.anti_trace.specs.Legal.{GoAlong, IsLegalTrace}
 use Rattle.anti_trace.specs.Traces.{entries_by, is_by}
+use Rattle.anti_trace.proofs.Puts.{same_actor_itself}
 use Rattle.law_causal.specs.Words.{hands_all, reads}
 use Rattle.law_causal.specs.Carried.{ask_at, carried_at}
-use Rattle.law_causal.specs.Settled.{is_barrier_look, left_at, region_named}
-use Rattle.law_causal.proofs.Lists.{kept_in_front}
+use Rattle.law_causal.specs.Settled.{AskedFor, is_dry_look, left_at, region_named}
+use Rattle.law_causal.proofs.Lists.{kept_between, kept_in_front, same_at}
 use Rattle.law_causal.proofs.Places.{made_at}
 use Rattle.law_causal.proofs.Processes.{IsAsked, asking, at_home, carried_is, handed, hands_asked, tree_asks}
 
@@ -97,21 +99,28 @@ regional_hands call is = absurd (cc)
 
 -- ---- looks
 
--- A look for the id at a place up to j: of the process of the entry e at place j, in its span, with what is carried into it.
-pub record LookedFor (app : App) (trace : List Entry) (j : ℕ) (e : Entry) (region : ℕ) (dry : Bool) (w : WriteId) : Type 0 where
-  pub place : ℕ
-  pub entry : Entry
-  pub early : place ≤ j
-  pub there : slice_get trace place ≡ Some entry
-  pub object : entry.object ≡ w.store
-  pub ids : List WriteId
-  pub call : entry.call ≡ calls.Look region ids dry
-  pub has : has_id w ids ≡ true
-  pub actor : entry.actor ≡ e.actor
-  pub span : entry.span ≡ e.span
-  pub carried : carried_at app trace place entry ≡ carried_at app trace j e
+-- a look for other ids, as the one that it is of the same barrier or dry run with
+pub as_asked : (c : Call) (region : ℕ) (others : List WriteId) (dry : Bool) → c ≡ calls.Look region others dry → (ids : List WriteId)
+    → calls.Look (region_named c) ids (is_dry_look c) ≡ calls.Look region ids dry
+as_asked c region others dry is ids = ap (λ (k : Call). calls.Look (region_named k) ids (is_dry_look k)) is
 
--- The look before the one at place j, of the same barrier or dry run. These are the looks that are left after it.
+-- Between the last of what an actor did before a place, and this place, stands nothing of its own.
+none_between : (trace : List Entry) (who : Actor) (i : ℕ) (a : Entry) (j : ℕ) → slice_get trace i ≡ Some a → a.actor ≡ who
+    → entries_by who (take j trace) ≡ entries_by who (take i trace) ++ a ∷ []
+    → (k : ℕ) (d : Entry) → i < k → k < j → slice_get trace k ≡ Some d → d.actor ≡ who → ⊥
+none_between trace who i a j there own is k d after before at by =
+    let first = kept_between (is_by who) trace i k a there (by_it a own) after in
+    let second = kept_between (is_by who) trace k j d at (by_it d by) before in
+    let one = ap length first.1 ∙ length-append (entries_by who (take i trace)) (a ∷ first.0) in
+    let other = ap length second.1 ∙ length-append (entries_by who (take k trace)) (d ∷ second.0) in
+    let all = ap length is ∙ length-append (entries_by who (take i trace)) (a ∷ []) in
+    omega (arith, one, other, all)
+  where
+    by_it : (e : Entry) → e.actor ≡ who → is_by who e ≡ true
+    by_it e own = ap (λ b. is_by b e) (sym own) ∙ same_actor_itself e.actor
+
+-- The look before the one at place j, of the same barrier or dry run. These are the looks that are left after it, and the process does
+-- nothing between the two.
 pub record LookBefore (app : App) (trace : List Entry) (j : ℕ) (e : Entry) (region : ℕ) (dry : Bool) (looks : List PlannedLook) : Type 0 where
   pub place : ℕ
   pub entry : Entry
@@ -123,6 +132,7 @@ pub record LookBefore (app : App) (trace : List Entry) (j : ℕ) (e : Entry) (re
   pub actor : entry.actor ≡ e.actor
   pub span : entry.span ≡ e.span
   pub carried : carried_at app trace place entry ≡ carried_at app trace j e
+  pub next : (k : ℕ) (d : Entry) → place < k → k < j → slice_get trace k ≡ Some d → d.actor ≡ e.actor → ⊥
 
 -- what is planned asks for each id that is carried and here
 pub planned_for : (app : App) (region : ℕ) (ids : List WriteId) (w : WriteId) → has_id w ids ≡ true → is_store_here app region w.store ≡ true
@@ -234,7 +244,8 @@ module _ (app : App) (trace : List Entry) (legal : IsLegalTrace app trace) where
           elim (last_entry (tree_of app a.birth) a.later None follows.before a.along follows.is) [
             | inl none ↦ absurd (let is = none.1 in cc)
             | inr its ↦
-                let place = made_at trace e.actor j (a.birth ∷ its.front) its.entry [] (a.before ∙ ap (λ es. a.birth ∷ es) its.cut) in
+                let cut = a.before ∙ ap (λ es. a.birth ∷ es) its.cut in
+                let place = made_at trace e.actor j (a.birth ∷ its.front) its.entry [] cut in
                 let asks : ask_at app trace place.0 its.entry ≡ Some follows.before =
                 ap (λ who. ask_of (process_after app (entries_by who (take place.0 trace)))) place.3
                 ∙ ap (λ es. ask_of (process_after app es)) (sym place.4) ∙ its.asked in
@@ -253,6 +264,7 @@ module _ (app : App) (trace : List Entry) (legal : IsLegalTrace app trace) where
                   actor = place.3;
                   span = b.span ∙ ap (λ (k : Ask). k.span) same ∙ follows.span ∙ sym a.span;
                   carried = carried_is app trace place.0 its.entry b ∙ ap (λ (k : Ask). k.carried) same ∙ follows.carried ∙ sym (carried_is app trace j e a);
+                  next = none_between trace e.actor place.0 its.entry j place.2 place.3 (cut ∙ ap (λ es. es ++ its.entry ∷ []) place.4);
                 }
           ]
 
@@ -266,47 +278,56 @@ module _ (app : App) (trace : List Entry) (legal : IsLegalTrace app trace) where
     look_before = let a : IsAsked app trace j e = hands_asked app trace legal j e at (ap hands_all call) in by_due a (due a)
 
     -- it looks itself for an id that it asks for
-    looks_itself : (w : WriteId) → has_id w ids ≡ true → LookedFor app trace j e region dry w
+    looks_itself : (w : WriteId) → has_id w ids ≡ true → AskedFor app trace j e w
     looks_itself w has = record {
       place = j;
-      entry = e;
-      early = omega arith;
+      look = e;
       there = at;
-      object = sym (looked_id j e at region ids dry call w has).1;
       ids = ids;
-      call = call;
-      has = has;
+      call = call ∙ sym (as_asked e.call region ids dry call ids);
+      asked = has;
+      store = sym (looked_id j e at region ids dry call w has).1;
       actor = refl;
       span = refl;
       carried = refl;
+      upto = omega arith;
+      since = λ i d from before there own none. omega (arith, from, before);
     }
 
     -- what it asks for it looks for, and the others are left
-    itself_or_left : (w : WriteId) → is_asked w (looks_from e.object) ≡ true → (is_asked w later ≡ true) ⊎ LookedFor app trace j e region dry w
+    itself_or_left : (w : WriteId) → is_asked w (looks_from e.object) ≡ true → (is_asked w later ≡ true) ⊎ AskedFor app trace j e w
     itself_or_left w asked = elim (or_cases (has_id w ids) (is_asked w later) asked) [ inl own ↦ inr (looks_itself w own) | inr left ↦ inl left ]
 
   module _ (region : ℕ) (dry : Bool) (w : WriteId) where
     -- what the look before looked for
-    looked_before : (j : ℕ) (e : Entry) (looks : List PlannedLook) (b : LookBefore app trace j e region dry looks)
-        → LookedFor app trace b.place b.entry region dry w → LookedFor app trace j e region dry w
-    looked_before j e looks b l = record {
+    looked_before : (j : ℕ) (e : Entry) (ids : List WriteId) → e.call ≡ calls.Look region ids dry → (first : PlannedLook) (later : List PlannedLook)
+        → (b : LookBefore app trace j e region dry (first ∷ later)) → AskedFor app trace b.place b.entry w → AskedFor app trace j e w
+    looked_before j e ids call first later b l = record {
       place = l.place;
-      entry = l.entry;
-      early = let one = l.early in let other = b.early in omega arith;
+      look = l.look;
       there = l.there;
-      object = l.object;
       ids = l.ids;
-      call = l.call;
-      has = l.has;
+      call = l.call ∙ as_asked b.entry.call region b.ids dry b.call l.ids ∙ sym (as_asked e.call region ids dry call l.ids);
+      asked = l.asked;
+      store = l.store;
       actor = l.actor ∙ b.actor;
       span = l.span ∙ b.span;
       carried = l.carried ∙ b.carried;
+      upto = let one = l.upto in let other = b.early in omega arith;
+      since = λ i d from before at own none. elim (cases_order i b.place) [
+        | inl here ↦
+            let same = same_at trace b.place d b.entry (ap (slice_get trace) (sym here) ∙ at) b.there in
+            let ended : Some (first ∷ later) ≡ Some [] = sym b.left ∙ sym (ap₂ (left_at app trace) here same) ∙ none in
+            absurd (cc)
+        | inr (inl before_it) ↦ l.since i d from before_it at (own ∙ sym b.actor) none
+        | inr (inr behind_it) ↦ b.next i d behind_it before at own
+      ];
     }
 
     -- An id that is planned to be looked for was looked for, or is left.
     looked_or_left : (n j : ℕ) → j < n → (e : Entry) → slice_get trace j ≡ Some e → (ids : List WriteId) (later : List PlannedLook)
         → e.call ≡ calls.Look region ids dry → left_at app trace j e ≡ Some later → is_asked w (plan (stores_here app region) (carried_at app trace j e)) ≡ true
-        → (is_asked w later ≡ true) ⊎ LookedFor app trace j e region dry w
+        → (is_asked w later ≡ true) ⊎ AskedFor app trace j e w
     looked_or_left zero j below e at ids later call left asked = absurd (omega arith)
     looked_or_left (suc n) j below e at ids later call left asked =
         elim (look_before j e at region ids dry later call left) [
@@ -317,28 +338,16 @@ module _ (app : App) (trace : List Entry) (legal : IsLegalTrace app trace) where
               ap (λ ids. is_asked w (plan (stores_here app region) ids)) b.carried ∙ asked in
               elim (looked_or_left n b.place (omega arith) b.entry b.there b.ids (record { store = e.object; ids = ids } ∷ later) b.call b.left planned) [
                 | inl further ↦ itself_or_left j e at region ids dry later call left w further
-                | inr looked ↦ inr (looked_before j e (record { store = e.object; ids = ids } ∷ later) b looked)
+                | inr looked ↦ inr (looked_before j e ids call (record { store = e.object; ids = ids }) later b looked)
               ]
         ]
 
   -- With the last look of a barrier or a dry run all that is carried, of stores with a replica in the region, was looked for.
   pub all_looked : (j : ℕ) (e : Entry) → slice_get trace j ≡ Some e → (region : ℕ) (ids : List WriteId) (dry : Bool) → e.call ≡ calls.Look region ids dry
       → left_at app trace j e ≡ Some [] → (w : WriteId) → has_id w (carried_at app trace j e) ≡ true → is_store_here app region w.store ≡ true
-      → LookedFor app trace j e region dry w
+      → AskedFor app trace j e w
   all_looked j e at region ids dry call left w has here =
       elim (looked_or_left region dry w (suc j) j (omega arith) e at ids [] call left (planned_for app region (carried_at app trace j e) w has here)) [
         | inl none ↦ absurd (cc)
         | inr looked ↦ looked
       ]
-
-  -- so also of a barrier, by its words
-  pub barrier_looked : (j : ℕ) (e : Entry) → slice_get trace j ≡ Some e → is_barrier_look e.call ≡ true → left_at app trace j e ≡ Some []
-      → (w : WriteId) → has_id w (carried_at app trace j e) ≡ true → is_store_here app (region_named e.call) w.store ≡ true
-      → LookedFor app trace j e (region_named e.call) false w
-  barrier_looked j e at barrier left w has here = by_call e.call refl barrier here
-    where
-      by_call : (call : Call) → e.call ≡ call → is_barrier_look call ≡ true → is_store_here app (region_named call) w.store ≡ true
-          → LookedFor app trace j e (region_named call) false w
-      by_call (calls.Look region ids false) is barrier here = all_looked j e at region ids false is left w has here
-      by_call (calls.Look region ids true) is barrier here = absurd (cc)
-      by_call call is barrier here = absurd (cc)

@@ -1,5 +1,5 @@
 -- Reads that show nothing older than what is carried into them, and barriers that found all that is carried.
-use Rattle.std.specs.Prelude.{ℕ, ◌≡◌, ◌↔◌, true, false, Bool, List, [], Option, Some, slice_get, take}
+use Rattle.std.specs.Prelude.{ℕ, ◌≡◌, ◌≢◌, ◌<◌, ◌≤◌, ◌↔◌, true, false, Bool, List, [], Option, Some, slice_get, take}
 use Rattle.std.specs.Option.{option_and_then}
 use Rattle.anti_ids.specs.Ids.{has_id}
 use Rattle.anti_ids.specs.declared.id.WriteId.{WriteId}
@@ -72,17 +72,38 @@ abbrev pub is_barrier_look : Call → Bool
 is_barrier_look (calls.Look region ids false) = true
 is_barrier_look call = false
 
--- A barrier is answered by the last of its looks. Then all that its process carries is visible, of each store with a replica in the region.
+-- The look e, at place j, is the last of a barrier or a dry run. One of its looks asked for the id, at the id's store: the process made it
+-- with the same lineage, in the same span and region, and since then it came to the last look of no other.
+pub record AskedFor (app : App) (trace : List Entry) (j : ℕ) (e : Entry) (w : WriteId) : Type 0 where
+  pub place : ℕ
+  pub look : Entry
+  pub there : slice_get trace place ≡ Some look
+  pub ids : List WriteId
+  pub call : look.call ≡ calls.Look (region_named e.call) ids (is_dry_look e.call)
+  pub asked : has_id w ids ≡ true
+  pub store : look.object ≡ w.store
+  pub actor : look.actor ≡ e.actor
+  pub span : look.span ≡ e.span
+  pub carried : carried_at app trace place look ≡ carried_at app trace j e
+  pub upto : place ≤ j
+  pub since : (i : ℕ) (d : Entry) → place ≤ i → i < j → slice_get trace i ≡ Some d → d.actor ≡ e.actor → left_at app trace i d ≢ Some []
+
+-- A barrier is answered by the last of its looks. Then each id that its process carries, of each store with a replica in the region, was
+-- asked for by one of these looks. It was visible at this look, and is visible at the last.
 abbrev pub BarriersFindAll : App → List Entry → Type 0
 BarriersFindAll app trace =
     (j : ℕ) (e : Entry) → slice_get trace j ≡ Some e → is_barrier_look e.call ≡ true → left_at app trace j e ≡ Some []
     → (w : WriteId) → has_id w (carried_at app trace j e) ≡ true → is_store_here app (region_named e.call) w.store ≡ true
-    → is_visible_after app (take j trace) (region_named e.call) w ≡ true
+    → (a : AskedFor app trace j e w) × (is_visible_after app (take a.place trace) (region_named e.call) w ≡ true)
+    × (is_visible_after app (take j trace) (region_named e.call) w ≡ true)
 
--- A look of a dry run names, of the ids of its store that its process carries, exactly those that are not visible then.
+-- A look of a dry run names, of the ids of its store that its process carries, exactly those that are not visible then. By the last of its
+-- looks each id that is carried, of each store with a replica in the region, was asked for.
 abbrev pub DryRunsName : App → List Entry → Type 0
 DryRunsName app trace =
     (j : ℕ) (e : Entry) → slice_get trace j ≡ Some e → is_dry_look e.call ≡ true → (w : WriteId)
-    → (has_id w (named_missing e.reply) ≡ true)
+    → ((has_id w (named_missing e.reply) ≡ true)
     ↔ ((has_id w (carried_at app trace j e) ≡ true) × (w.store ≡ e.object)
-    × (is_visible_after app (take j trace) (region_named e.call) w ≡ false))
+    × (is_visible_after app (take j trace) (region_named e.call) w ≡ false)))
+    × (left_at app trace j e ≡ Some [] → has_id w (carried_at app trace j e) ≡ true → is_store_here app (region_named e.call) w.store ≡ true
+    → AskedFor app trace j e w)

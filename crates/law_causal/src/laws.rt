@@ -22,8 +22,9 @@ pub fn carried_ids_were_written()
         → IsLegalTrace app trace → CarriedWasWritten app trace }
 {}
 
-/// In a legal trace of a sound application each barrier that is answered found all that its process carries, of the stores with a replica
-/// in the region, and each look of a dry run names just what is not visible.
+/// In a legal trace of a sound application each barrier that is answered asked, by its looks, for all that its process carries, of the
+/// stores with a replica in the region, and found it. Each look of a dry run names just what of its store is not visible, and the looks of
+/// a finished dry run asked for all that is carried in the same way.
 pub fn barriers_find_all()
     ensures barriers { (app : App) (trace : List Entry) → IsTrue (is_sound app)
         → IsLegalTrace app trace → BarriersFindAll app trace }
