@@ -9,3 +9,4 @@ mod Noting
 mod Places
 mod ReadPlaces
 mod Unsettled
+mod Worked

@@ -14,8 +14,9 @@ pub mod Causes
 pub mod Written
 pub mod Legal
 pub mod Barriers
-mod WorkedForms
+pub mod WorkedForms
 mod Worked
-mod WorkedLoss
-mod WorkedNote
-mod WorkedConcurrent
+pub mod WorkedLoss
+mod WorkedDryRun
+pub mod WorkedNote
+pub mod WorkedConcurrent

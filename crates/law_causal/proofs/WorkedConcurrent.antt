@@ -1,6 +1,6 @@
 -- A worked trace: two processes write to one key. A third reads the later write, learns of the other by a cell of a topic, and reads the
 -- key once more.
-use Rattle.std.proofs.Common.{◌≡◌, ℕ, false, List, [], ◌∷◌, refl, ap, inl, inr, arith}
+use Rattle.std.proofs.Common.{◌≡◌, ℕ, false, List, [], ◌∷◌, Some, slice_get, refl, sym, ap, ap₂, ◌∙◌, inl, inr, arith}
 use Rattle.std.specs.Prelude.{codes}
 use Rattle.anti_ids.specs.Ids.{has_id}
 use Rattle.anti_ids.specs.declared.id.WriteId.{WriteId}
@@ -20,31 +20,34 @@ use Rattle.anti_app.specs.declared.app.App.{App}
 use Rattle.anti_app.specs.declared.app.ServiceDef.{ServiceDef}
 use Rattle.law_causal.specs.Causal.{Before, lineage, program, row, through}
 use Rattle.law_causal.specs.Carried.{InPast, carried_at}
+use Rattle.law_causal.specs.Reads.{reads_of}
+use Rattle.law_causal.specs.Settled.{AskedFor, left_at}
 use Rattle.law_causal.proofs.Ids.{id_for, not_none}
-use Rattle.law_causal.proofs.WorkedForms.{app_with, born_at, carried_with, clear, handler_with, made, read_as, request_for, row_of, service_in, shows, store_in, taken_at, write_to}
+use Rattle.law_causal.proofs.Lists.{same_at}
+use Rattle.law_causal.proofs.WorkedForms.{app_with, born_at, carried_with, clear, handler_with, left_with, made, read_as, request_for, row_of, service_in, shows, store_in, taken_at, write_to}
 
 -- ---- the application
 
-abbrev first_body : Block
+abbrev pub first_body : Block
 first_body =
     block_from (write_to (codes "s") (codes "x") (codes "1") ∷ write_to (codes "s") (codes "k") (codes "u")
     ∷ write_to (codes "t") (codes "n") (codes "note") ∷ [])
 
-abbrev second_body : Block
+abbrev pub second_body : Block
 second_body = block_from (write_to (codes "s") (codes "k") (codes "v") ∷ [])
 
-abbrev reader_body : Block
+abbrev pub reader_body : Block
 reader_body =
     block_from (read_as (codes "s") (codes "k") (codes "p") ∷ statements.Transfer (codes "p") ∷ statements.Barrier
     ∷ read_as (codes "s") (codes "x") (codes "q") ∷ statements.Transfer (codes "q")
     ∷ statements.Poll (codes "t") (Plain (codes "n#1")) (codes "o") ∷ statements.Transfer (codes "o") ∷ statements.Barrier
     ∷ read_as (codes "s") (codes "k") (codes "z") ∷ [])
 
-abbrev runs : ℕ → List ℕ → Block → ServiceDef
+abbrev pub runs : ℕ → List ℕ → Block → ServiceDef
 runs region name body = service_in region name (handler_with (codes "run") body ∷ [])
 
 -- The store `s` and the topic `t` are the objects 0 and 1, and the inboxes of `a`, `b` and `r` the objects 2, 3 and 4.
-abbrev app : App
+abbrev pub app : App
 app =
     app_with (codes "us" ∷ codes "eu" ∷ []) (store_in 1 (codes "kv") (codes "s") ∷ store_in 1 (codes "topic") (codes "t") ∷ [])
     (runs 0 (codes "a") first_body ∷ runs 0 (codes "b") second_body ∷ runs 1 (codes "r") reader_body ∷ []) []
@@ -52,56 +55,75 @@ app =
 
 -- ---- the trace
 
-abbrev x_id : WriteId
+abbrev pub x_id : WriteId
 x_id = id_for 0 (codes "x") 1
 
-abbrev u_id : WriteId
+abbrev pub u_id : WriteId
 u_id = id_for 0 (codes "k") 2
 
-abbrev v_id : WriteId
+abbrev pub v_id : WriteId
 v_id = id_for 0 (codes "k") 3
 
-abbrev note_id : WriteId
+abbrev pub note_id : WriteId
 note_id = id_for 1 (codes "n#1") 1
 
 -- the first process
-abbrev acted : ℕ → ℕ → ℕ → Call → Reply → Entry
+abbrev pub acted : ℕ → ℕ → ℕ → Call → Reply → Entry
 acted stamp object place call reply = made stamp object place (born_at 2 1) 1 call reply
 
-abbrev write_u : Entry
+abbrev pub write_x : Entry
+write_x = acted 2 0 1 (calls.Write (codes "x") (codes "1") []) (replies.Written (codes "x") 1)
+
+abbrev pub write_u : Entry
 write_u = acted 3 0 2 (calls.Write (codes "k") (codes "u") (x_id ∷ [])) (replies.Written (codes "k") 2)
 
-abbrev write_v : Entry
+abbrev pub write_v : Entry
 write_v = made 4 0 3 (born_at 3 1) 1 (calls.Write (codes "k") (codes "v") []) (replies.Written (codes "k") 3)
 
-abbrev write_note : Entry
+abbrev pub write_note : Entry
 write_note = acted 4 1 1 (calls.Write (codes "n") (codes "note") (x_id ∷ u_id ∷ [])) (replies.Written (codes "n#1") 1)
 
-abbrev ship : ℕ → ℕ → ℕ → ℕ → Entry
+abbrev pub ship : ℕ → ℕ → ℕ → ℕ → Entry
 ship stamp object place version = made stamp object place (Carrier 0) 0 (calls.Ship 1 version 1) replies.Moved
 
 -- the third process
-abbrev did : ℕ → ℕ → ℕ → Call → Reply → Entry
+abbrev pub did : ℕ → ℕ → ℕ → Call → Reply → Entry
 did stamp object place call reply = made stamp object place (born_at 4 1) 1 call reply
 
-abbrev read : Entry
+abbrev pub read : Entry
 read = did 6 0 5 (calls.Read 1 (codes "k")) (shows (row_of (codes "k") 3 (codes "v") []))
 
-abbrev poll : Entry
+abbrev pub first_look : Entry
+first_look = did 7 0 6 (calls.Look 1 (v_id ∷ []) false) clear
+
+abbrev pub read_x : Entry
+read_x = did 8 0 7 (calls.Read 1 (codes "x")) (shows (absent (codes "x")))
+
+abbrev pub poll : Entry
 poll = did 9 1 3 (calls.Poll 1 (codes "n#1")) (shows (row_of (codes "n#1") 1 (codes "note") (x_id ∷ u_id ∷ [])))
 
-abbrev read_again : Entry
+abbrev pub look_s : Entry
+look_s = did 10 0 9 (calls.Look 1 (x_id ∷ u_id ∷ v_id ∷ []) false) clear
+
+abbrev pub look_t : Entry
+look_t = did 11 1 4 (calls.Look 1 (note_id ∷ []) false) clear
+
+abbrev pub read_again : Entry
 read_again = did 12 0 10 (calls.Read 1 (codes "k")) (shows (row_of (codes "k") 3 (codes "v") []))
 
 -- by stamp, and by object where two stamps are equal
-abbrev trace : List Entry
+abbrev pub trace : List Entry
 trace =
     taken_at 1 2 1 (codes "run") [] ∷ taken_at 1 3 1 (codes "run") [] ∷ taken_at 1 4 1 (codes "run") []
-    ∷ acted 2 0 1 (calls.Write (codes "x") (codes "1") []) (replies.Written (codes "x") 1) ∷ write_u ∷ write_v ∷ write_note
-    ∷ ship 5 0 4 3 ∷ read ∷ ship 6 1 2 1 ∷ did 7 0 6 (calls.Look 1 (v_id ∷ []) false) clear
-    ∷ did 8 0 7 (calls.Read 1 (codes "x")) (shows (absent (codes "x"))) ∷ ship 9 0 8 1 ∷ poll
-    ∷ did 10 0 9 (calls.Look 1 (x_id ∷ u_id ∷ v_id ∷ []) false) clear
-    ∷ did 11 1 4 (calls.Look 1 (note_id ∷ []) false) clear ∷ read_again ∷ []
+    ∷ write_x ∷ write_u ∷ write_v ∷ write_note ∷ ship 5 0 4 3 ∷ read ∷ ship 6 1 2 1 ∷ first_look ∷ read_x ∷ ship 9 0 8 1 ∷ poll
+    ∷ look_s ∷ look_t ∷ read_again ∷ []
+
+-- the places of the reads of the third process, all in its first span
+its_reads : reads_of trace (record { object = 4; place = 1 }) 1 ≡ 8 ∷ 11 ∷ 13 ∷ 16 ∷ []
+its_reads = refl
+
+no_others : reads_of trace (record { object = 4; place = 1 }) 2 ≡ []
+no_others = refl
 
 -- ---- what is carried
 
@@ -118,6 +140,45 @@ not_in_past (inr came) = absurd (cc)
 
 in_past_again : InPast app trace 16 read_again u_id
 in_past_again = inl (ap (has_id u_id) into_read_again)
+
+-- ---- the looks of two barriers
+
+-- Each barrier is answered by its last look.
+first_is_answered : left_at app trace 10 first_look ≡ Some []
+first_is_answered = ap (left_with app trace 10 first_look) (block_again reader_body)
+
+second_goes_on : left_at app trace 14 look_s ≡ Some (record { store = 1; ids = note_id ∷ [] } ∷ [])
+second_goes_on = ap (left_with app trace 14 look_s) (block_again reader_body)
+
+second_is_answered : left_at app trace 15 look_t ≡ Some []
+second_is_answered = ap (left_with app trace 15 look_t) (block_again reader_body)
+
+-- The second barrier asked for the later write to the key by its own look,
+asked_again : AskedFor app trace 15 look_t v_id
+asked_again = record {
+  place = 14;
+  look = look_s;
+  there = refl;
+  ids = x_id ∷ u_id ∷ v_id ∷ [];
+  call = refl;
+  asked = refl;
+  store = refl;
+  actor = refl;
+  span = refl;
+  carried = ap (carried_with app trace 14 look_s) (block_again reader_body)
+      ∙ sym (ap (carried_with app trace 15 look_t) (block_again reader_body));
+  upto = omega arith;
+  since = λ i d from before at by none.
+      let here : i ≡ 14 = omega (arith, from, before) in
+      let same : d ≡ look_s = same_at trace 14 d look_s (ap (slice_get trace) (sym here) ∙ at) refl in
+      let goes_on = second_goes_on in
+      let is = ap₂ (left_at app trace) here same in
+      absurd (cc);
+}
+
+-- and the look of the first barrier is none of the second's, though it asked for the same id.
+not_by_the_first : (a : AskedFor app trace 15 look_t v_id) → a.place ≡ 10 → ⊥
+not_by_the_first a is = a.since 10 first_look (omega (arith, is)) (omega arith) refl refl first_is_answered
 
 -- ---- the causal order
 

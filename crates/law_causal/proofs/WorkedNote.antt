@@ -20,23 +20,24 @@ use Rattle.anti_lang.specs.declared.statement.ValueWord.TheVariants.{Input}
 use Rattle.anti_lang.proofs.PlainLemmas.{block_again}
 use Rattle.anti_app.specs.declared.app.App.{App}
 use Rattle.law_causal.specs.Causal.{Before, Earlier, program, row, through}
-use Rattle.law_causal.specs.Carried.{carried_at}
+use Rattle.law_causal.specs.Carried.{IsLossless, carried_at}
 use Rattle.law_causal.specs.Settled.{IsSettled, Looked, is_visible_after, left_at}
 use Rattle.law_causal.proofs.Ids.{id_for}
+use Rattle.law_causal.proofs.WorkedLoss.{LosesNone, each_that, hands, keeps_with, none_lost}
 use Rattle.law_causal.proofs.WorkedForms.{app_with, born_at, carried_with, clear, handler_with, left_with, made, request_for, row_of, service_in, shows, store_in, taken_at, write_to}
 
 -- ---- the application
 
-abbrev post_body : Block
+abbrev pub post_body : Block
 post_body =
     block_from (statements.Write (codes "posts") (keys.Plain (codes "p1")) Input None false
     ∷ write_to (codes "notes") (codes "n") (codes "p1") ∷ [])
 
-abbrev note_body : Block
+abbrev pub note_body : Block
 note_body = block_from (statements.Barrier ∷ statements.Read (codes "posts") keys.Input (codes "x") ∷ [])
 
 -- The stores `posts` and `notes` are the objects 0 and 1, and the inboxes of `poster` and `reader` the objects 2 and 3.
-abbrev app : App
+abbrev pub app : App
 app =
     app_with (codes "us" ∷ codes "eu" ∷ []) (store_in 1 (codes "kv") (codes "posts") ∷ store_in 1 (codes "queue") (codes "notes") ∷ [])
     (service_in 0 (codes "poster") (handler_with (codes "post") post_body ∷ [])
@@ -46,38 +47,38 @@ app =
 
 -- ---- the trace
 
-abbrev post_id : WriteId
+abbrev pub post_id : WriteId
 post_id = id_for 0 (codes "p1") 1
 
-abbrev note_id : WriteId
+abbrev pub note_id : WriteId
 note_id = id_for 1 (codes "n#1") 1
 
-abbrev post : Entry
+abbrev pub post : Entry
 post = made 2 0 1 (born_at 2 1) 1 (calls.Write (codes "p1") (codes "hello") []) (replies.Written (codes "p1") 1)
 
-abbrev note : Entry
+abbrev pub note : Entry
 note = made 3 1 1 (born_at 2 1) 1 (calls.Write (codes "n") (codes "p1") (post_id ∷ [])) (replies.Written (codes "n#1") 1)
 
 -- the process of the note
-abbrev did : ℕ → ℕ → ℕ → Call → Reply → Entry
+abbrev pub did : ℕ → ℕ → ℕ → Call → Reply → Entry
 did stamp object place call reply = made stamp object place (born_at 1 3) 1 call reply
 
-abbrev pull : Entry
+abbrev pub pull : Entry
 pull = did 5 1 3 (calls.Pull 0) (replies.Pulled (row_of (codes "n#1") 1 (codes "p1") (post_id ∷ [])))
 
-abbrev look_posts : Entry
+abbrev pub look_posts : Entry
 look_posts = did 6 0 3 (calls.Look 1 (post_id ∷ []) false) clear
 
-abbrev look_notes : Entry
+abbrev pub look_notes : Entry
 look_notes = did 7 1 4 (calls.Look 1 (note_id ∷ []) false) clear
 
-abbrev read : Entry
+abbrev pub read : Entry
 read = did 8 0 4 (calls.Read 1 (codes "p1")) (shows (row_of (codes "p1") 1 (codes "hello") []))
 
-abbrev ship : ℕ → ℕ → Entry
+abbrev pub ship : ℕ → ℕ → Entry
 ship stamp object = made stamp object 2 (Carrier 0) 0 (calls.Ship 1 1 1) replies.Moved
 
-abbrev trace : List Entry
+abbrev pub trace : List Entry
 trace =
     taken_at 1 2 1 (codes "post") (codes "hello") ∷ post ∷ note ∷ ship 4 1 ∷ ship 5 0
     ∷ pull ∷ look_posts ∷ look_notes ∷ read ∷ did 9 1 5 (calls.Ack 1) replies.Done ∷ []
@@ -111,7 +112,7 @@ looked_note =
     let earlier : Earlier 7 look_notes 8 read = record { before = omega arith; process = refl; actor = refl; span = refl } in
     record { place = 7; entry = look_notes; there = refl; earlier = earlier; found = refl }
 
-settled : IsSettled app trace 8 read
+pub settled : IsSettled app trace 8 read
 settled w has here =
     elim (or_cases (is_id w post_id) (has_id w (note_id ∷ [])) (sym (ap (has_id w) into_read) ∙ has)) [
       | inl is ↦ subst (Looked trace 8 read) (sym (same_id w post_id is)) looked_post
@@ -136,3 +137,24 @@ pull_before_read = program pull read refl refl (record { before = omega arith; p
 
 note_before_read : Before trace 2 8
 note_before_read = through note_before_pull pull_before_read
+
+-- ---- no lineage loses a write
+
+-- Each write, look and read carries all that came to its span before.
+pub lossless : IsLossless app trace
+lossless =
+    let kept_at_post = ap (keeps_with app trace 1 post) (block_again post_body) in
+    let kept_at_note = ap (keeps_with app trace 2 note) (block_again post_body) in
+    let kept_at_first_look = ap (keeps_with app trace 6 look_posts) (block_again note_body) in
+    let kept_at_last_look = ap (keeps_with app trace 7 look_notes) (block_again note_body) in
+    let kept_at_read = ap (keeps_with app trace 8 read) (block_again note_body) in
+    each_that hands (LosesNone app trace) trace (
+      none_lost app trace 1 post kept_at_post,
+      (
+        none_lost app trace 2 note kept_at_note,
+        (
+          none_lost app trace 6 look_posts kept_at_first_look,
+          (none_lost app trace 7 look_notes kept_at_last_look, (none_lost app trace 8 read kept_at_read, tt)),
+        ),
+      ),
+    )

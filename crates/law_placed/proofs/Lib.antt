@@ -11,3 +11,4 @@ mod Waiting
 mod Sending
 mod Arriving
 mod Keeping
+mod Worked

@@ -6,3 +6,4 @@ mod Missed
 pub mod Pasts
 pub mod Chains
 mod Serial
+pub mod Worked
