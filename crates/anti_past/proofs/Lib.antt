@@ -12,3 +12,4 @@ pub mod OnePlace
 mod Told
 mod Settledness
 mod SpansRead
+mod Worked
