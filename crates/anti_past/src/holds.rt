@@ -61,7 +61,6 @@ fn holds_row(lineage: &Lineage, store: u32, row: &Row) -> bool
     holds_version(lineage, store, row.key, row.version) && holds_all(lineage, &row.lineage)
 }
 
-// The same of rows.
 fn holds_rows(lineage: &Lineage, store: u32, rows: &[Row]) -> bool
     ensures { result ≡ list_all (λ row. holds lineage.now (row_ids store row)) rows.now }
 {

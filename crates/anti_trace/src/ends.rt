@@ -81,7 +81,6 @@ fn add_ends<T: EndOfObjects>(
     Ok(())
 }
 
-// The processes of a legal trace.
 fn processes_of(alloc: Global, app: &App, trace: &[Entry]) -> Result<Processes, NoMemory>
     requires sound { IsTrue (is_sound app.now) }
     requires legal { IsLegalTrace app.now trace.now }

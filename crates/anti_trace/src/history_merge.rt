@@ -31,6 +31,7 @@ pub fn merge(alloc: Global, histories: Histories) -> Result<Trace, NoMemory>
         let history = &mut left[number];
         match history.pop() {
             Some(entry) => entries.push_front_reserved(entry),
+            // only a history that is not empty has a head
             None => unreachable!(),
         }
         renew_first(&mut heads, number, history);

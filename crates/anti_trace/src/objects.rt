@@ -43,6 +43,7 @@ fn first_object(alloc: Global, app: &App, number: u32) -> Result<Object, NoMemor
 {
     match Object::of(alloc, app, number)? {
         Some(object) => Ok(object),
+        // by `there`
         None => unreachable!(),
     }
 }

@@ -28,6 +28,7 @@ pub fn born(alloc: Global, app: &App, entry: &Entry) -> Result<Process, NoMemory
     match Process::born(alloc, app, entry) {
         Ok(process) => Ok(process),
         Err(ProcFault::NoMemory) => Err(NoMemory),
+        // by `starts`
         Err(ProcFault::Foreign) => unreachable!(),
     }
 }
@@ -45,6 +46,7 @@ pub fn advance(app: &App, process: &Process, entry: &Entry) -> Result<Advance, N
     match process.advance(app, &entry.reply) {
         Ok(advance) => Ok(advance),
         Err(ProcFault::NoMemory) => Err(NoMemory),
+        // by `known`
         Err(ProcFault::Foreign) => unreachable!(),
     }
 }

@@ -21,7 +21,6 @@ pub struct Processes {
 }
 
 impl AtObject {
-    // No process.
     fn new(alloc: Global) -> AtObject
         ensures { result.born.items ≡ [] }
     {
