@@ -34,7 +34,7 @@ module _ (app : App) (trace : List Entry) (j : ℕ) (all : List AtObject) (e : E
 
   -- only a process asks for something
   pub by_process : (b : Birth) × (e.actor ≡ Acting b)
-  by_process = born_by e.actor (asking app trace n.legal j e n.there n.ask n.asked).0.process
+  by_process = born_by e.actor (asking app trace n.next.legal j e n.next.there n.ask n.asked).0.process
 
   module _ (b : Birth) (by : e.actor ≡ Acting b) where
     asked_by : ask_of (process_after app (entries_by (Acting b) (take j trace))) ≡ Some n.ask
@@ -49,8 +49,8 @@ module _ (app : App) (trace : List Entry) (j : ℕ) (all : List AtObject) (e : E
     -- and it asks for the entry, with what it carries
     pub its_ask : (p : Process) → LivesOn app (take j trace) p (entries_by (Acting b) (take j trace)) → ask_of (process_of app p) ≡ Some n.ask
     its_ask p on =
-        let legal : IsLegalTrace app (take j trace ++ e ∷ drop (suc j) trace) = subst (IsLegalTrace app) (cut_at trace j e n.there) n.legal in
-        let going : full_of p ≡ None = next_going app n.sound (take j trace) e (drop (suc j) trace) legal b by p on in
+        let legal : IsLegalTrace app (take j trace ++ e ∷ drop (suc j) trace) = subst (IsLegalTrace app) (cut_at trace j e n.next.there) n.next.legal in
+        let going : full_of p ≡ None = next_going app n.next.sound (take j trace) e (drop (suc j) trace) legal b by p on in
         ap ask_of (on.tree going) ∙ asked_by
 
     pub still_asks : (p : Process) → LivesOn app (take j trace) p (entries_by (Acting b) (take j trace)) → ask_of (process_of app p) ≡ None → ⊥

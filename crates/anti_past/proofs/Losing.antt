@@ -1,5 +1,5 @@
 -- Whether an entry loses an id, by what is known to have come to its span, and what is known behind it.
-use Rattle.std.proofs.Common.{◌≡◌, ℕ, ◌+◌, ◌<◌, ◌≤◌, ◌&&◌, ◌||◌, ◌++◌, Bool, true, false, cond, List, [], ◌∷◌, refl, sym, ap, ◌∙◌, subst, inl, inr, arith, length}
+use Rattle.std.proofs.Common.{◌≡◌, ℕ, ◌+◌, ◌<◌, ◌≤◌, ◌&&◌, ◌||◌, ◌++◌, Bool, true, false, not, cond, List, [], ◌∷◌, refl, sym, ap, ◌∙◌, subst, inl, inr, arith, length}
 use Rattle.std.specs.Prelude.{None, Some, flat_map, slice_get, take}
 use Rattle.std.specs.Cmp.{both_ways}
 use Rattle.std.specs.List.{filter}
@@ -22,7 +22,7 @@ use Rattle.law_causal.proofs.Processes.{came}
 use Rattle.anti_past.specs.Losses.{Loses}
 use Rattle.anti_past.specs.declared.came.AllCame.{AllCame}
 use Rattle.anti_past.specs.declared.span_keys.SpanKey.{SpanKey}
-use Rattle.anti_past.specs.inner.Came.{IsKnown, NoneLoses, brought_at, came_to, holds, ids_known}
+use Rattle.anti_past.specs.inner.Came.{IsKnown, NoneLoses, TellsLoss, brought_at, came_to, holds, ids_known}
 use Rattle.anti_past.specs.inner.Keys.{is_in, key_of, same_key}
 use Rattle.anti_past.proofs.Fronts.{taken}
 use Rattle.anti_past.proofs.Grown.{has_alone, or_none}
@@ -152,6 +152,21 @@ module _ (app : App) (trace : List Entry) (k : ℕ) (e : Entry) (at : slice_get 
                 has_append w carried (brought_at app trace k ++ [])
                 ∙ ap (λ (t : Bool). has_id w carried || t) (has_alone w (brought_at app trace k) ∙ its_ids w)
                 ∙ ap (λ (t : Bool). t || has_id w (brings app e)) (all_held legal w ∙ ap (λ (z : SpanKey). has_id w (came_to app z (take k trace))) same)
+
+      -- ---- what is told of the entry
+
+      pub tells : hands_all e.call ≡ true → (held : Bool) → held ≡ holds carried (ids_known app trace all key)
+          → TellsLoss app trace k e (not held)
+      tells hands true is = held_lost (sym is)
+      tells hands false is = found_lost hands (sym is)
+
+      -- where it loses none, all that came is held
+      pub kept : hands_all e.call ≡ true → (Loses app trace k e → ⊥) → holds carried (ids_known app trace all key) ≡ true
+      kept hands none = by_test (holds carried (ids_known app trace all key)) refl
+        where
+          by_test : (t : Bool) → holds carried (ids_known app trace all key) ≡ t → holds carried (ids_known app trace all key) ≡ true
+          by_test true on = on
+          by_test false off = absurd (none (found_lost hands off))
 
   -- ---- the entries so far
 

@@ -1,17 +1,20 @@
-ghost use Rattle.std.specs.Prelude.{◌≡◌, ◌||◌, ◌&&◌, ◌++◌, List, [], ◌∷◌, cond, IfOk, OnOk, IsTrue};
+ghost use Rattle.std.specs.Prelude.{ℕ, ◌≡◌, ◌+◌, ◌||◌, ◌&&◌, ◌++◌, List, [], ◌∷◌, cond, false, Some, IfOk, OnOk, IsTrue, option_map, slice_get};
 ghost use Rattle.anti_ids.specs.Ids.{has_id};
 ghost use Rattle.anti_ids.specs.declared.id.WriteId.{WriteId};
 ghost use Rattle.anti_kind.specs.declared.entry.Entry.{Entry};
 ghost use Rattle.anti_app.specs.declared.app.App.{App};
 ghost use Rattle.anti_app.specs.Sound.{is_sound};
-ghost use Rattle.anti_past.specs.inner.Came.{brought_at, came_ids, holds, ids_known};
+ghost use Rattle.anti_trace.specs.Legal.{IsLegalTrace};
+ghost use Rattle.anti_past.specs.inner.Came.{IsKnown, TellsLoss, brought_at, came_ids, holds, ids_known};
 ghost use Rattle.anti_past.specs.inner.Keys.{same_key};
+ghost use Rattle.anti_past.specs.inner.Walking.{IsHanded};
 ghost use Rattle.anti_past.specs.declared.span_keys.SpanKey.{SpanKey};
 
 use crate::holds::{holds_all, holds_since};
-use crate::span_keys::SpanKey;
+use crate::span_keys::{SpanKey, key_of};
 use anti_app::App;
-use anti_ids::{Lineage, NoMemory};
+use anti_ids::{Copies, Lineage, NoMemory};
+use anti_kind::Entry;
 use anti_trace::Trace;
 use std::alloc::Global;
 use std::collections::BTreeMap;
@@ -71,8 +74,8 @@ impl AllCame {
         }
     }
 
-    /// Whether all that came to a span is in a lineage.
-    pub fn are_in(
+    // Whether all that came to a span is in a lineage.
+    fn are_in(
         &self,
         alloc: Global,
         app: &App,
@@ -89,8 +92,34 @@ impl AllCame {
         }
     }
 
-    /// Adds the index of an entry, which brings what comes to its span.
-    pub fn add(&mut self, alloc: Global, key: SpanKey, index: u32) -> Result<(), NoMemory>
+    /// Whether an entry loses an id: one that came to its span, and is not handed.
+    pub fn loses(
+        &self,
+        alloc: Global,
+        app: &App,
+        trace: &Trace,
+        entry: &Entry,
+        handed: Option<&Lineage>,
+    ) -> Result<bool, NoMemory>
+        requires { IsTrue (is_sound app.now) }
+        ensures { (k : ℕ) → slice_get trace.now k ≡ Some entry.now → IsKnown app.now trace.now k self.now
+            → IsHanded app.now trace.now k entry.now (option_map (λ ids. ids.now) handed.entry)
+            → IfOk result (TellsLoss app.now trace.now k entry.now) }
+    {
+        let Some(key) = key_of(entry) else {
+            return Ok(false);
+        };
+        match handed {
+            Some(ids) => {
+                let holds = self.are_in(alloc, app, trace, &key, ids)?;
+                Ok(!holds)
+            }
+            None => Ok(false),
+        }
+    }
+
+    // Adds the index of an entry, which brings what comes to its span.
+    fn add(&mut self, alloc: Global, key: SpanKey, index: u32) -> Result<(), NoMemory>
         ensures { (app : App) (trace : List Entry) (q : SpanKey) (w : WriteId)
             → OnOk result (has_id w (ids_known app trace self.new q)
             ≡ (has_id w (ids_known app trace self.old q) || (same_key key q && has_id w (brought_at app trace index)))) }
@@ -104,8 +133,8 @@ impl AllCame {
         }
     }
 
-    /// Sets what came to a span: what its process carries into an entry that is given by its index, and what this brings.
-    pub fn set(
+    // Sets what came to a span: what its process carries into an entry that is given by its index, and what this brings.
+    fn set(
         &mut self,
         alloc: Global,
         key: SpanKey,
@@ -120,6 +149,35 @@ impl AllCame {
         match self.spans.insert(key, came) {
             Ok(_) => Ok(()),
             Err(_) => Err(NoMemory),
+        }
+    }
+
+    /// Notes an entry that loses no id and is given by its index: what it brings comes to its span, behind all that is handed there.
+    pub fn note(
+        &mut self,
+        alloc: Global,
+        index: u32,
+        entry: &Entry,
+        handed: Option<&Lineage>,
+    ) -> Result<(), NoMemory>
+        ensures { (app : App) (trace : List Entry) → IsLegalTrace app trace → slice_get trace index ≡ Some entry.now
+            → IsHanded app trace index entry.now (option_map (λ ids. ids.now) handed.entry)
+            → TellsLoss app trace index entry.now false → IsKnown app trace index self.old
+            → OnOk result (IsKnown app trace (index + 1) self.new) }
+    {
+        let Some(key) = key_of(entry) else {
+            return Ok(());
+        };
+        match handed {
+            Some(ids) => {
+                let carried = ids.copy(alloc)?;
+                self.set(alloc, key, carried, index)?;
+                Ok(())
+            }
+            None => {
+                self.add(alloc, key, index)?;
+                Ok(())
+            }
         }
     }
 }

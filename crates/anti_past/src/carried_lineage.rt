@@ -6,7 +6,7 @@ ghost use Rattle.anti_trace.specs.Legal.{IsLegalTrace};
 ghost use Rattle.law_causal.specs.Carried.{carried_at};
 ghost use Rattle.law_causal.specs.Causal.{is_process};
 
-use crate::processes_before::{carried_into, processes_before};
+use crate::processes_before::{carried_by, processes_before};
 use anti_app::App;
 use anti_ids::{Copies, Lineage, NoMemory};
 use anti_trace::Trace;
@@ -23,5 +23,10 @@ pub fn carried(alloc: Global, app: &App, trace: &Trace, index: u32) -> Result<Li
         → lineage ≡ carried_at app.now trace.now index e) }
 {
     let processes = processes_before(alloc, app, trace, index)?;
-    carried_into(&processes, trace.at(index)).copy(alloc)
+    let entry = trace.at(index);
+    match carried_by(&processes, entry, processes.place_of(entry)) {
+        Some(lineage) => lineage.copy(alloc),
+        // the process asks for it, by `asked`
+        None => unreachable!(),
+    }
 }

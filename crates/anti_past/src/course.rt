@@ -3,13 +3,11 @@ ghost use Rattle.anti_app.specs.Sound.{is_sound};
 ghost use Rattle.anti_trace.specs.Legal.{IsLegalTrace};
 ghost use Rattle.anti_past.specs.inner.Walking.{IsCourseOf};
 
-use crate::before_reads::{Past, past_at};
-use crate::came::AllCame;
-use crate::finds::Finds;
-use crate::losses::loses;
-use anti_app::{App, object_count};
+use crate::before_reads::Past;
+use crate::walk::{Step, Walk};
+use anti_app::App;
 use anti_ids::NoMemory;
-use anti_trace::{Mark, Processes, Trace};
+use anti_trace::{Mark, Trace};
 use std::alloc::Global;
 
 /// What a walk along a trace comes to: a loss, or the end.
@@ -28,22 +26,13 @@ impl Course {
         requires legal { IsLegalTrace app.now trace.now }
         ensures { IfOk result (IsCourseOf app.now trace.now) }
     {
-        let mut processes = Processes::new(alloc, object_count(app) as usize)?;
-        let mut came = AllCame::new(alloc);
-        let mut found = Finds::new(alloc);
+        let mut walk = Walk::new(alloc, app)?;
         let mut pasts = Vec::new(alloc);
         for index in 0..trace.len() {
-            let entry = trace.at(index);
-            if loses(alloc, app, trace, index, &processes, &mut came)? {
-                return Ok(Course::Loss(Mark {
-                    object: entry.object,
-                    place: entry.place,
-                }));
+            match walk.step(app, trace, index)? {
+                Step::Loss(mark) => return Ok(Course::Loss(mark)),
+                Step::Goes(past) => pasts.push(past)?,
             }
-            let past = past_at(alloc, app, trace, index, &processes, &found)?;
-            pasts.push(past)?;
-            found.add(entry)?;
-            processes.follow(alloc, app, entry)?;
         }
         Ok(Course::NoLoss(pasts))
     }

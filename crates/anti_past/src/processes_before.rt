@@ -3,10 +3,11 @@ ghost use Rattle.anti_app.specs.declared.app.App.{App};
 ghost use Rattle.anti_app.specs.Sound.{is_sound};
 ghost use Rattle.anti_trace.specs.Traces.{Entries};
 ghost use Rattle.anti_trace.specs.Legal.{IsLegalTrace};
-ghost use Rattle.anti_trace.specs.inner.Living.{AreOfSome, AreProcessesOf, lists};
+ghost use Rattle.anti_trace.specs.inner.Living.{AreProcessesOf, IsPlaceOf, lists};
 ghost use Rattle.law_causal.specs.Carried.{carried_at};
-ghost use Rattle.anti_past.specs.inner.Walking.{IsAskedNext};
+ghost use Rattle.anti_past.specs.inner.Walking.{IsAskedNext, IsHanded, IsNextAt};
 
+use crate::calls::hands_all;
 use anti_app::{App, object_count};
 use anti_ids::{Lineage, NoMemory};
 use anti_kind::{Actor, Entry};
@@ -32,16 +33,21 @@ pub fn processes_before(
     Ok(processes)
 }
 
-// The lineage that the process of an entry carries into its next call; `None` where there is no process, or no call.
-fn carried_next<'a>(processes: &'a Processes, entry: &Entry) -> Option<&'a Lineage>
-    requires { AreOfSome (lists processes.now) }
+/// The lineage that the process of an entry carries into its next call, by the place at which it stands; `None` where there is no process,
+/// or no call.
+pub fn carried_by<'a>(
+    processes: &'a Processes,
+    entry: &Entry,
+    place: Option<usize>,
+) -> Option<&'a Lineage>
+    requires { IsPlaceOf (lists processes.now) entry.now place }
     ensures { (app : App) (trace : Entries) (index : ℕ)
         → IsAskedNext app trace index (lists processes.now) entry.now
         → option_map (λ ids. ids.now) result ≡ Some (carried_at app trace index entry.now) }
 {
     match entry.actor {
         Actor::Process(birth) => {
-            let process = processes.of(birth)?;
+            let process = processes.of(birth, place)?;
             let asked = process.next()?;
             Some(asked.carried)
         }
@@ -49,16 +55,20 @@ fn carried_next<'a>(processes: &'a Processes, entry: &Entry) -> Option<&'a Linea
     }
 }
 
-/// The lineage that the process of an entry carries into it, by the processes before it. The process asks for the entry.
-pub fn carried_into<'a>(processes: &'a Processes, entry: &Entry) -> &'a Lineage
-    requires { (app : App) × (trace : Entries) × (index : ℕ)
-        × IsAskedNext app trace index (lists processes.now) entry.now }
+/// What the process of an entry hands at it, by the place at which it stands: the lineage that it carries into an entry at which it is to
+/// carry all that came to its span, and nothing at another.
+pub fn handed_at<'a>(
+    processes: &'a Processes,
+    entry: &Entry,
+    place: Option<usize>,
+) -> Option<&'a Lineage>
+    requires { IsPlaceOf (lists processes.now) entry.now place }
     ensures { (app : App) (trace : Entries) (index : ℕ)
-        → IsAskedNext app trace index (lists processes.now) entry.now
-        → result.now ≡ carried_at app trace index entry.now }
+        → IsNextAt app trace index (lists processes.now) entry.now
+        → IsHanded app trace index entry.now (option_map (λ ids. ids.now) result) }
 {
-    match carried_next(processes, entry) {
-        Some(lineage) => lineage,
-        None => unreachable!(),
+    if hands_all(&entry.call) {
+        return carried_by(processes, entry, place);
     }
+    None
 }

@@ -6,9 +6,8 @@ ghost use Rattle.law_causal.specs.Settled.{IsSettled};
 ghost use Rattle.law_causal.specs.Words.{reads};
 ghost use Rattle.anti_past.specs.inner.Found.{AreFound};
 
-use crate::before_reads::past_at;
 use crate::finds::Finds;
-use crate::processes_before::processes_before;
+use crate::processes_before::{handed_at, processes_before};
 use anti_app::App;
 use anti_ids::NoMemory;
 use anti_trace::Trace;
@@ -37,8 +36,11 @@ pub fn settled(alloc: Global, app: &App, trace: &Trace, index: u32) -> Result<bo
 {
     let processes = processes_before(alloc, app, trace, index)?;
     let found = found_before(alloc, trace, index)?;
-    match past_at(alloc, app, trace, index, &processes, &found)? {
+    let entry = trace.at(index);
+    let handed = handed_at(&processes, entry, processes.place_of(entry));
+    match found.past(alloc, app, entry, handed)? {
         Some(past) => Ok(past.settled),
+        // it is a read, by `read`
         None => unreachable!(),
     }
 }

@@ -3,7 +3,7 @@ ghost use Rattle.anti_app.specs.declared.app.App.{App};
 ghost use Rattle.anti_app.specs.Sound.{is_sound};
 ghost use Rattle.anti_trace.specs.Traces.{Entries};
 ghost use Rattle.anti_trace.specs.Legal.{IsLegalTrace};
-ghost use Rattle.anti_trace.specs.inner.Living.{AreOfSome, AreProcessesOf, IsNextBy, IsNextOf, Shows, born_at, is_named, lists};
+ghost use Rattle.anti_trace.specs.inner.Living.{AreOfSome, AreProcessesOf, IsNextBy, IsNextOf, IsPlaceOf, Shows, born_at, is_named, lists};
 
 use crate::process_steps::{advance, born};
 use crate::processes::Processes;
@@ -14,13 +14,25 @@ use anti_proc::Process;
 use std::alloc::Global;
 
 impl Processes {
-    /// The process that was born by an entry of the trace, where one was. It takes no memory.
-    pub fn of(&self, birth: Birth) -> Option<&Process>
+    /// Where the process of an entry stands among those that were born at its object; `None` where it is not born yet, and where a carrier
+    /// makes the entry. It takes no memory.
+    pub fn place_of(&self, entry: &Entry) -> Option<usize>
         requires { AreOfSome (lists self.now) }
+        ensures { IsPlaceOf (lists self.now) entry.now result }
+    {
+        match entry.actor {
+            Actor::Process(birth) => self.find(birth),
+            _ => None,
+        }
+    }
+
+    /// The process of a birth, by the place at which it stands, where it was born. It takes no memory.
+    pub fn of(&self, birth: Birth, place: Option<usize>) -> Option<&Process>
+        requires { place ≡ position (is_named birth) (born_at (lists self.now) birth.object) }
         ensures { (app : App) (trace : Entries) → AreProcessesOf app (lists self.now) trace
             → Shows app trace birth (option_map (λ p. p.now) result) }
     {
-        match self.find(birth) {
+        match place {
             Some(at) => Some(self.get(birth.object, at)),
             None => None,
         }
@@ -37,8 +49,29 @@ impl Processes {
             (λ _. AreProcessesOf app.now (lists self.new) (before ++ entry.now ∷ []))
             (λ _. AreProcessesOf app.now (lists self.new) before) }
     {
+        let place = self.place_of(entry);
+        self.follow_from(alloc, app, entry, place)
+    }
+
+    /// Does so where the process of the entry was found, at its place.
+    pub fn follow_from(
+        &mut self,
+        alloc: Global,
+        app: &App,
+        entry: &Entry,
+        place: Option<usize>,
+    ) -> Result<(), NoMemory>
+        requires sound { IsTrue (is_sound app.now) }
+        requires next { IsNextOf app.now (lists self.old) entry.now }
+        requires place { IsPlaceOf (lists self.old) entry.now place }
+        ensures { (before after : Entries) → IsLegalTrace app.now (before ++ entry.now ∷ after)
+            → AreProcessesOf app.now (lists self.old) before
+            → MatchResult result
+            (λ _. AreProcessesOf app.now (lists self.new) (before ++ entry.now ∷ []))
+            (λ _. AreProcessesOf app.now (lists self.new) before) }
+    {
         match entry.actor {
-            Actor::Process(birth) => match self.find(birth) {
+            Actor::Process(birth) => match place {
                 Some(at) => self.feed(app, entry, birth, at),
                 None => self.bear(alloc, app, entry, birth),
             },

@@ -1,5 +1,5 @@
 -- What came to the spans of a trace, and how a program knows it.
-use Rattle.std.specs.Prelude.{ℕ, ◌≡◌, ◌+◌, ◌<◌, ◌++◌, Bool, List, [], Some, slice_get, take, flat_map, MatchBool}
+use Rattle.std.specs.Prelude.{ℕ, ◌≡◌, ◌<◌, ◌++◌, Bool, List, [], Some, slice_get, take, flat_map, MatchBool}
 use Rattle.std.specs.List.{filter, list_all}
 use Rattle.std.specs.Option.{option_map_or}
 use Rattle.std.specs.BTreeMap as tree
@@ -48,6 +48,6 @@ IsKnown app trace k all = (q : SpanKey) (w : WriteId) → has_id w (ids_known ap
 abbrev pub NoneLoses : App → List Entry → ℕ → Type 0
 NoneLoses app trace k = (i : ℕ) (a : Entry) → i < k → slice_get trace i ≡ Some a → Loses app trace i a → ⊥
 
--- It is told whether the entry e at index k loses an id. Where it does not, what comes to the spans is known behind it.
-abbrev pub IsToldLoss : App → List Entry → ℕ → Entry → Bool → AllCame → Type 0
-IsToldLoss app trace k e lost all = MatchBool lost (Loses app trace k e) ((Loses app trace k e → ⊥) × IsKnown app trace (k + 1) all)
+-- It is told whether the entry e at index k loses an id.
+abbrev pub TellsLoss : App → List Entry → ℕ → Entry → Bool → Type 0
+TellsLoss app trace k e lost = MatchBool lost (Loses app trace k e) (Loses app trace k e → ⊥)

@@ -192,6 +192,10 @@ pub record IsNextOf (app : App) (all : List AtObject) (e : Entry) : Type 0 where
   pub legal : IsLegalTrace app (before ++ e ∷ after)
   pub are : AreProcessesOf app all before
 
+-- where the process of an entry stands among those that were born at its object: nowhere where it is not born yet
+abbrev pub IsPlaceOf : List AtObject → Entry → Option ℕ → Type 0
+IsPlaceOf all e place = (b : Birth) → e.actor ≡ Acting b → place ≡ position (is_named b) (born_at all b.object)
+
 -- what is known of the process of a birth: it lives on, or has no entry
 abbrev pub Shows : App → List Entry → Birth → Option Process → Type 0
 Shows app trace b None = entries_by (Acting b) trace ≡ []

@@ -1,50 +1,9 @@
-use Rattle.std.proofs.Common.{◌≤◌, Bool, length, refl, subst, arith}
-use Rattle.anti_app.proofs.Runnable.{can_run}
-use Rattle.anti_past.specs.inner.Came.{IsToldLoss}
-use Rattle.anti_past.proofs.Fronts.{followed, next_of}
-use Rattle.anti_past.proofs.Losing.{lossless, none_more}
+use Rattle.std.proofs.Common.{subst}
+use Rattle.anti_past.specs.inner.Walking.{IsCourseOf}
 use Rattle.anti_past.proofs.losses.first_loss.Goals as goal
 
-pub object_count-requires : goal.object_count-requires
-object_count-requires c = can_run c.args.app.now c.requires.sound
+pub returns-in-Loss : goal.returns-in-Loss
+returns-in-Loss c = subst (IsCourseOf c.args.app.now c.args.trace.now) c.in-Loss.is c.in_ok-mark.ensures
 
-pub returns-then-branch : goal.returns-then-branch
-returns-then-branch c =
-    let app = c.args.app.now in
-    let trace = c.args.trace.now in
-    let k = c.loop-index.index in
-    let e = c.at-entry.result.now in
-    record {
-      place = k;
-      entry = e;
-      there = c.at-entry.ensures;
-      marked = refl;
-      loses = subst (λ (t : Bool). IsToldLoss app trace k e t c.loses.new.came) c.if-branch.true (c.in_ok-loses.ensures e c.at-entry.ensures);
-      first = c.loop-index.invariant.2;
-    }
-
-pub follow-requires-clause-next : goal.follow-requires-clause-next
-follow-requires-clause-next c =
-    next_of c.args.app.now c.args.trace.now c.requires.legal c.loop-index.index c.at-entry.result.now c.at-entry.ensures _ c.loop-index.invariant.0
-
-pub loop-index-preserved : goal.loop-index-preserved
-loop-index-preserved c =
-    let app = c.args.app.now in
-    let trace = c.args.trace.now in
-    let k = c.loop-index.index in
-    let e = c.at-entry.result.now in
-    let at = c.at-entry.ensures in
-    let told = subst (λ (t : Bool). IsToldLoss app trace k e t c.loses.new.came) c.if-branch.false (c.in_ok-loses.ensures e at) in (
-      followed app trace c.requires.legal k e at _ c.loop-index.invariant.0 c.follow.new.self.at.items c.in_ok-follow.ensures,
-      told.1,
-      none_more app trace k e at c.loop-index.invariant.2 told.0,
-    )
-
-pub returns : goal.returns
-returns c =
-    let trace = c.args.trace.now in
-    let count = c.len-index-end.ensures.len in
-    let end = c.loop-index.auto.index-end in
-    let past = c.loop-index-test.false in
-    let long : length trace ≤ c.loop-index.index = omega arith in
-    lossless c.args.app.now trace c.loop-index.index long c.loop-index.invariant.2
+pub returns-in-NoLoss : goal.returns-in-NoLoss
+returns-in-NoLoss c = (subst (IsCourseOf c.args.app.now c.args.trace.now) c.in-NoLoss.is c.in_ok-mark.ensures).0
