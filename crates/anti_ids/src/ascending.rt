@@ -63,7 +63,7 @@ pub(crate) fn put_at(ids: &mut Vec<WriteId>, at: usize, id: WriteId)
 {
     match ids.insert(at, id) {
         Ok(()) => {}
-        Err(_) => unreachable!(),
+        Err(_) => unreachable!(), // they have room
     }
 }
 

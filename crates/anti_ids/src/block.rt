@@ -66,7 +66,6 @@ impl Block {
         *self.parts.allocator()
     }
 
-    // The number of ids.
     pub(crate) fn len(&self) -> usize
         ensures { result ≡ length self.now }
     {

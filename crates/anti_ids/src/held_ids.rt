@@ -38,7 +38,7 @@ fn nth(ids: Ids, index: usize) -> WriteId
         }
         before -= 1;
     }
-    unreachable!()
+    unreachable!() // the index is below their number
 }
 
 impl HeldIds {
@@ -82,7 +82,6 @@ impl HeldIds {
         }
     }
 
-    // The number of ids.
     pub(crate) fn len(&self) -> usize
         requires { IsLineage (base_ids self.now) }
         ensures len { result ≡ length (held_ids self.now) }

@@ -10,7 +10,7 @@ use std::sync::Arc;
 // The most ids that a part is given.
 pub(crate) const MOST_IN_PART: usize = 8;
 
-// A short list of ids that any number of blocks share.
+// A part of a block's ids: a short list, which any number of blocks share.
 #[derive(Drop)]
 pub(crate) struct IdPart {
     ids: Arc<Vec<WriteId>>,
@@ -80,14 +80,12 @@ impl IdPart {
         }
     }
 
-    // The ids.
     pub(crate) fn ids(&self) -> &[WriteId]
         ensures { result.now ≡ self.now }
     {
         self.ids.as_slice()
     }
 
-    // The number of ids.
     pub(crate) fn len(&self) -> usize
         ensures { result ≡ length self.now }
     {

@@ -3,7 +3,7 @@ ghost use Rattle.std.specs.Prelude.{◌≡◌, ◌↔◌, ◌+◌, ◌<◌, ◌�
 ghost use Rattle.std.specs.declared.cmp.Ordering.TheVariants.{Greater};
 ghost use Rattle.anti_ids.specs.Each.{Each};
 ghost use Rattle.anti_ids.specs.Ids.{IsAscending, id_cmp};
-ghost use Rattle.anti_ids.specs.inner.Parts.{Seats, joined, put_at, put_in, shifted};
+ghost use Rattle.anti_ids.specs.inner.Parts.{FindsPart, joined, put_at, put_in, shifted};
 ghost use Rattle.anti_ids.specs.inner.Places.{IsPlace};
 
 use crate::ascending;
@@ -55,7 +55,7 @@ pub(crate) fn at(parts: &[IdPart], len: usize, index: usize) -> WriteId
             return ids[index - start];
         }
     }
-    unreachable!()
+    unreachable!() // the index is below the length
 }
 
 // Whether all ids go behind an id.
@@ -102,10 +102,10 @@ pub(crate) fn place_of(parts: &[IdPart], len: usize, id: &WriteId) -> Result<usi
 }
 
 // The part of a list of this length where an id is put at an index, and the index there. It looks from the end.
-fn seat(parts: &[IdPart], len: usize, at: usize) -> Option<(usize, usize)>
+fn part_at(parts: &[IdPart], len: usize, at: usize) -> Option<(usize, usize)>
     requires len { length (joined parts.now) ≡ len }
     requires within { at ≤ len }
-    ensures { Seats parts.now at result }
+    ensures { FindsPart parts.now at result }
 {
     let mut start = len;
     let mut number = parts.len();
@@ -158,7 +158,7 @@ pub(crate) fn put(
     ensures ok { OnOk result (joined parts.new.items ≡ put_at at id (joined parts.old.items)) }
     ensures err { OnErr result (parts.new.items ≡ parts.old.items) }
 {
-    let Some((number, at)) = seat(parts.as_slice(), len, at) else {
+    let Some((number, at)) = part_at(parts.as_slice(), len, at) else {
         return add_part(parts, &[id]);
     };
     if parts[number].len() < MOST_IN_PART {

@@ -61,7 +61,7 @@ impl<T> List<T> {
     {
         match self.items.push(item) {
             Ok(()) => {}
-            Err(_) => unreachable!(),
+            Err(_) => unreachable!(), // it has room
         }
         self.spare = self.spare.saturating_sub(1);
     }
@@ -96,6 +96,11 @@ impl<T> List<T> {
         ensures { slice_get self.now.items index ≡ Some result.now }
     {
         &self.items[index]
+    }
+
+    /// What further memory is of.
+    pub fn allocator(&self) -> Global {
+        *self.items.allocator()
     }
 
     /// The items.

@@ -49,7 +49,6 @@ impl Text {
         *self.bytes.allocator()
     }
 
-    // The bytes.
     pub(crate) fn bytes(&self) -> &[u8]
         ensures { result.now ≡ self.now }
     {

@@ -51,7 +51,6 @@ impl Drop for Value {
     }
 }
 
-// Whether bytes are UTF-8.
 fn is_text(bytes: &[u8]) -> bool
     ensures { result ≡ is_utf8 bytes.now }
 {

@@ -16,15 +16,15 @@ abbrev pub put_in : List (List WriteId) → ℕ → ℕ → WriteId → List Wri
 put_in parts number within i = put_at (length (joined (take number parts)) + within) i (joined parts)
 
 -- an index of the list is one of a part, or the end of it
-pub record IsSeat (parts : List (List WriteId)) (at number within : ℕ) : Type 0 where
+pub record IsPartAt (parts : List (List WriteId)) (at number within : ℕ) : Type 0 where
   pub among : number < length parts
   pub inside : within ≤ length (get_or parts number [])
   pub place : length (joined (take number parts)) + within ≡ at
 
 -- where an index stands in parts; where there are none it stands in none
-abbrev pub Seats : List (List WriteId) → ℕ → Option (ℕ × ℕ) → Type 0
-Seats parts at None = parts ≡ []
-Seats parts at (Some seat) = IsSeat parts at seat.0 seat.1
+abbrev pub FindsPart : List (List WriteId) → ℕ → Option (ℕ × ℕ) → Type 0
+FindsPart parts at None = parts ≡ []
+FindsPart parts at (Some place) = IsPartAt parts at place.0 place.1
 
 -- a place in a part, counted from the first of all parts
 abbrev pub shifted : ℕ → Result ℕ ℕ → Result ℕ ℕ

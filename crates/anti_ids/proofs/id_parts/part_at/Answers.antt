@@ -2,7 +2,7 @@ use Rattle.std.proofs.Common.{◌≡◌, ◌-◌, ◌<◌, List, [], length, get
 use Rattle.std.proofs.lemmas.List.{get_or_default}
 use Rattle.anti_ids.specs.declared.id.WriteId.{WriteId}
 use Rattle.anti_ids.proofs.PartLemmas.{step_length}
-use Rattle.anti_ids.proofs.id_parts.seat.Goals as goal
+use Rattle.anti_ids.proofs.id_parts.part_at.Goals as goal
 
 pub overflow_sub-start : goal.overflow_sub-start
 overflow_sub-start c =

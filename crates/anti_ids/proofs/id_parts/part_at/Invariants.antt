@@ -1,6 +1,6 @@
 use Rattle.std.proofs.Common.{◌≡◌, ◌≤◌, length, take}
 use Rattle.anti_ids.specs.inner.Parts.{joined}
-use Rattle.anti_ids.proofs.id_parts.seat.Given as goal
+use Rattle.anti_ids.proofs.id_parts.part_at.Given as goal
 
 -- how far it is from the first part
 abbrev pub invariant-loop-number : goal.invariant-loop-number
