@@ -73,7 +73,7 @@ fn add_id(lineage: &mut Lineage, stores: &[Name], text: &[u8]) -> Result<(), Bag
     let id = id_named(stores, before, lineage.len() + 1, text)?;
     match lineage.append(id) {
         Ok(_) => Ok(()),
-        Err(LineageRefused::Full) => unreachable!(),
+        Err(LineageRefused::Full) => unreachable!(), // `id_named` refuses one id too many
         Err(LineageRefused::NoMemory) => Err(BaggageFault::NoMemory),
     }
 }

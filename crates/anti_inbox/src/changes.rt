@@ -32,7 +32,7 @@ impl Inbox {
         };
         match self.fates.push(fate) {
             Ok(()) => {}
-            Err(_) => unreachable!(),
+            Err(_) => unreachable!(), // room was made
         }
         self.messages.put(message);
         Ok(())

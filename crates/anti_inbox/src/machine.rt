@@ -84,7 +84,7 @@ impl Inbox {
                 self.hear(*number);
                 Ok(())
             }
-            _ => unreachable!(),
+            _ => unreachable!(), // no other call is ready, by the table
         }
     }
 }
