@@ -8,8 +8,8 @@ use Rattle.anti_kind.specs.declared.entry.Entry.{Entry}
 use Rattle.anti_kind.specs.declared.row.Row.{Row}
 use Rattle.anti_kind.specs.declared.store_kind.StoreKind.{StoreKind}
 use Rattle.anti_kind.specs.declared.store_kind.StoreKind.TheVariants.{Kv, Table, Blob, Queue, Topic}
-use Rattle.anti_kind.specs.Objects.{HasTries}
-use Rattle.anti_kind.specs.Store.{has_keys, is_pulled, is_queue, is_scanned, is_table}
+use Rattle.anti_kind.specs.Objects.{AreTries, HasTries}
+use Rattle.anti_kind.specs.Store.{has_keys, is_pulled, is_queue, is_scanned, is_table, is_topic}
 use Rattle.anti_kind.specs.Kinds.{facts_of}
 use Rattle.anti_kind.specs.Stored.{is_shipped, is_whole, parts_of}
 
@@ -46,7 +46,15 @@ keyed_or_pulled Blob keyed pulled = false≢true pulled
 keyed_or_pulled Queue keyed pulled = false≢true keyed
 keyed_or_pulled Topic keyed pulled = false≢true keyed
 
--- a queue has its tries, and a store of another kind none
+-- what is polled is not tried
+pub polled_not_tried : (kind : StoreKind) → is_topic kind ≡ true → is_queue kind ≡ false
+polled_not_tried Queue is = absurd (false≢true is)
+polled_not_tried _ is = refl
+
+-- where messages are tried there are tries, else none
 pub tries_fit : (kind : StoreKind) (tries : ℕ) → 1 ≤ tries → tries ≤ 8 → HasTries kind (cond (is_queue kind) tries 0)
-tries_fit Queue tries some few = (some, few)
-tries_fit _ tries some few = tt
+tries_fit kind tries some few = by_tried (is_queue kind)
+  where
+    by_tried : (tried : Bool) → AreTries tried (cond tried tries 0)
+    by_tried true = (some, few)
+    by_tried false = tt

@@ -13,10 +13,8 @@ use Rattle.anti_kind.specs.declared.call.Reply.{Reply}
 use Rattle.anti_kind.specs.declared.entry.Entry.{Entry}
 use Rattle.anti_kind.specs.declared.row.Row.{Row}
 use Rattle.anti_kind.specs.declared.store_kind.Sub.{Sub}
-use Rattle.anti_kind.specs.declared.store_kind.StoreKind.{StoreKind}
-use Rattle.anti_kind.specs.declared.store_kind.StoreKind.TheVariants.{Queue, Topic}
 use Rattle.anti_kind.specs.Stored.{wrote, rows, is_ship, is_whole, is_in}
-use Rattle.anti_kind.specs.Store.{Store, is_queue, is_pull, is_pull_by, is_ack, is_nack, gives, pulls, is_acked, is_out, is_free, cells, cursor, if_whole, next_of, pulled_next, next, is_there}
+use Rattle.anti_kind.specs.Store.{Store, is_queue, is_topic, is_pull, is_pull_by, is_ack, is_nack, gives, pulls, is_acked, is_out, is_free, cells, cursor, if_whole, next_of, pulled_next, next, is_there}
 use Rattle.anti_kind.specs.Objects.{store, Follows, IsLegal}
 use Rattle.anti_kind.proofs.Finding.{Found, find_found, none_passes, filter_contains}
 use Rattle.anti_kind.proofs.Histories.{follows_in}
@@ -128,14 +126,15 @@ module _ (s : Store) (h : List Entry) (e : Entry) (l : IsLegal (store s) (h ++ e
 
   -- Both.
 
-  next_by : (n : ℕ) (sub : Sub) → is_pull_by n e.call ≡ false → (k : StoreKind) → s.kind ≡ k → is_there (next_of k s (h ++ e ∷ []) n sub) ≡ true → is_there (next_of k s h n sub) ≡ true
-  next_by n sub other Queue is on = free_before (ap is_queue is) sub on
-  next_by n sub other Topic is on = cell_there n sub other on
-  next_by n sub other _ is on = absurd (cc)
+  next_by : (n : ℕ) (sub : Sub) → is_pull_by n e.call ≡ false → (tried polled : Bool) → is_queue s.kind ≡ tried
+      → is_there (next_of tried polled s (h ++ e ∷ []) n sub) ≡ true → is_there (next_of tried polled s h n sub) ≡ true
+  next_by n sub other true polled is on = free_before is sub on
+  next_by n sub other false true is on = cell_there n sub other on
+  next_by n sub other false false is on = absurd (cc)
 
   subscribed : (n : ℕ) → is_pull_by n e.call ≡ false → (o : Option Sub) → is_there (pulled_next s (h ++ e ∷ []) n o) ≡ true → is_there (pulled_next s h n o) ≡ true
   subscribed n other None on = absurd (cc)
-  subscribed n other (Some sub) on = next_by n sub other s.kind refl on
+  subscribed n other (Some sub) on = next_by n sub other (is_queue s.kind) (is_topic s.kind) refl on
 
   -- What the subscription is handed out next was there before, unless the entry is its own pull.
   pub next_was_there : (n : ℕ) → is_pull_by n e.call ≡ false → is_there (next s (h ++ e ∷ []) n) ≡ true → is_there (next s h n) ≡ true

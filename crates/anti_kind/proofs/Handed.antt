@@ -10,10 +10,8 @@ use Rattle.anti_kind.specs.declared.call.Reply.TheVariants.{Pulled}
 use Rattle.anti_kind.specs.declared.entry.Entry.{Entry}
 use Rattle.anti_kind.specs.declared.row.Row.{Row}
 use Rattle.anti_kind.specs.declared.store_kind.Sub.{Sub}
-use Rattle.anti_kind.specs.declared.store_kind.StoreKind.{StoreKind}
-use Rattle.anti_kind.specs.declared.store_kind.StoreKind.TheVariants.{Queue}
 use Rattle.anti_kind.specs.Stored.{wrote, rows, is_whole, is_in}
-use Rattle.anti_kind.specs.Store.{Store, is_queue, is_pull, is_ack, is_nack, gives, pulls, settles, is_out, is_free, next, next_of, pulled_next, is_there, or_absent, store_ready, store_due, outs}
+use Rattle.anti_kind.specs.Store.{Store, is_queue, is_topic, is_pull, is_ack, is_nack, gives, pulls, settles, is_out, is_free, next, next_of, pulled_next, is_there, or_absent, store_ready, store_due, outs}
 use Rattle.anti_kind.specs.Objects.{store, Follows, IsLegal}
 pub use Rattle.anti_kind.proofs.Finding.{Found, find_found}
 use Rattle.anti_kind.proofs.Histories.{by_entries}
@@ -30,20 +28,16 @@ pub record IsHanded (s : Store) (h : List Entry) (e : Entry) (r : Row) (sub : Su
   pub reply : e.reply ≡ Pulled r
   pub found : Found (is_free s h sub) (rows h) r
 
-pub next_found : (s : Store) (h : List Entry) (n : ℕ) (o : Option Sub) (r : Row) → s.kind ≡ Queue → pulled_next s h n o ≡ Some r → (sub : Sub) × Found (is_free s h sub) (rows h) r
+pub next_found : (s : Store) (h : List Entry) (n : ℕ) (o : Option Sub) (r : Row) → is_queue s.kind ≡ true → pulled_next s h n o ≡ Some r → (sub : Sub) × Found (is_free s h sub) (rows h) r
 next_found s h n None r kind is = absurd (cc)
 next_found s h n (Some sub) r kind is =
-    (sub, find_found (is_free s h sub) (rows h) r (ap (λ (k : StoreKind). next_of k s h n sub) (sym kind) ∙ is))
-
-queue_kind : (k : StoreKind) → is_queue k ≡ true → k ≡ Queue
-queue_kind Queue is = refl
-queue_kind _ is = absurd (cc)
+    (sub, find_found (is_free s h sub) (rows h) r (ap (λ (tried : Bool). next_of tried (is_topic s.kind) s h n sub) (sym kind) ∙ is))
 
 pub handed : (s : Store) (h : List Entry) (e : Entry) (n : ℕ) → is_queue s.kind ≡ true → Follows (store s) h e → e.call ≡ Pull n → (r : Row) × (sub : Sub) × IsHanded s h e r sub
 handed s h e n queue f is =
     let there : is_there (next s h n) ≡ true = ap (λ (c : Call). store_ready s h c) (sym is) ∙ f.is_ready in
     let some : (r : Row) × (next s h n ≡ Some r) = is_there_some (next s h n) there in
-    let got : (sub : Sub) × Found (is_free s h sub) (rows h) some.0 = next_found s h n (slice_get s.subs n) some.0 (queue_kind s.kind queue) some.1 in
+    let got : (sub : Sub) × Found (is_free s h sub) (rows h) some.0 = next_found s h n (slice_get s.subs n) some.0 queue some.1 in
     (some.0, got.0, record { reply = f.reply ∙ ap (λ (c : Call). store_due s h c) is ∙ ap (λ (o : Option Row). Pulled (or_absent [] o)) some.1; found = got.1 })
 
 pub free_not_out : (s : Store) (h : List Entry) (sub : Sub) (r : Row) → is_free s h sub r ≡ true → is_out h r.version ≡ false

@@ -17,12 +17,11 @@ use Rattle.anti_kind.specs.declared.call.Reply.TheVariants.{Pulled}
 use Rattle.anti_kind.specs.declared.entry.Entry.{Entry}
 use Rattle.anti_kind.specs.declared.row.Row.{Row}
 use Rattle.anti_kind.specs.declared.store_kind.Sub.{Sub}
-use Rattle.anti_kind.specs.declared.store_kind.StoreKind.{StoreKind}
-use Rattle.anti_kind.specs.declared.store_kind.StoreKind.TheVariants.{Topic}
 use Rattle.anti_kind.specs.Stored.{wrote, rows, row_of, is_in}
-use Rattle.anti_kind.specs.Store.{Store, absent, or_absent, is_pull_by, gives, cursor, if_whole, next_of, pulled_next, next, is_there, was_pulled, store_ready, store_due, cells}
+use Rattle.anti_kind.specs.Store.{Store, is_queue, is_topic, absent, or_absent, is_pull_by, gives, cursor, if_whole, next_of, pulled_next, next, is_there, was_pulled, store_ready, store_due, cells}
 use Rattle.anti_kind.specs.Cells.{is_row_in, is_cell, nth_version, last_pulled}
 use Rattle.anti_kind.specs.Objects.{store, Follows, IsLegal}
+use Rattle.anti_kind.proofs.FactLaws.{polled_not_tried}
 use Rattle.anti_kind.proofs.Finding.{Found, find_found, filter_contains}
 use Rattle.anti_kind.proofs.Histories.{by_entries}
 use Rattle.anti_kind.proofs.Rows.{or_false, is_write, version_at, versions_grow, row_in}
@@ -54,7 +53,7 @@ no_sub_pulled s n none h l = by_entries (store s) (λ k. (v : ℕ) → was_pulle
 
 -- What a subscription pulled.
 
-module _ (s : Store) (kind : s.kind ≡ Topic) (n : ℕ) (sub : Sub) (has : slice_get s.subs n ≡ Some sub) where
+module _ (s : Store) (kind : is_topic s.kind ≡ true) (n : ℕ) (sub : Sub) (has : slice_get s.subs n ≡ Some sub) where
   -- a pull gives the next cell
   record IsNextCell (h : List Entry) (e : Entry) (r : Row) : Type 0 where
     reply : e.reply ≡ Pulled r
@@ -64,7 +63,7 @@ module _ (s : Store) (kind : s.kind ≡ Topic) (n : ℕ) (sub : Sub) (has : slic
   next_cell_given h e f is =
       let some : (r : Row) × (next s h n ≡ Some r) = is_there_some (next s h n) (ap (λ (c : Call). store_ready s h c) (sym is) ∙ f.is_ready) in
       let cell : if_whole s h sub.region (slice_get (cells h sub.channel) (cursor h n)) ≡ Some some.0 =
-      ap (λ (k : StoreKind). next_of k s h n sub) (sym kind) ∙ ap (pulled_next s h n) (sym has) ∙ some.1 in (
+      ap₂ (λ (tried polled : Bool). next_of tried polled s h n sub) (sym (polled_not_tried s.kind kind)) (sym kind) ∙ ap (pulled_next s h n) (sym has) ∙ some.1 in (
         some.0,
         record {
           reply = f.reply ∙ ap (λ (c : Call). store_due s h c) is ∙ ap (λ (o : Option Row). Pulled (or_absent [] o)) some.1;
@@ -183,7 +182,7 @@ module _ (s : Store) (h : List Entry) (l : IsLegal (store s) h) (channel : List 
       (ap (λ (x : Row). x.version == v) (get_or-take n rs here.0 r short ∙ here.2) ∙ found.passes)
 
 -- A subscription pulled a version exactly where it is that of a cell of its channel, and not above the last that it pulled.
-pub pulled_by_last : (s : Store) → s.kind ≡ Topic → (n : ℕ) (sub : Sub) → slice_get s.subs n ≡ Some sub → (h : List Entry) → IsLegal (store s) h → (v : ℕ)
+pub pulled_by_last : (s : Store) → is_topic s.kind ≡ true → (n : ℕ) (sub : Sub) → slice_get s.subs n ≡ Some sub → (h : List Entry) → IsLegal (store s) h → (v : ℕ)
     → was_pulled h n v ≡ (leb 1 v && (leb v (last_pulled h n sub.channel) && is_cell h v sub.channel))
 pulled_by_last s kind n sub has h l v =
     let pulled : ArePulled s kind n sub has h = are_pulled s kind n sub has h l in

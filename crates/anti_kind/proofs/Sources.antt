@@ -16,10 +16,8 @@ use Rattle.anti_kind.specs.declared.call.Reply.TheVariants.{Pulled}
 use Rattle.anti_kind.specs.declared.entry.Entry.{Entry}
 use Rattle.anti_kind.specs.declared.row.Row.{Row}
 use Rattle.anti_kind.specs.declared.store_kind.Sub.{Sub}
-use Rattle.anti_kind.specs.declared.store_kind.StoreKind.{StoreKind}
-use Rattle.anti_kind.specs.declared.store_kind.StoreKind.TheVariants.{Queue, Topic}
 use Rattle.anti_kind.specs.Stored.{rows, row_of, is_whole, is_in}
-use Rattle.anti_kind.specs.Store.{Store, has_keys, is_scanned, is_topic, is_replica, absent, or_absent, shown_row, is_pull_by, gives, is_free, if_whole, cursor, next_of, pulled_next, next, is_there, was_pulled, store_ready, store_due}
+use Rattle.anti_kind.specs.Store.{Store, has_keys, is_queue, is_scanned, is_topic, is_replica, absent, or_absent, shown_row, is_pull_by, gives, is_free, if_whole, cursor, next_of, pulled_next, next, is_there, was_pulled, store_ready, store_due}
 use Rattle.anti_kind.specs.Objects.{store, Follows, IsLegal}
 use Rattle.anti_kind.specs.Laws.{IsOfWrite, RowsHaveSources, CallsNameOwn}
 use Rattle.anti_kind.proofs.Finding.{Found, find_found, filter_contains}
@@ -57,17 +55,17 @@ whole_given s h g (Some x) r is = by_whole (is_whole s.kind h g x) is where
 got_in : {X : Type 0} (xs : List X) (i : ℕ) (x : X) → slice_get xs i ≡ Some x → Contains xs x
 got_in xs i x is = (i, slice_get_within xs i x is, get_or_from_slice_get xs i x x is)
 
-next_in : (kind : StoreKind) (s : Store) (h : List Entry) (n : ℕ) (sub : Sub) (r : Row) → next_of kind s h n sub ≡ Some r → Contains (rows h) r
-next_in Queue s h n sub r is = found_in (is_free s h sub) (rows h) r (find_found (is_free s h sub) (rows h) r is)
-next_in Topic s h n sub r is =
+next_in : (tried polled : Bool) (s : Store) (h : List Entry) (n : ℕ) (sub : Sub) (r : Row) → next_of tried polled s h n sub ≡ Some r → Contains (rows h) r
+next_in true polled s h n sub r is = found_in (is_free s h sub) (rows h) r (find_found (is_free s h sub) (rows h) r is)
+next_in false true s h n sub r is =
     let cells : List Row = filter (is_in sub.channel) (rows h) in
     let got : slice_get cells (cursor h n) ≡ Some r = whole_given s h sub.region (slice_get cells (cursor h n)) r is in
     ((filter_contains (is_in sub.channel) (rows h) r).0 (got_in cells (cursor h n) r got)).0
-next_in _ s h n sub r is = absurd (cc)
+next_in false false s h n sub r is = absurd (cc)
 
 subscribed_in : (s : Store) (h : List Entry) (n : ℕ) (o : Option Sub) (r : Row) → pulled_next s h n o ≡ Some r → Contains (rows h) r
 subscribed_in s h n None r is = absurd (cc)
-subscribed_in s h n (Some sub) r is = next_in s.kind s h n sub r is
+subscribed_in s h n (Some sub) r is = next_in (is_queue s.kind) (is_topic s.kind) s h n sub r is
 
 -- the row that a ready pull gives
 record IsGiven (s : Store) (h : List Entry) (n : ℕ) (r : Row) : Type 0 where

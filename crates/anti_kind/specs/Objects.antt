@@ -1,5 +1,5 @@
 -- Objects: a store or an inbox, what it starts as, and which histories are legal from there.
-use Rattle.std.specs.Prelude.{◌≡◌, ℕ, ◌+◌, ◌<◌, ◌≤◌, max, Bool, true, List, [], ◌∷◌, ◌++◌, length, nat_le, All, AllPairs, Contains, Option, None, sum_by}
+use Rattle.std.specs.Prelude.{◌≡◌, ℕ, ◌+◌, ◌<◌, ◌≤◌, max, Bool, true, false, List, [], ◌∷◌, ◌++◌, length, nat_le, All, AllPairs, Contains, Option, None, sum_by}
 use Rattle.anti_ids.specs.Names.{is_plain}
 use Rattle.anti_ids.specs.declared.limits.TheConstants.{MOST_UNITS, MOST_REGIONS, MOST_TRIES, MOST_REQUESTS}
 use Rattle.anti_kind.specs.declared.call.Call.{Call}
@@ -10,9 +10,8 @@ use Rattle.anti_kind.specs.declared.entry.Entry.{Entry}
 use Rattle.anti_kind.specs.declared.message.Message.{Message}
 use Rattle.anti_kind.specs.declared.message.MessageKind.TheVariants as kinds
 use Rattle.anti_kind.specs.declared.store_kind.StoreKind.{StoreKind}
-use Rattle.anti_kind.specs.declared.store_kind.StoreKind.TheVariants.{Queue}
 use Rattle.anti_kind.specs.Stored.{upto_of}
-use Rattle.anti_kind.specs.Store.{Store, next_shipment, store_ready, store_due, store_need, store_owed}
+use Rattle.anti_kind.specs.Store.{Store, is_queue, next_shipment, store_ready, store_due, store_need, store_owed}
 use Rattle.anti_kind.specs.Inbox.{inbox_ready, inbox_due, inbox_need, inbox_owed}
 
 -- what an object starts as
@@ -84,9 +83,13 @@ IsLegal start h = LegalAfter start [] h
 
 -- Which starts there are.
 
+-- how many times a message may be handed out, where messages are tried
+abbrev pub AreTries : Bool → ℕ → Type 0
+AreTries true tries = (1 ≤ tries) × (tries ≤ MOST_TRIES)
+AreTries false tries = Unit {0}
+
 abbrev pub HasTries : StoreKind → ℕ → Type 0
-HasTries Queue tries = (1 ≤ tries) × (tries ≤ MOST_TRIES)
-HasTries _ tries = Unit {0}
+HasTries kind tries = AreTries (is_queue kind) tries
 
 -- a store with one to eight replicas in different regions, subscriptions to plain channels at these, and, in a queue, tries
 pub record IsStore (s : Store) : Type 0 where

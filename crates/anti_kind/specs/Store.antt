@@ -213,15 +213,15 @@ abbrev pub if_whole : Store → List Entry → ℕ → Option Row → Option Row
 if_whole s h g None = None
 if_whole s h g (Some r) = cond (is_whole s.kind h g r) (Some r) None
 
--- what the subscription numbered n would pull
-abbrev pub next_of : StoreKind → Store → List Entry → ℕ → Sub → Option Row
-next_of Queue s h n sub = find (is_free s h sub) (rows h)
-next_of Topic s h n sub = if_whole s h sub.region (slice_get (cells h sub.channel) (cursor h n))
-next_of _ s h n sub = None
+-- what the subscription numbered n would pull: the first that is free, where messages are tried, else the next cell, where cells are polled
+abbrev pub next_of : Bool → Bool → Store → List Entry → ℕ → Sub → Option Row
+next_of true polled s h n sub = find (is_free s h sub) (rows h)
+next_of false true s h n sub = if_whole s h sub.region (slice_get (cells h sub.channel) (cursor h n))
+next_of false false s h n sub = None
 
 abbrev pub pulled_next : Store → List Entry → ℕ → Option Sub → Option Row
 pulled_next s h n None = None
-pulled_next s h n (Some sub) = next_of s.kind s h n sub
+pulled_next s h n (Some sub) = next_of (is_queue s.kind) (is_topic s.kind) s h n sub
 
 abbrev pub next : Store → List Entry → ℕ → Option Row
 next s h n = pulled_next s h n (slice_get s.subs n)

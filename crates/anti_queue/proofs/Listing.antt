@@ -13,7 +13,7 @@ use Rattle.anti_kind.specs.declared.store_kind.Sub.{Sub}
 use Rattle.anti_kind.specs.declared.store_kind.StoreKind.{StoreKind}
 use Rattle.anti_kind.specs.declared.store_kind.StoreKind.TheVariants.{Queue}
 use Rattle.anti_kind.specs.Stored.{rows, row_of, is_shipped, is_whole, is_in}
-use Rattle.anti_kind.specs.Store.{Store, queue_store, pulls, is_acked, is_out, is_free, next_of, pulled_next, next}
+use Rattle.anti_kind.specs.Store.{Store, queue_store, is_queue, is_topic, pulls, is_acked, is_out, is_free, next_of, pulled_next, next}
 use Rattle.anti_kind.specs.Cells.{is_row_in}
 use Rattle.anti_kind.specs.Objects.{store, IsLegal}
 use Rattle.anti_kind.proofs.Finding.{filter_contains}
@@ -251,7 +251,7 @@ module _ (s : Store) (h : List Entry) (l : IsLegal (store s) h) where
     next_is free x is =
         let has : HasFree s h x = subst (HasFree s h) (get_or_from_slice_get m.list.items n x x is) (free n x (slice_get_within m.list.items n x is)) in
         ap (pulled_next s h n) (sub_is (Some x) is)
-        ∙ ap (λ (k : StoreKind). next_of k s h n x.sub) kind
+        ∙ ap (λ (k : StoreKind). next_of (is_queue k) (is_topic k) s h n x.sub) kind
         ∙ next_free (is_free s h x.sub)
         ∙ ap (λ (vs : List ℕ). row_of h (get_or vs 0 0)) (sym has.items)
 
