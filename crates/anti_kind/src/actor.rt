@@ -9,7 +9,8 @@ pub struct Birth {
 }
 
 /// Who makes a call: a carrier, which moves shipments and repeats deliveries, by its number; a process, by the entry that began
-/// it; or a process that the call itself begins. The last stands in no entry, since the entry names the process that it began.
+/// it; or a process that the call itself begins. No port records an entry by the last: the entry names the process that it began, by
+/// its own object and place. Which calls may begin a process is not asked here, since no table looks at who makes a call.
 #[derive(Clone, Copy, PartialEq, Eq)]
 pub enum Actor {
     Carrier(u32),
