@@ -114,73 +114,56 @@ pub enum Reply {
 
 impl Copies for Call {
     fn copy(&self, alloc: Global) -> Result<Call, NoMemory> {
-        match self {
+        match *self {
             Call::Write {
-                key,
-                value,
-                lineage,
-            } => {
-                let key = key.share()?;
-                let value = value.copy(alloc)?;
-                let lineage = lineage.copy(alloc)?;
-                Ok(Call::Write {
-                    key,
-                    value,
-                    lineage,
-                })
-            }
-            Call::Read { region, key } => Ok(Call::Read {
-                region: *region,
-                key: *key,
+                ref key,
+                ref value,
+                ref lineage,
+            } => Ok(Call::Write {
+                key: key.share()?,
+                value: value.copy(alloc)?,
+                lineage: lineage.share()?,
             }),
-            Call::Scan { region, prefix } => Ok(Call::Scan {
-                region: *region,
-                prefix: *prefix,
+            Call::Read { region, key } => Ok(Call::Read { region, key }),
+            Call::Scan { region, prefix } => Ok(Call::Scan { region, prefix }),
+            Call::Poll { region, key } => Ok(Call::Poll { region, key }),
+            Call::Look {
+                region,
+                ref ids,
+                dry,
+            } => Ok(Call::Look {
+                region,
+                ids: ids.share()?,
+                dry,
             }),
-            Call::Poll { region, key } => Ok(Call::Poll {
-                region: *region,
-                key: *key,
-            }),
-            Call::Look { region, ids, dry } => {
-                let ids = ids.copy(alloc)?;
-                Ok(Call::Look {
-                    region: *region,
-                    ids,
-                    dry: *dry,
-                })
-            }
             Call::Ship {
                 region,
                 version,
                 part,
             } => Ok(Call::Ship {
-                region: *region,
-                version: *version,
-                part: *part,
+                region,
+                version,
+                part,
             }),
             Call::Again {
                 region,
                 version,
                 part,
             } => Ok(Call::Again {
-                region: *region,
-                version: *version,
-                part: *part,
+                region,
+                version,
+                part,
             }),
-            Call::Pull { sub } => Ok(Call::Pull { sub: *sub }),
-            Call::Repull { sub, version } => Ok(Call::Repull {
-                sub: *sub,
-                version: *version,
+            Call::Pull { sub } => Ok(Call::Pull { sub }),
+            Call::Repull { sub, version } => Ok(Call::Repull { sub, version }),
+            Call::Ack { version } => Ok(Call::Ack { version }),
+            Call::Nack { version } => Ok(Call::Nack { version }),
+            Call::Post { ref message } => Ok(Call::Post {
+                message: message.share()?,
             }),
-            Call::Ack { version } => Ok(Call::Ack { version: *version }),
-            Call::Nack { version } => Ok(Call::Nack { version: *version }),
-            Call::Post { message } => {
-                let message = message.copy(alloc)?;
-                Ok(Call::Post { message })
-            }
-            Call::Take { nth } => Ok(Call::Take { nth: *nth }),
-            Call::Repost { number } => Ok(Call::Repost { number: *number }),
-            Call::TakeReply { number } => Ok(Call::TakeReply { number: *number }),
+            Call::Take { nth } => Ok(Call::Take { nth }),
+            Call::Repost { number } => Ok(Call::Repost { number }),
+            Call::TakeReply { number } => Ok(Call::TakeReply { number }),
         }
     }
 }
