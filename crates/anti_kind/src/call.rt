@@ -169,7 +169,13 @@ impl Copies for Call {
 }
 
 impl Copies for Reply {
-    fn copy(&self, alloc: Global) -> Result<Reply, NoMemory> {
+    ghost use Rattle.std.specs.Prelude.{◌≡◌, IfOk, IsOk};
+
+    /// An equal reply. That something was brought takes no memory.
+    fn copy(&self, alloc: Global) -> Result<Reply, NoMemory>
+        ensures is { IfOk result (λ reply. reply ≡ self.now) }
+        ensures moved { self.now ≡ Reply.Moved → IsOk result }
+    {
         match self {
             Reply::Written { key, version } => {
                 let key = key.share()?;

@@ -1,5 +1,5 @@
 ghost use Rattle.std.specs.Prelude.{◌≡◌, ◌+◌, ◌-◌, ◌^◌, ◌<◌, max, true, false, [], ◌∷◌, ◌++◌, length, IfErr, IfOk, OnOk, OnErr, IsOk};
-ghost use Rattle.anti_kind.specs.Objects.{Follows, IsLegal, IsShip, StandsFor, due, fits, last_stamp, ready};
+ghost use Rattle.anti_kind.specs.Objects.{Follows, IsLegal, IsShip, StandsFor, due, fits, last_stamp, need, owed, ready};
 ghost use Rattle.anti_kind.specs.Ports.{entry_of};
 ghost use Rattle.anti_kind.specs.Records.{Gives, Goes, IsRefusal};
 
@@ -9,7 +9,7 @@ use crate::call::{Call, Reply};
 use crate::entry::{Entry, History};
 use crate::machine::Machine;
 use crate::port::Answer;
-use anti_ids::{List, MOST_UNITS, NoMemory};
+use anti_ids::{Copies, List, MOST_UNITS, NoMemory};
 use std::alloc::Global;
 use std::marker::Model;
 use thiserror::Error;
@@ -90,9 +90,12 @@ impl<M: Machine> Recorded<M> {
         (self.machine, self.history)
     }
 
-    /// Whether what is asked can be done now, or why it can't. It takes no memory.
-    pub fn judge(&self, asking: &Asking) -> Result<(), Refusal>
+    // The units that are owed and that what is asked needs, which is as many entries as the history wants room for. Or why it can't be
+    // done now.
+    fn weigh(&self, asking: &Asking) -> Result<u32, Refusal>
         ensures goes { OnOk result (Goes (M.start self.now.machine) self.now.history asking.now) }
+        ensures room { IfOk result (λ room. room
+            ≡ owed (M.start self.now.machine) self.now.history + need (M.start self.now.machine) self.now.history asking.now.call) }
         ensures refused { IfErr result (λ refusal. IsRefusal (M.start self.now.machine) self.now.history asking.now refusal) }
         ensures legal { IsLegal (M.start self.now.machine) self.now.history }
     {
@@ -109,7 +112,19 @@ impl<M: Machine> Recorded<M> {
         if clock == u64::MAX {
             return Err(Refusal::Spent { clock });
         }
-        Ok(())
+        Ok(owed + need)
+    }
+
+    /// Whether what is asked can be done now, or why it can't. It takes no memory.
+    pub fn judge(&self, asking: &Asking) -> Result<(), Refusal>
+        ensures goes { OnOk result (Goes (M.start self.now.machine) self.now.history asking.now) }
+        ensures refused { IfErr result (λ refusal. IsRefusal (M.start self.now.machine) self.now.history asking.now refusal) }
+        ensures legal { IsLegal (M.start self.now.machine) self.now.history }
+    {
+        match self.weigh(asking) {
+            Ok(_) => Ok(()),
+            Err(refusal) => Err(refusal),
+        }
     }
 
     /// The reply that a call is due, which is ready and fits. Of a `Ship` it takes no memory.
@@ -155,6 +170,21 @@ impl<M: Machine> Recorded<M> {
         ensures ship { IsShip entry.call → IsOk result }
     {
         let room = self.machine.owed() + self.machine.need(&entry.call);
+        self.add(room, entry)
+    }
+
+    // Makes the call of an entry that may come next, with so much room for entries as `weigh` says. Without memory nothing was made.
+    // A `Ship` takes no memory.
+    fn add(&mut self, room: u32, entry: Entry) -> Result<(), NoMemory>
+        requires follows { Follows (M.start self.old.machine) self.old.history entry }
+        requires room { room
+            ≡ owed (M.start self.old.machine) self.old.history + need (M.start self.old.machine) self.old.history entry.call }
+        ensures made { OnOk result (self.new.history ≡ self.old.history ++ entry ∷ []) }
+        ensures err { OnErr result (self.new.history ≡ self.old.history) }
+        ensures legal { IsLegal (M.start self.old.machine) self.new.history }
+        ensures start { M.start self.new.machine ≡ M.start self.old.machine }
+        ensures ship { IsShip entry.call → IsOk result }
+    {
         self.history.reserve(room)?;
         self.machine.apply(&entry.call)?;
         self.last = entry.stamp;
@@ -162,9 +192,11 @@ impl<M: Machine> Recorded<M> {
         Ok(())
     }
 
-    // Makes what is asked and goes, or finds no memory.
-    fn go(&mut self, seat: u32, asking: Asking) -> Answer
+    // Makes what is asked and goes, with so much room for entries as `weigh` says, or finds no memory.
+    fn go(&mut self, seat: u32, asking: Asking, room: u32) -> Answer
         requires goes { Goes (M.start self.old.machine) self.old.history asking }
+        requires room { room
+            ≡ owed (M.start self.old.machine) self.old.history + need (M.start self.old.machine) self.old.history asking.call }
         requires legal { IsLegal (M.start self.old.machine) self.old.history }
         ensures gives { Gives (M.start self.old.machine) self.old.history seat asking self.new.history result }
         ensures start { M.start self.new.machine ≡ M.start self.old.machine }
@@ -172,17 +204,17 @@ impl<M: Machine> Recorded<M> {
         ensures waits { result ≡ Answer.NotYet → ⊥ }
         ensures ship { IsShip asking.call → result ≡ Answer.NoMemory → ⊥ }
     {
-        // one for the entry, one for the caller
-        let Ok(due) = self.due(&asking.call) else {
+        let Ok(reply) = self.due(&asking.call) else {
             return Answer::NoMemory;
         };
-        let Ok(reply) = self.due(&asking.call) else {
+        // the entry's own
+        let Ok(due) = reply.copy(self.history.allocator()) else {
             return Answer::NoMemory;
         };
         let entry = self.entry(seat, asking, due);
         let place = entry.place;
         let stamp = entry.stamp;
-        let Ok(()) = self.make(entry) else {
+        let Ok(()) = self.add(room, entry) else {
             return Answer::NoMemory;
         };
         Answer::Made {
@@ -205,8 +237,8 @@ impl<M: Machine> Recorded<M> {
         ensures after { IsLegal (M.start self.old.machine) self.new.history }
         ensures ship { IsShip asking.call → IfOk result (λ answer. answer ≡ Answer.NoMemory → ⊥) }
     {
-        match self.judge(&asking) {
-            Ok(()) => Ok(self.go(seat, asking)),
+        match self.weigh(&asking) {
+            Ok(room) => Ok(self.go(seat, asking, room)),
             Err(Refusal::NotYet) => Err(asking),
             Err(Refusal::Full { held, owed, need }) => Ok(Answer::Full { held, owed, need }),
             Err(Refusal::Spent { clock }) => Ok(Answer::Spent { clock }),
