@@ -61,7 +61,7 @@ impl Machine for Blob {
     }
 
     fn awaits(&self, c: &Call) -> Option<Awaited> {
-        self.base.keyed_awaits(c)
+        self.base.shared_awaits(c)
     }
 
     fn due(&self, c: &Call) -> Result<Reply, NoMemory> {

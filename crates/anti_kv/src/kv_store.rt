@@ -60,7 +60,7 @@ impl Machine for Kv {
     }
 
     fn awaits(&self, c: &Call) -> Option<Awaited> {
-        self.base.keyed_awaits(c)
+        self.base.shared_awaits(c)
     }
 
     fn due(&self, c: &Call) -> Result<Reply, NoMemory> {

@@ -3,6 +3,7 @@
 use Rattle.std.specs.Prelude.{◌≡◌, ℕ, ◌+◌, ◌^◌, ◌<◌, List, [], ◌∷◌, ◌++◌}
 use Rattle.std.specs.Vec.{vec_len, vec_capacity}
 use Rattle.anti_kind.specs.declared.call.Call.{Call}
+use Rattle.anti_kind.specs.declared.call.Call.TheVariants.{Again, Look}
 use Rattle.anti_kind.specs.declared.entry.Entry.{Entry}
 use Rattle.anti_kind.specs.Store.{Store, queue_store}
 use Rattle.anti_kind.specs.Objects.{Start, store, Follows, StandsFor, MayMake}
@@ -34,6 +35,12 @@ MayCall m c = MayMake (its_start m) (QueueStands m) c
 abbrev pub Makes : Queue → Call → Queue → Type 0
 Makes m c n =
     (h : List Entry) (e : Entry) → StandsFor (its_start m) (QueueStands m) h → Follows (its_start m) h e → e.call ≡ c → QueueStands n (h ++ e ∷ [])
+
+-- a ready call that writes, ships, hands out and settles nothing
+abbrev pub IsQuiet : Call → Type 0
+IsQuiet (Again region version part) = Unit {0}
+IsQuiet (Look region ids dry) = Unit {0}
+IsQuiet _ = ⊥
 
 -- it has room for one more message of the channel
 pub record HasRoom (m : Queue) (channel : List ℕ) : Type 0 where

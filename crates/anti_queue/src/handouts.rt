@@ -1,9 +1,9 @@
-ghost use Rattle.std.specs.Prelude.{◌≡◌, ◌≤◌, List, length};
+ghost use Rattle.std.specs.Prelude.{◌≡◌, ◌≤◌, List, [], ◌∷◌, ◌++◌, length};
 ghost use Rattle.anti_kind.specs.declared.call.Call.TheVariants.{Ship, Pull, Ack, Nack};
 ghost use Rattle.anti_kind.specs.declared.entry.Entry.{Entry};
 ghost use Rattle.anti_kind.specs.Stored.{rows, row_of};
 ghost use Rattle.anti_kind.specs.Store.{Store, next};
-ghost use Rattle.anti_kind.specs.Objects.{StandsFor};
+ghost use Rattle.anti_kind.specs.Objects.{Follows, StandsFor};
 ghost use Rattle.anti_replicas.specs.Stores.{At};
 ghost use Rattle.anti_queue.specs.inner.Marks.{AreMessages, can_go_out};
 ghost use Rattle.anti_queue.specs.inner.Lists.{subs_of, HaveSpare, AreSorted};
@@ -11,7 +11,7 @@ ghost use Rattle.anti_queue.specs.inner.Lists.{subs_of, HaveSpare, AreSorted};
 use crate::queue_store::Queue;
 
 impl Queue {
-    ghost use Rattle.anti_queue.specs.QueueStates.{its_store, its_start, QueueStands, MayCall, Makes};
+    ghost use Rattle.anti_queue.specs.QueueStates.{its_store, its_start, QueueStands, IsQuiet, MayCall, Makes};
 
     // The version that the subscription pulls next, 0 where there is none.
     pub(crate) fn next_version(&self, sub: u32) -> u64
@@ -43,6 +43,15 @@ impl Queue {
     {
         self.base.ship(region, version, part);
         self.sort_in(version);
+    }
+
+    // Takes note of a look, or of a part that is brought once more. It takes no memory.
+    pub(crate) fn note(&mut self)
+        ensures stands { (h : List Entry) (e : Entry) → StandsFor (its_start self.old) (QueueStands self.old) h
+            → Follows (its_start self.old) h e → IsQuiet e.call → QueueStands self.new (h ++ e ∷ []) }
+        ensures start { its_start self.new ≡ its_start self.old }
+    {
+        self.base.note(1);
     }
 
     // Hands the next message out to the subscription.

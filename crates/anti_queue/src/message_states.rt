@@ -8,7 +8,7 @@ ghost use Rattle.anti_kind.specs.Objects.{store, IsLegal};
 use anti_ids::NoMemory;
 use std::alloc::Global;
 
-/// Of a message, whether it is out, whether it is done, and how many times it was pulled.
+/// Whether a message is out, whether it is done, and how many times it was pulled.
 #[derive(Clone, Copy)]
 pub(crate) struct MessageState {
     pub(crate) out: bool,
@@ -16,12 +16,12 @@ pub(crate) struct MessageState {
     pub(crate) pulls: u8,
 }
 
-/// The messages of a queue, in the order of their versions.
+/// The states of a queue's messages, in the order of their versions.
 #[derive(Drop)]
 pub(crate) struct MessageStates {
-    // the message of version v at the index v - 1
+    // that of version v at the index v - 1
     pub(crate) list: Vec<MessageState>,
-    // how many of them are out
+    // how many messages are out
     pub(crate) out: u32,
 }
 
@@ -38,14 +38,13 @@ impl MessageStates {
         }
     }
 
-    // How many are out.
     pub(crate) fn out(&self) -> u32
         ensures { result ≡ self.now.out }
     {
         self.out
     }
 
-    // The message of a version.
+    // That of the message of a version.
     fn at(&self, version: u64) -> Option<&MessageState>
         ensures first { IfSome result (λ message. 1 ≤ version) }
         ensures message { IfSome result (λ message.
@@ -58,7 +57,6 @@ impl MessageStates {
         self.list.as_slice().get((version - 1) as usize)
     }
 
-    // Whether the message is out.
     pub(crate) fn is_out(&self, version: u64) -> bool
         ensures { (s : Store) (h : List Entry) → is_queue s.kind ≡ true → IsLegal (store s) h
             → AreMessages self.now h → result ≡ is_out h version }
@@ -91,7 +89,7 @@ impl MessageStates {
         }
     }
 
-    // Adds the message of a write.
+    // Adds that of a message that is written.
     pub(crate) fn add(&mut self)
         requires { vec_len self.old.list < vec_capacity self.old.list }
         ensures messages { self.new.list.items ≡ self.old.list.items ++ new_message ∷ [] }

@@ -61,17 +61,7 @@ impl Machine for Queue {
     fn ready(&self, c: &Call) -> bool {
         match c {
             Call::Write { key, .. } => key.get().plain(),
-            Call::Ship {
-                region,
-                version,
-                part,
-            } => self.base.can_ship(*region, *version, *part),
-            Call::Again {
-                region,
-                version,
-                part,
-            } => self.base.was_shipped(*region, *version, *part),
-            Call::Look { region, ids, dry } => self.base.can_look(*region, ids.get(), *dry),
+            Call::Ship { .. } | Call::Again { .. } | Call::Look { .. } => self.base.shared_ready(c),
             Call::Pull { sub } => self.base.is_version(self.next_version(*sub)),
             Call::Ack { version } => self.messages.is_out(*version),
             Call::Nack { version } => self.messages.is_out(*version),
@@ -101,14 +91,13 @@ impl Machine for Queue {
 
     fn awaits(&self, c: &Call) -> Option<Awaited> {
         match c {
-            Call::Look { region, ids, dry } => self.base.look_awaits(*region, ids.get(), *dry),
             Call::Pull { sub } => {
                 if self.base.is_version(self.next_version(*sub)) {
                     return None;
                 }
                 Some(Awaited::Handout(*sub))
             }
-            _ => None,
+            _ => self.base.shared_awaits(c),
         }
     }
 
@@ -119,18 +108,16 @@ impl Machine for Queue {
                     key: Handle::new(self.base.allocator(), key)?,
                     version: self.base.next_version(),
                 }),
-                None => unreachable!(),
+                None => unreachable!(), // the channel is plain, since the call is ready
             },
-            Call::Ship { .. } => Ok(Reply::Moved),
-            Call::Again { .. } => Ok(Reply::Moved),
-            Call::Look { region, ids, .. } => self.base.look(*region, ids.get()),
+            Call::Ship { .. } | Call::Again { .. } | Call::Look { .. } => self.base.shared_due(c),
             Call::Pull { sub } => match self.base.written_row(self.next_version(*sub))? {
                 Some(row) => Ok(Reply::Pulled(Handle::new(self.base.allocator(), row)?)),
-                None => unreachable!(),
+                None => unreachable!(), // a message is free, since the call is ready
             },
             Call::Ack { .. } => Ok(Reply::Done),
             Call::Nack { .. } => Ok(Reply::Done),
-            _ => unreachable!(),
+            _ => unreachable!(), // no other call is ready, by the table
         }
     }
 
@@ -161,10 +148,11 @@ impl Machine for Queue {
                 self.nack(*version);
                 Ok(())
             }
-            _ => {
-                self.base.note(1);
+            Call::Again { .. } | Call::Look { .. } => {
+                self.note();
                 Ok(())
             }
+            _ => unreachable!(), // no other call is ready, by the table
         }
     }
 }

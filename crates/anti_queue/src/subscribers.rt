@@ -97,7 +97,6 @@ impl Subscribers {
         Ok(subscribers)
     }
 
-    // Adds a subscription.
     fn add(&mut self, subscriber: Subscriber) -> Result<(), NoMemory>
         ensures { OnOk result (self.new.list.items ≡ self.old.list.items ++ subscriber ∷ []) }
     {

@@ -35,7 +35,7 @@ impl Queue {
         ensures start { its_start self.new ≡ its_start self.old }
     {
         let Some(key) = self.channels.next_key(channel) else {
-            unreachable!()
+            unreachable!(); // the channel is plain, since the call is ready
         };
         self.make_room(channel)?;
         self.base.write(key, value, lineage)?;

@@ -26,7 +26,7 @@ use Rattle.anti_replicas.specs.declared.newest.Newest.{Newest}
 use Rattle.anti_replicas.specs.inner.Marks.{mark_at, came, has_all, marked}
 use Rattle.anti_replicas.specs.inner.Newest.{newest_at, HasPlace, MakesPlace}
 use Rattle.anti_replicas.specs.inner.Standing.{IsKept, AreKept, Stands, Keeps, BringsIf, Marks, Shippable}
-use Rattle.anti_replicas.specs.Stores.{At, MayShip, MayWrite, IsOther}
+use Rattle.anti_replicas.specs.Stores.{At, MayShip, MayWrite, IsOther, IsPassing}
 use Rattle.anti_replicas.proofs.Numbers.{prefix_alike, prefix_on}
 use Rattle.anti_replicas.proofs.Places.{and_true, and_false, or_true, max_zero}
 use Rattle.anti_replicas.proofs.Reading.{row_is, count_is}
@@ -408,3 +408,9 @@ writable m value lineage may =
     let same : m.replicas * parts_of m.kind value ≡ length s.regions * parts_of s.kind value =
     ap (λ (x : ℕ). x * parts_of m.kind value) at.state.replicas_are ∙ ap (λ (kind : StoreKind). length s.regions * parts_of kind value) at.state.kind_is in
     omega (arith, at.state.held_is, at.state.owed_is)
+
+-- A call that writes nothing and is no shipment.
+pub passing_other : (c : Call) → IsPassing c → ((g v p : ℕ) → c ≡ Ship g v p → ⊥) → IsOther c
+passing_other (Write key value lineage) passing none = passing
+passing_other (Ship g v p) passing none = none g v p refl
+passing_other _ passing none = tt

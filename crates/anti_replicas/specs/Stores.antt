@@ -2,7 +2,7 @@
 use Rattle.std.specs.Prelude.{◌≡◌, ℕ, List, [], true}
 use Rattle.anti_ids.specs.declared.id.WriteId.{WriteId}
 use Rattle.anti_kind.specs.declared.call.Call.{Call}
-use Rattle.anti_kind.specs.declared.call.Call.TheVariants.{Write, Ship}
+use Rattle.anti_kind.specs.declared.call.Call.TheVariants.{Write, Look, Ship, Again}
 use Rattle.anti_kind.specs.declared.entry.Entry.{Entry}
 use Rattle.anti_kind.specs.declared.store_kind.StoreKind.{StoreKind}
 use Rattle.anti_kind.specs.Store.{Store, has_keys, store_of}
@@ -50,6 +50,22 @@ abbrev pub MayKeyed : Replicas → Call → Type 0
 MayKeyed m c =
     (kind : StoreKind) × (number : ℕ) × (regions : List ℕ)
     × MayMake (store (keyed kind number regions)) (Stands m (keyed kind number regions)) c × (has_keys kind ≡ true)
+
+-- after some history of some store for which m stands the call is ready and fits
+abbrev pub MayPass : Replicas → Call → Type 0
+MayPass m c = (s : Store) × MayMake (store s) (Stands m s) c
+
+-- a call that is the same at stores of all kinds
+abbrev pub IsShared : Call → Type 0
+IsShared (Ship region version part) = Unit {0}
+IsShared (Again region version part) = Unit {0}
+IsShared (Look region ids dry) = Unit {0}
+IsShared _ = ⊥
+
+-- a call that writes nothing
+abbrev pub IsPassing : Call → Type 0
+IsPassing (Write key value lineage) = ⊥
+IsPassing _ = Unit {0}
 
 -- a call that writes and ships nothing
 abbrev pub IsOther : Call → Type 0

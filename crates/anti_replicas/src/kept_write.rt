@@ -26,7 +26,6 @@ fn mark_at(region: u32, part: u32) -> usize
 }
 
 impl KeptWrite {
-    // Whether the part came to the region.
     pub(crate) fn came(&self, region: u32, part: u32) -> bool
         ensures { result ≡ came self.now region part }
     {
@@ -50,7 +49,6 @@ impl KeptWrite {
         (1..u32::from(self.parts) + 1).all(|part| self.came(region, part))
     }
 
-    // Marks that the part came to the region.
     pub(crate) fn mark(&mut self, region: u32, part: u32)
         requires { mark_at region part < MARKS }
         ensures { self.new ≡ marked region part self.old }

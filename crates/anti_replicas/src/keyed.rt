@@ -1,15 +1,14 @@
-ghost use Rattle.std.specs.Prelude.{◌≡◌, ℕ, true, List, [], ◌∷◌, ◌++◌, IfOk, IfSome, IsOk, OnErr, OnOk};
+ghost use Rattle.std.specs.Prelude.{◌≡◌, ℕ, true, List, [], ◌∷◌, ◌++◌, IfOk, IsOk, OnErr, OnOk};
 ghost use Rattle.anti_kind.specs.declared.entry.Entry.{Entry};
 ghost use Rattle.anti_kind.specs.declared.store_kind.StoreKind.{StoreKind};
 ghost use Rattle.anti_kind.specs.Objects.{store, Follows, IsShip};
 ghost use Rattle.anti_kind.specs.Store.{Store, has_keys, is_scanned, store_due, store_ready};
-ghost use Rattle.anti_kind.specs.Waiting.{waits};
 
 use crate::replicas::Replicas;
 use anti_ids::NoMemory;
-use anti_kind::{Awaited, Call, Reply};
+use anti_kind::{Call, Reply};
 
-// The table of the stores that are read by keys: `Write`, `Ship`, `Again`, `Look`, `Read`, and `Scan` where the kind is scanned.
+// The table of the stores that are read by keys: `Write`, `Read`, `Scan` where the kind is scanned, and what all kinds share.
 impl Replicas {
     ghost use Rattle.anti_replicas.specs.Stores.{At, MayKeyed, keyed, number_of, regions_of};
     ghost use Rattle.anti_replicas.specs.inner.Standing.{Stands};
@@ -28,31 +27,10 @@ impl Replicas {
     {
         match c {
             Call::Write { .. } => true,
-            Call::Ship {
-                region,
-                version,
-                part,
-            } => self.can_ship(*region, *version, *part),
-            Call::Again {
-                region,
-                version,
-                part,
-            } => self.was_shipped(*region, *version, *part),
-            Call::Look { region, ids, dry } => self.can_look(*region, ids.get(), *dry),
+            Call::Ship { .. } | Call::Again { .. } | Call::Look { .. } => self.shared_ready(c),
             Call::Read { region, .. } => self.is_replica(*region),
             Call::Scan { region, .. } => self.is_scanned() && self.is_replica(*region),
             _ => false,
-        }
-    }
-
-    /// What a call that is not ready waits for, where that is known.
-    pub fn keyed_awaits(&self, c: &Call) -> Option<Awaited>
-        ensures { (kind : StoreKind) (number : ℕ) (regions : List ℕ) (h : List Entry) → At self.now (keyed kind number regions) h
-            → IfSome result (λ awaited. waits (store (keyed kind number regions)) h c.now awaited ≡ true) }
-    {
-        match c {
-            Call::Look { region, ids, dry } => self.look_awaits(*region, ids.get(), *dry),
-            _ => None,
         }
     }
 
@@ -68,9 +46,7 @@ impl Replicas {
                 key: key.share()?,
                 version: self.next_version(),
             }),
-            Call::Ship { .. } => Ok(Reply::Moved),
-            Call::Again { .. } => Ok(Reply::Moved),
-            Call::Look { region, ids, .. } => self.look(*region, ids.get()),
+            Call::Ship { .. } | Call::Again { .. } | Call::Look { .. } => self.shared_due(c),
             Call::Read { region, key } => self.read(*region, key),
             Call::Scan { region, prefix } => self.scan(*region, prefix),
             _ => unreachable!(), // no other call is ready, by the table
@@ -96,16 +72,8 @@ impl Replicas {
                 value,
                 lineage,
             } => self.write(*key.get(), value, lineage.get()),
-            Call::Ship {
-                region,
-                version,
-                part,
-            } => {
-                self.ship(*region, *version, *part);
-                Ok(())
-            }
-            Call::Again { .. } | Call::Look { .. } | Call::Read { .. } => {
-                self.note(1);
+            Call::Ship { .. } | Call::Again { .. } | Call::Look { .. } | Call::Read { .. } => {
+                self.pass(c);
                 Ok(())
             }
             Call::Scan { region, prefix } => {

@@ -12,6 +12,7 @@ mod newest;
 mod reads;
 mod replicas;
 mod scans;
+mod shared;
 mod shipments;
 mod units;
 mod waits;

@@ -28,7 +28,7 @@ fn add(ids: &mut Lineage, id: WriteId) -> Result<(), NoMemory>
     match ids.append(id) {
         Ok(_) => Ok(()),
         Err(LineageRefused::NoMemory) => Err(NoMemory),
-        Err(LineageRefused::Full) => unreachable!(),
+        Err(LineageRefused::Full) => unreachable!(), // it has room
     }
 }
 

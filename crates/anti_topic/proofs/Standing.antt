@@ -4,7 +4,7 @@ use Rattle.std.proofs.lemmas.Bool.{cases_eq}
 use Rattle.std.proofs.lemmas.List.{get_or_append_left, get_or-replicate, get_or-set_same, get_or-set_other, length-set, length-replicate}
 use Rattle.std.proofs.lemmas.Option.{slice_get_within, slice_get-get_or, get_or_from_slice_get}
 use Rattle.anti_kind.specs.declared.call.Call.{Call}
-use Rattle.anti_kind.specs.declared.call.Call.TheVariants.{Write, Scan, Ship, Pull}
+use Rattle.anti_kind.specs.declared.call.Call.TheVariants.{Write, Scan, Pull}
 use Rattle.anti_kind.specs.declared.entry.Entry.{Entry}
 use Rattle.anti_kind.specs.declared.row.Row.{Row}
 use Rattle.anti_kind.specs.declared.store_kind.Sub.{Sub}
@@ -21,7 +21,7 @@ use Rattle.anti_kind.proofs.Sources.{whole_given}
 use Rattle.anti_replicas.specs.declared.replicas.Replicas.{Replicas}
 use Rattle.anti_replicas.specs.declared.channels.Channels.{Channels}
 use Rattle.anti_replicas.specs.Channels.{Counts}
-use Rattle.anti_replicas.specs.Stores.{number_of, regions_of, IsOther}
+use Rattle.anti_replicas.specs.Stores.{number_of, regions_of, IsPassing}
 use Rattle.anti_replicas.specs.inner.Standing.{Stands}
 use Rattle.anti_replicas.proofs.Counting.{counts_other}
 use Rattle.anti_topic.specs.declared.pull_cursor.PullCursor.{PullCursor}
@@ -151,7 +151,7 @@ module _ (m : Topic) (h : List Entry) (e : Entry) (at : At m h) (f : Follows (it
             (subst (λ (subs : List Sub). AreCursors subs (set m.cursors.items number stands_now) (h ++ e ∷ [])) (sym (ap (λ (v : _). v.items) moves.subs_are)) cursors_moved);
       }
 
--- Every other entry writes, ships and pulls nothing, and weighs one.
+-- Every other entry writes and pulls nothing, and weighs one.
 
 pub quiet_writes : (c : Call) → IsQuiet c → is_write c ≡ false
 quiet_writes (Write key value lineage) quiet = absurd quiet
@@ -161,14 +161,12 @@ pub quiet_pulls : (c : Call) → IsQuiet c → is_pull c ≡ false
 quiet_pulls (Pull sub) quiet = absurd quiet
 quiet_pulls _ quiet = refl
 
-pub quiet_other : (c : Call) → IsQuiet c → IsOther c
-quiet_other (Write key value lineage) quiet = absurd quiet
-quiet_other (Ship region version part) quiet = absurd quiet
-quiet_other _ quiet = tt
+pub quiet_passing : (c : Call) → IsQuiet c → IsPassing c
+quiet_passing (Write key value lineage) quiet = absurd quiet
+quiet_passing _ quiet = tt
 
 due_weighs : (number : ℕ) (regions : List ℕ) (subs : List Sub) (h : List Entry) (c : Call) → IsQuiet c → store_ready (topic_store number regions subs) h c ≡ true → weight (store_due (topic_store number regions subs) h c) ≡ 1
 due_weighs number regions subs h (Write key value lineage) quiet on = absurd quiet
-due_weighs number regions subs h (Ship region version part) quiet on = absurd quiet
 due_weighs number regions subs h (Pull sub) quiet on = absurd quiet
 due_weighs number regions subs h (Scan region prefix) quiet on = absurd (cc)
 due_weighs number regions subs h _ quiet on = refl

@@ -1,10 +1,11 @@
 ghost use Rattle.std.specs.Prelude.{◌≡◌, List, [], ◌∷◌, ◌++◌, OnOk, OnErr};
-ghost use Rattle.anti_kind.specs.declared.call.Call.TheVariants.{Write, Ship};
+ghost use Rattle.anti_kind.specs.declared.call.Call.TheVariants.{Write};
 ghost use Rattle.anti_kind.specs.declared.entry.Entry.{Entry};
 ghost use Rattle.anti_kind.specs.Objects.{Follows, MayMake};
 
 use crate::topic_store::Topic;
 use anti_ids::{Lineage, Name, NoMemory, Value};
+use anti_kind::Call;
 
 impl Topic {
     ghost use Rattle.anti_topic.specs.TopicStates.{its_start, TopicStands, At};
@@ -26,7 +27,7 @@ impl Topic {
         ensures start { its_start self.new ≡ its_start self.old }
     {
         let Some(key) = self.channels.next_key(channel) else {
-            unreachable!();
+            unreachable!(); // the channel is plain, since the call is ready
         };
         self.channels.make_place(*channel)?;
         self.base.write(key, value, lineage)?;
@@ -34,24 +35,15 @@ impl Topic {
         Ok(())
     }
 
-    // Brings a part to a region. It takes no memory.
-    pub(crate) fn ship(&mut self, region: u32, version: u64, part: u32)
-        requires { MayMake (its_start self.old) (TopicStands self.old) (Ship region version part) }
+    // Makes a call that writes and pulls nothing. It takes no memory.
+    pub(crate) fn pass(&mut self, c: &Call)
+        requires may { MayMake (its_start self.old) (TopicStands self.old) c.now }
+        requires quiet { IsQuiet c.now }
         ensures stands { (h : List Entry) (e : Entry) → At self.old h
-            → Follows (its_start self.old) h e → e.call ≡ Ship region version part
+            → Follows (its_start self.old) h e → e.call ≡ c.now
             → TopicStands self.new (h ++ e ∷ []) }
         ensures start { its_start self.new ≡ its_start self.old }
     {
-        self.base.ship(region, version, part);
-    }
-
-    // Takes note of a call that wrote, shipped and pulled nothing. It takes no memory.
-    pub(crate) fn note(&mut self)
-        ensures stands { (h : List Entry) (e : Entry) → At self.old h
-            → Follows (its_start self.old) h e → IsQuiet e.call
-            → TopicStands self.new (h ++ e ∷ []) }
-        ensures start { its_start self.new ≡ its_start self.old }
-    {
-        self.base.note(1);
+        self.base.pass(c);
     }
 }

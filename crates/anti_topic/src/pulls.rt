@@ -16,7 +16,6 @@ impl Topic {
     ghost use Rattle.anti_topic.specs.TopicStates.{its_store, its_start, TopicStands, At};
     ghost use Rattle.anti_topic.specs.inner.Changes.{MovesOn};
 
-    // The subscription of this number.
     fn sub_at(&self, number: u32) -> Option<&Sub>
         ensures found { IfSome result (λ sub. slice_get self.now.subs.items number ≡ Some sub.now) }
         ensures none { IfNone result (slice_get self.now.subs.items number ≡ None) }
@@ -24,7 +23,6 @@ impl Topic {
         self.subs.as_slice().get(number as usize)
     }
 
-    // Its cursor.
     fn cursor_at(&self, number: u32) -> Option<&PullCursor>
         ensures found { IfSome result (λ place. slice_get self.now.cursors.items number ≡ Some place.now) }
         ensures none { IfNone result (length self.now.cursors.items ≤ number) }
@@ -77,7 +75,7 @@ impl Topic {
     {
         match self.base.written_row(version)? {
             Some(row) => Ok(Reply::Pulled(Handle::new(self.base.allocator(), row)?)),
-            None => unreachable!(),
+            None => unreachable!(), // the version is that of a cell
         }
     }
 

@@ -18,7 +18,6 @@ pub struct Topic {
     pub(crate) cursors: Vec<PullCursor>,
 }
 
-// A copy of the subscriptions.
 fn copied(alloc: Global, subs: &[Sub]) -> Result<Vec<Sub>, NoMemory>
     ensures { IfOk result (λ v. v.items ≡ subs.now) }
 {
@@ -61,17 +60,7 @@ impl Machine for Topic {
     fn ready(&self, c: &Call) -> bool {
         match c {
             Call::Write { key, .. } => key.get().plain(),
-            Call::Ship {
-                region,
-                version,
-                part,
-            } => self.base.can_ship(*region, *version, *part),
-            Call::Again {
-                region,
-                version,
-                part,
-            } => self.base.was_shipped(*region, *version, *part),
-            Call::Look { region, ids, dry } => self.base.can_look(*region, ids.get(), *dry),
+            Call::Ship { .. } | Call::Again { .. } | Call::Look { .. } => self.base.shared_ready(c),
             Call::Poll { region, .. } => self.base.is_replica(*region),
             Call::Pull { sub } => self.base.is_version(self.next_version(*sub)),
             Call::Repull { sub, version } => self.was_pulled(*sub, *version),
@@ -101,14 +90,13 @@ impl Machine for Topic {
 
     fn awaits(&self, c: &Call) -> Option<Awaited> {
         match c {
-            Call::Look { region, ids, dry } => self.base.look_awaits(*region, ids.get(), *dry),
             Call::Pull { sub } => {
                 if self.base.is_version(self.next_version(*sub)) {
                     return None;
                 }
                 Some(Awaited::Handout(*sub))
             }
-            _ => None,
+            _ => self.base.shared_awaits(c),
         }
     }
 
@@ -119,15 +107,13 @@ impl Machine for Topic {
                     key: Handle::new(self.base.allocator(), key)?,
                     version: self.base.next_version(),
                 }),
-                None => unreachable!(),
+                None => unreachable!(), // the channel is plain, since the call is ready
             },
-            Call::Ship { .. } => Ok(Reply::Moved),
-            Call::Again { .. } => Ok(Reply::Moved),
-            Call::Look { region, ids, .. } => self.base.look(*region, ids.get()),
+            Call::Ship { .. } | Call::Again { .. } | Call::Look { .. } => self.base.shared_due(c),
             Call::Poll { region, key } => self.base.read(*region, key),
             Call::Pull { sub } => self.cell_of(self.next_version(*sub)),
             Call::Repull { version, .. } => self.cell_of(*version),
-            _ => unreachable!(),
+            _ => unreachable!(), // no other call is ready, by the table
         }
     }
 
@@ -138,20 +124,12 @@ impl Machine for Topic {
                 value,
                 lineage,
             } => self.write(key.get(), value, lineage.get()),
-            Call::Ship {
-                region,
-                version,
-                part,
-            } => {
-                self.ship(*region, *version, *part);
-                Ok(())
-            }
             Call::Pull { sub } => {
                 self.pull(*sub);
                 Ok(())
             }
             _ => {
-                self.note();
+                self.pass(c);
                 Ok(())
             }
         }

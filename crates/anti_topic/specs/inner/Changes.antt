@@ -1,15 +1,14 @@
--- What a pull does to a topic, and which calls do nothing but weigh a unit.
+-- What a pull does to a topic, and which calls change no channel and no cursor.
 use Rattle.std.specs.Prelude.{◌≡◌, ℕ, slice_set, slice_index_or}
 use Rattle.anti_kind.specs.declared.call.Call.{Call}
-use Rattle.anti_kind.specs.declared.call.Call.TheVariants.{Write, Ship, Pull}
+use Rattle.anti_kind.specs.declared.call.Call.TheVariants.{Write, Pull}
 use Rattle.anti_topic.specs.declared.pull_cursor.PullCursor.{PullCursor}
 use Rattle.anti_topic.specs.declared.topic_store.Topic.{Topic}
 use Rattle.anti_topic.specs.inner.Cursors.{moved}
 
--- a call that writes, ships and pulls nothing
+-- a call that writes and pulls nothing
 abbrev pub IsQuiet : Call → Type 0
 IsQuiet (Write key value lineage) = ⊥
-IsQuiet (Ship region version part) = ⊥
 IsQuiet (Pull sub) = ⊥
 IsQuiet _ = Unit {0}
 
