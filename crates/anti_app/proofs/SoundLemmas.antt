@@ -163,7 +163,7 @@ request_known services request h =
     let one = and_parts (has_handler services request.service request.handler) (nat_le (length request.value) LONGEST_VALUE) h in
     named services request (slice_get services request.service) refl one.0 (leb-true _ _ one.1)
 
--- the handler of a subscription, and its store, a queue or a topic that has a replica where the service is
+-- the handler of a subscription, and its store, which subscriptions pull from, with a replica where the service is
 pub record SoundSub (stores : List StoreDef) (services : List ServiceDef) (sub : SubDef) : Type 0 where
   pub name : is_plain sub.name ≡ true
   pub channel : is_plain sub.channel ≡ true

@@ -77,7 +77,7 @@ region_number regions text = option_and_then small (position (λ name. bytes_eq 
 abbrev pub replica_of : List (List ℕ) → Data → ℕ
 replica_of regions d = number_or_0 (region_number regions (text_of d))
 
--- A store. A queue gives a message out three times where it says nothing.
+-- A store. It gives a message out three times where it says nothing.
 unfoldable pub store_of : List (List ℕ) → Data → StoreDef
 store_of regions d = record {
   name = name_at (codes "name") d;

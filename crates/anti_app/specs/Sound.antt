@@ -103,7 +103,7 @@ hands_out region store = is_pulled store.kind && list_any (λ r. r == region) st
 abbrev pub hands_to : List StoreDef → ℕ → ServiceDef → Bool
 hands_to stores store service = option_map_or (hands_out service.region) (slice_get stores store) false
 
--- a plain name and a plain channel, a handler that is there, and a queue or a topic that has a replica where the service is
+-- a plain name and a plain channel, a handler that is there, and a store that subscriptions pull from, with a replica where the service is
 unfoldable pub is_sound_sub : List StoreDef → List ServiceDef → SubDef → Bool
 is_sound_sub stores services sub =
     is_plain sub.name && (is_plain sub.channel && (has_handler services sub.service sub.handler

@@ -17,11 +17,11 @@ pub type Numbers = List<u32>;
 pub struct StoreDef {
     /// A plain name, unlike that of any other store or service.
     pub name: Name,
-    /// What the store keeps.
+    /// What it does with what is written.
     pub kind: StoreKind,
     /// The regions that have a replica: distinct numbers of regions, at least one and at most `MOST_REPLICAS`, in the order of the document.
     pub replicas: Numbers,
-    /// How often a message is given out at most, 1 to `MOST_TRIES`. It counts at a queue only.
+    /// How often a message is given out at most, 1 to `MOST_TRIES`. It counts only where messages come again.
     pub tries: u32,
 }
 
@@ -73,7 +73,7 @@ pub type Requests = List<RequestDef>;
 pub struct SubDef {
     /// A plain name, unlike that of any other subscription.
     pub name: Name,
-    /// The number of the store, a queue or a topic.
+    /// The number of the store, of a kind that subscriptions pull from.
     pub store: u32,
     /// A plain name.
     pub channel: Name,

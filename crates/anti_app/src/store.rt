@@ -13,7 +13,7 @@ use anti_rules::{text_at, text_of, things_in};
 use std::alloc::Global;
 use toml::Value;
 
-// How often a queue gives a message out where the document says nothing.
+// How often a message is given out at most where the document says nothing.
 const TRIES: u32 = 3;
 
 // The number of the region of a replica, or 0 where there is none.

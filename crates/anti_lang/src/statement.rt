@@ -58,7 +58,8 @@ pub enum Statement {
         prefix: Name,
         variable: Name,
     },
-    /// `poll S K as X`: reads the cell K of the topic S. The variable X holds the row.
+    /// `poll S K as X`: reads the cell K of the store S, whether a subscription has pulled it or not. The
+    /// variable X holds the row.
     Poll {
         store: Name,
         key: KeyWord,

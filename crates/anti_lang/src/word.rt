@@ -41,7 +41,7 @@ pub fn key_of(word: &[u8]) -> Option<KeyWord>
     }
 }
 
-/// What a word is for a key of a topic, which may be any name.
+/// What a word is for the key of a cell, which may be any name.
 pub fn cell_of(word: &[u8]) -> Option<KeyWord>
     ensures { result ≡ then_some (key_fits is_name (key_of word.now)) (key_of word.now) }
 {

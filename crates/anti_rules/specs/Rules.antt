@@ -90,7 +90,7 @@ abbrev pub rule_12 : Members → Part → Data → Option ℕ
 rule_12 doc Store d = wants (are_among (regions_in doc) (things_in (codes "replicas") d) && are_distinct (things_in (codes "replicas") d))
 rule_12 doc _ d = None
 
--- 13. Only a store that hands a message out again has `tries`: a queue.
+-- 13. Only a store that hands a message out again has `tries`.
 abbrev pub rule_13 : Part → Data → Option ℕ
 rule_13 Store d = wants (not (is_some (member_in (codes "tries") d)) || option_map_or (λ facts. facts.tried) (facts_at d) false)
 rule_13 _ d = None
@@ -104,7 +104,7 @@ rule_14 doc _ d = None
 abbrev pub is_pulled : Data → Bool
 is_pulled store = option_map_or (λ facts. facts.pulled) (facts_at store) false
 
--- 15. The store of a sub is there, and a queue or a topic.
+-- 15. The store of a sub is there, and of a kind that subscriptions pull from.
 abbrev pub rule_15 : Members → Part → Data → Option ℕ
 rule_15 doc Sub d = wants (option_map_or is_pulled (named (text_at (codes "store") d) (stores_in doc)) false)
 rule_15 doc _ d = None
@@ -152,8 +152,8 @@ abbrev pub rule_22 : Part → Data → Option ℕ
 rule_22 Handler d = line_with Variable (body_fault d)
 rule_22 _ d = None
 
--- 23. The store of a statement is there and of a kind that allows it: any for `write`; kv, table or blob for `read`; a table for `scan`; a
---     topic for `poll`. The store of a `read`, `scan` or `poll` has a replica where the service is.
+-- 23. The store of a statement is there and of a kind that allows it: any for `write`, one that has keys for `read`, one that is scanned
+--     for `scan`, one that is polled for `poll`. The store of a `read`, `scan` or `poll` has a replica where the service is.
 abbrev pub rule_23 : Members → List ℕ → Part → Data → Option ℕ
 rule_23 doc home Handler d = bad_line (store_fits doc home) d
 rule_23 doc home _ d = None

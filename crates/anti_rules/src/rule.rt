@@ -21,15 +21,15 @@ pub enum Rule {
     DistinctHandlers,
     /// No two subs have the same name.
     DistinctSubs,
-    /// The kind of a store is one of the five.
+    /// The kind of a store is one of those that there are.
     StoreKinds,
     /// The replicas of a store are regions, each named once.
     Replicas,
-    /// Only a queue has `tries`.
+    /// Only a store that hands a message out again has `tries`.
     QueueTries,
     /// The region of a service is one of the regions.
     ServiceRegions,
-    /// The store of a sub is there, and a queue or a topic.
+    /// The store of a sub is there, and of a kind that subscriptions pull from.
     SubStores,
     /// The service of a sub is there and has the handler.
     SubHandlers,

@@ -160,7 +160,7 @@ fn rule_10(part: Part, earlier: &[Value], value: &Value) -> Option<u32>
     }
 }
 
-// 11. The kind of a store is one of the five.
+// 11. The kind of a store is one of those that there are.
 fn rule_11(part: Part, value: &Value) -> Option<u32>
     ensures { result ≡ rule_11 part (view value.now) }
 {
@@ -183,7 +183,7 @@ fn rule_12(doc: &Table, part: Part, value: &Value) -> Option<u32>
     }
 }
 
-// 13. Only a queue has `tries`.
+// 13. Only a store that hands a message out again has `tries`.
 fn rule_13(part: Part, value: &Value) -> Option<u32>
     ensures { result ≡ rule_13 part (view value.now) }
 {
@@ -223,7 +223,7 @@ fn is_pulled(store: &Value) -> bool
     }
 }
 
-// 15. The store of a sub is there, and a queue or a topic.
+// 15. The store of a sub is there, and of a kind that subscriptions pull from.
 fn rule_15(doc: &Table, part: Part, value: &Value) -> Option<u32>
     ensures { result ≡ rule_15 (table_view doc.now) part (view value.now) }
 {
