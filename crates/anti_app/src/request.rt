@@ -23,7 +23,6 @@ fn value_of(alloc: Global, text: &str) -> Result<Payload, NoMemory>
     }
 }
 
-// A request.
 #[tactic(auto, unfolding(crate::specs::Parts::request_of))]
 fn request_of(alloc: Global, services: &[ServiceDef], value: &Value) -> Result<RequestDef, NoMemory>
     ensures { IfOk result (λ request. request ≡ request_of services.now (view value.now)) }
@@ -36,7 +35,7 @@ fn request_of(alloc: Global, services: &[ServiceDef], value: &Value) -> Result<R
     })
 }
 
-/// Some requests.
+/// The requests that a document lists, for its services.
 pub fn requests_of(
     alloc: Global,
     services: &[ServiceDef],

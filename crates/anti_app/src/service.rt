@@ -36,6 +36,7 @@ fn handlers_of(alloc: Global, values: &[Value], bodies: List<Body>) -> Result<Ha
     let mut bodies_left = turned(alloc, bodies)?;
     for value in values {
         let Some(body) = bodies_left.pop() else {
+            // there is a body for each handler
             unreachable!()
         };
         handlers.add(handler_of(value, body))?;
@@ -77,6 +78,7 @@ pub fn services_of(
     let mut left = turned(alloc, bodies)?;
     for value in values {
         let Some(bodies) = left.pop() else {
+            // there are bodies for each service
             unreachable!()
         };
         services.add(service_of(alloc, regions, value, bodies)?)?;

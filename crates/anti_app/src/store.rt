@@ -35,7 +35,6 @@ fn replicas_of(alloc: Global, regions: &[Name], values: &[Value]) -> Result<Numb
     Ok(replicas)
 }
 
-// A store.
 #[tactic(auto, unfolding(crate::specs::Parts::store_of))]
 fn store_of(alloc: Global, regions: &[Name], value: &Value) -> Result<StoreDef, NoMemory>
     ensures { IfOk result (λ store. store ≡ store_of regions.now (view value.now)) }
@@ -49,7 +48,7 @@ fn store_of(alloc: Global, regions: &[Name], value: &Value) -> Result<StoreDef, 
     })
 }
 
-/// Some stores.
+/// The stores that a document lists, for its regions.
 pub fn stores_of(alloc: Global, regions: &[Name], values: &[Value]) -> Result<Stores, NoMemory>
     ensures { IfOk result (λ stores. stores
         ≡ plain (map (store_of regions.now) (map view values.now))) }

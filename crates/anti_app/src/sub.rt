@@ -13,7 +13,6 @@ use anti_rules::text_at;
 use std::alloc::Global;
 use toml::Value;
 
-// A subscription.
 #[tactic(auto, unfolding(crate::specs::Parts::sub_of))]
 fn sub_of(stores: &[StoreDef], services: &[ServiceDef], value: &Value) -> SubDef
     ensures { result ≡ sub_of stores.now services.now (view value.now) }
@@ -27,7 +26,7 @@ fn sub_of(stores: &[StoreDef], services: &[ServiceDef], value: &Value) -> SubDef
     }
 }
 
-/// Some subscriptions.
+/// The subscriptions that a document lists, for its stores and services.
 pub fn subs_of(
     alloc: Global,
     stores: &[StoreDef],

@@ -17,6 +17,7 @@ fn default_name() -> Name
 {
     match Name::new(b"a") {
         Ok(name) => name,
+        // `a` is a name
         Err(_) => unreachable!(),
     }
 }

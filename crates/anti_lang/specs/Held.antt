@@ -1,4 +1,4 @@
--- What a write holds, as plain data.
+-- What a write says of its variable, as plain data.
 use Rattle.std.specs.Prelude.{ℕ, List, Bool, Option, option_map}
 use Rattle.anti_lang.specs.declared.write.WriteVariable.{WriteVariable}
 

@@ -11,6 +11,7 @@ pub fn name_of(text: &str) -> Name
 {
     match plain_name(text.as_bytes()) {
         Some(name) => name,
+        // the text is plain
         None => unreachable!(),
     }
 }

@@ -26,6 +26,7 @@ fn key_of(alloc: Global, word: u32) -> Result<Value, NoMemory>
     match Value::new(alloc, text.as_bytes()) {
         Ok(key) => Ok(key),
         Err(ValueFault::NoMemory) => Err(NoMemory),
+        // `k` and two digits at most are a value
         Err(_) => unreachable!(),
     }
 }

@@ -41,6 +41,7 @@ fn body_of(alloc: Global, texts: &[&str]) -> Result<Body, NoMemory>
     match parse(alloc, &lines) {
         Ok(body) => Ok(body),
         Err(LangFault::NoMemory) => Err(NoMemory),
+        // the lines state a body
         Err(_) => unreachable!(),
     }
 }

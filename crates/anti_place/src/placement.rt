@@ -18,9 +18,9 @@ use anti_lang::Body;
 /// Whether barriers, transfers and roots stand where they must.
 #[derive(Clone, Copy, Debug, PartialEq, Eq)]
 pub enum Placement {
-    /// They do.
+    /// They stand where they must.
     Yes,
-    /// They do not: the first line of the first handler, in the order of the document, at which they do not, and why.
+    /// The first line of the first handler, in the order of the document, at which one does not, and why.
     No {
         /// The number of the service, counted from 0.
         service: u32,

@@ -24,9 +24,9 @@ pub struct Target {
 /// How a line posts to a handler.
 #[derive(Clone, Copy)]
 pub enum Posting {
-    /// It calls it.
+    /// By a `call`, which waits for the reply.
     Calls,
-    /// It sends to it.
+    /// By a `send`, which waits for nothing.
     Sends,
 }
 

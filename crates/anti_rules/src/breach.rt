@@ -126,6 +126,7 @@ pub fn first_breach(alloc: Global, doc: &Table) -> Result<Result<Bodies, Breach>
     }
     match bodies {
         Some(bodies) => Ok(Ok(bodies)),
+        // a document with a body that does not parse has a breach
         None => unreachable!(),
     }
 }
