@@ -4,3 +4,4 @@ pub mod AllParse
 pub mod StatedLines
 pub mod ParsedBodies
 pub mod FittingLines
+pub mod PartOrder

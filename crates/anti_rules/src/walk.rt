@@ -1,8 +1,8 @@
 ghost use Rattle.std.specs.Prelude.{◌≡◌, [], map, IfOk};
-ghost use Rattle.std.specs.Option.{option_or};
 ghost use Rattle.toml.specs.View.{view, table_view};
 ghost use Rattle.anti_rules.specs.Rules.{rule_line};
-ghost use Rattle.anti_rules.specs.Walk.{passed, first_from, first_at, first_handler, first_place};
+ghost use Rattle.anti_rules.specs.Walk.{placed, passed, first_from, first_at, first_handler, first_place};
+ghost use Rattle.anti_rules.specs.inner.Parts.{parts, place_in};
 
 use crate::body::next;
 use crate::place::{Part, Place};
@@ -82,31 +82,61 @@ fn first_handler(
     Ok(None)
 }
 
-/// The first place of a document that fails a rule.
+// The parts of a document, in the order in which faults are sought.
+static PARTS: [Part; 8] = [
+    Part::Top,
+    Part::Region,
+    Part::Store,
+    Part::Service,
+    Part::Handler,
+    Part::Sub,
+    Part::Request,
+    Part::Choice,
+];
+
+#[tactic(auto, unfolding(crate::specs::inner::Parts::parts))]
+fn parts() -> &'static [Part]
+    ensures { result.now ≡ parts }
+{
+    &PARTS
+}
+
+// The place of the line of an item that fails, where one does.
+fn placed(part: Part, item: u32, line: Option<u32>) -> Option<Place>
+    ensures { result ≡ placed part item line }
+{
+    match line {
+        Some(line) => Some(Place { part, item, line }),
+        None => None,
+    }
+}
+
+// The first place in a part of a document that fails a rule.
+fn place_in(alloc: Global, rule: Rule, doc: &Table, part: Part) -> Result<Option<Place>, NoMemory>
+    ensures { IfOk result (λ place. place ≡ place_in rule (table_view doc.now) part) }
+{
+    match part {
+        Part::Top => Ok(placed(Part::Top, 0, table_line(rule, Part::Top, doc))),
+        Part::Region => first_at(alloc, rule, doc, Part::Region, "regions"),
+        Part::Store => first_at(alloc, rule, doc, Part::Store, "store"),
+        Part::Service => first_at(alloc, rule, doc, Part::Service, "service"),
+        Part::Handler => first_handler(alloc, rule, doc, services_in(doc)),
+        Part::Sub => first_at(alloc, rule, doc, Part::Sub, "sub"),
+        Part::Request => first_at(alloc, rule, doc, Part::Request, "request"),
+        Part::Choice => first_at(alloc, rule, doc, Part::Choice, "choices"),
+    }
+}
+
+/// The first place of a document that fails a rule. The parts behind it are not walked.
+#[tactic(auto, using(crate::proofs::PartOrder::all_parts))]
 pub fn first_place(alloc: Global, rule: Rule, doc: &Table) -> Result<Option<Place>, NoMemory>
     ensures { IfOk result (λ place. place ≡ first_place rule (table_view doc.now)) }
 {
-    if let Some(line) = table_line(rule, Part::Top, doc) {
-        return Ok(Some(Place {
-            part: Part::Top,
-            item: 0,
-            line,
-        }));
+    for part in parts() {
+        let place = place_in(alloc, rule, doc, *part)?;
+        if place.is_some() {
+            return Ok(place);
+        }
     }
-    let region = first_at(alloc, rule, doc, Part::Region, "regions")?;
-    let store = first_at(alloc, rule, doc, Part::Store, "store")?;
-    let service = first_at(alloc, rule, doc, Part::Service, "service")?;
-    let handler = first_handler(alloc, rule, doc, services_in(doc))?;
-    let sub = first_at(alloc, rule, doc, Part::Sub, "sub")?;
-    let request = first_at(alloc, rule, doc, Part::Request, "request")?;
-    let choice = first_at(alloc, rule, doc, Part::Choice, "choices")?;
-    Ok(
-        region
-            .or(store)
-            .or(service)
-            .or(handler)
-            .or(sub)
-            .or(request)
-            .or(choice),
-    )
+    Ok(None)
 }
