@@ -25,6 +25,21 @@ use anti_lang::{LangCode, LangFault, plain_name};
 use std::alloc::Global;
 use toml::{Table, Value};
 
+/// What a rule is tried on: a thing with a place of its own, and what the rule may look at beside it.
+#[derive(Clone, Copy)]
+pub struct Thing<'a> {
+    /// The document.
+    pub doc: &'a Table,
+    /// The region of the service that has the handler; of another part nothing.
+    pub home: &'a str,
+    /// The part.
+    pub part: Part,
+    /// The things of the part before this one; of a handler those of its service.
+    pub earlier: &'a [Value],
+    /// The thing.
+    pub value: &'a Value,
+}
+
 // What is wanted fails at line 0.
 fn wants(fits: bool) -> Option<u32>
     ensures { result ≡ wants fits }
@@ -103,102 +118,110 @@ fn is_plain(text: &str) -> bool
 }
 
 // 6. The names of regions, stores, services, handlers and subs, and the channels, are plain.
-fn rule_6(part: Part, value: &Value) -> Option<u32>
-    ensures { result ≡ rule_6 part (view value.now) }
+fn rule_6(thing: &Thing) -> Option<u32>
+    ensures { result ≡ rule_6 thing.now.part (view thing.now.value.now) }
 {
-    match part {
-        Part::Region => wants(is_plain(text_of(value))),
-        Part::Store => wants(is_plain(name_in(value))),
-        Part::Service => wants(is_plain(name_in(value))),
-        Part::Handler => wants(is_plain(name_in(value))),
-        Part::Sub => wants(is_plain(name_in(value)) && is_plain(text_at(value, "channel"))),
+    match thing.part {
+        Part::Region => wants(is_plain(text_of(thing.value))),
+        Part::Store => wants(is_plain(name_in(thing.value))),
+        Part::Service => wants(is_plain(name_in(thing.value))),
+        Part::Handler => wants(is_plain(name_in(thing.value))),
+        Part::Sub => wants(
+            is_plain(name_in(thing.value)) && is_plain(text_at(thing.value, "channel")),
+        ),
         _ => None,
     }
 }
 
 // 7. No region has the name of an earlier one.
-fn rule_7(part: Part, earlier: &[Value], value: &Value) -> Option<u32>
-    ensures { result ≡ rule_7 part (map view earlier.now) (view value.now) }
+fn rule_7(thing: &Thing) -> Option<u32>
+    ensures { result ≡ rule_7 thing.now.part
+        (map view thing.now.earlier.now) (view thing.now.value.now) }
 {
-    match part {
-        Part::Region => wants(!is_among(text_of(value), earlier)),
+    match thing.part {
+        Part::Region => wants(!is_among(text_of(thing.value), thing.earlier)),
         _ => None,
     }
 }
 
 // 8. No store or service has the name of an earlier one, nor has a service the name of a store.
-fn rule_8(doc: &Table, part: Part, earlier: &[Value], value: &Value) -> Option<u32>
-    ensures { result ≡ rule_8 (table_view doc.now) part (map view earlier.now) (view value.now) }
+fn rule_8(thing: &Thing) -> Option<u32>
+    ensures { result ≡ rule_8 (table_view thing.now.doc.now) thing.now.part
+        (map view thing.now.earlier.now) (view thing.now.value.now) }
 {
-    match part {
-        Part::Store => wants(!is_named(name_in(value).as_bytes(), earlier)),
+    match thing.part {
+        Part::Store => wants(!is_named(name_in(thing.value).as_bytes(), thing.earlier)),
         Part::Service => {
-            let name = name_in(value).as_bytes();
-            wants(!is_named(name, stores_in(doc)) && !is_named(name, earlier))
+            let name = name_in(thing.value).as_bytes();
+            wants(!is_named(name, stores_in(thing.doc)) && !is_named(name, thing.earlier))
         },
         _ => None,
     }
 }
 
 // 9. No handler has the name of an earlier one of its service.
-fn rule_9(part: Part, earlier: &[Value], value: &Value) -> Option<u32>
-    ensures { result ≡ rule_9 part (map view earlier.now) (view value.now) }
+fn rule_9(thing: &Thing) -> Option<u32>
+    ensures { result ≡ rule_9 thing.now.part
+        (map view thing.now.earlier.now) (view thing.now.value.now) }
 {
-    match part {
-        Part::Handler => wants(!is_named(name_in(value).as_bytes(), earlier)),
+    match thing.part {
+        Part::Handler => wants(!is_named(name_in(thing.value).as_bytes(), thing.earlier)),
         _ => None,
     }
 }
 
 // 10. No sub has the name of an earlier one.
-fn rule_10(part: Part, earlier: &[Value], value: &Value) -> Option<u32>
-    ensures { result ≡ rule_10 part (map view earlier.now) (view value.now) }
+fn rule_10(thing: &Thing) -> Option<u32>
+    ensures { result ≡ rule_10 thing.now.part
+        (map view thing.now.earlier.now) (view thing.now.value.now) }
 {
-    match part {
-        Part::Sub => wants(!is_named(name_in(value).as_bytes(), earlier)),
+    match thing.part {
+        Part::Sub => wants(!is_named(name_in(thing.value).as_bytes(), thing.earlier)),
         _ => None,
     }
 }
 
 // 11. The kind of a store is one of those that there are.
-fn rule_11(part: Part, value: &Value) -> Option<u32>
-    ensures { result ≡ rule_11 part (view value.now) }
+fn rule_11(thing: &Thing) -> Option<u32>
+    ensures { result ≡ rule_11 thing.now.part (view thing.now.value.now) }
 {
-    match part {
-        Part::Store => wants(facts_at(value).is_some()),
+    match thing.part {
+        Part::Store => wants(facts_at(thing.value).is_some()),
         _ => None,
     }
 }
 
 // 12. The replicas of a store are regions, each named once.
-fn rule_12(doc: &Table, part: Part, value: &Value) -> Option<u32>
-    ensures { result ≡ rule_12 (table_view doc.now) part (view value.now) }
+fn rule_12(thing: &Thing) -> Option<u32>
+    ensures { result ≡ rule_12 (table_view thing.now.doc.now) thing.now.part
+        (view thing.now.value.now) }
 {
-    match part {
+    match thing.part {
         Part::Store => {
-            let replicas = things_in(value, "replicas");
-            wants(are_among(regions_in(doc), replicas) && are_distinct(replicas))
+            let replicas = things_in(thing.value, "replicas");
+            wants(are_among(regions_in(thing.doc), replicas) && are_distinct(replicas))
         },
         _ => None,
     }
 }
 
 // 13. Only a store that hands a message out again has `tries`.
-fn rule_13(part: Part, value: &Value) -> Option<u32>
-    ensures { result ≡ rule_13 part (view value.now) }
+fn rule_13(thing: &Thing) -> Option<u32>
+    ensures { result ≡ rule_13 thing.now.part (view thing.now.value.now) }
 {
-    match part {
-        Part::Store => wants(member_in(value, "tries").is_none() || is_tried(value)),
+    match thing.part {
+        Part::Store => wants(member_in(thing.value, "tries").is_none() || is_tried(thing.value)),
         _ => None,
     }
 }
 
 // 14. The region of a service is one of the regions.
-fn rule_14(doc: &Table, part: Part, value: &Value) -> Option<u32>
-    ensures { result ≡ rule_14 (table_view doc.now) part (view value.now) }
+fn rule_14(thing: &Thing) -> Option<u32>
+    ensures { result ≡ rule_14 (table_view thing.now.doc.now) thing.now.part
+        (view thing.now.value.now) }
 {
-    match part {
-        Part::Service => wants(is_among(text_at(value, "region"), regions_in(doc))),
+    match thing.part {
+        Part::Service => wants(is_among(text_at(thing.value, "region"), regions_in(thing.doc))),
         _ => None,
     }
 }
@@ -224,11 +247,15 @@ fn is_pulled(store: &Value) -> bool
 }
 
 // 15. The store of a sub is there, and of a kind that subscriptions pull from.
-fn rule_15(doc: &Table, part: Part, value: &Value) -> Option<u32>
-    ensures { result ≡ rule_15 (table_view doc.now) part (view value.now) }
+fn rule_15(thing: &Thing) -> Option<u32>
+    ensures { result ≡ rule_15 (table_view thing.now.doc.now) thing.now.part
+        (view thing.now.value.now) }
 {
-    match part {
-        Part::Sub => match named(text_at(value, "store").as_bytes(), stores_in(doc)) {
+    match thing.part {
+        Part::Sub => match named(
+            text_at(thing.value, "store").as_bytes(),
+            stores_in(thing.doc),
+        ) {
             Some(store) => wants(is_pulled(store)),
             None => wants(false),
         },
@@ -237,13 +264,18 @@ fn rule_15(doc: &Table, part: Part, value: &Value) -> Option<u32>
 }
 
 // 16. The service of a sub is there and has the handler.
-fn rule_16(doc: &Table, part: Part, value: &Value) -> Option<u32>
-    ensures { result ≡ rule_16 (table_view doc.now) part (view value.now) }
+fn rule_16(thing: &Thing) -> Option<u32>
+    ensures { result ≡ rule_16 (table_view thing.now.doc.now) thing.now.part
+        (view thing.now.value.now) }
 {
-    match part {
+    match thing.part {
         Part::Sub => {
-            let service = text_at(value, "service").as_bytes();
-            wants(has_handler(doc, service, text_at(value, "handler").as_bytes()))
+            let service = text_at(thing.value, "service").as_bytes();
+            wants(has_handler(
+                thing.doc,
+                service,
+                text_at(thing.value, "handler").as_bytes(),
+            ))
         },
         _ => None,
     }
@@ -270,34 +302,43 @@ fn replicas_of<'a>(doc: &'a Table, sub: &Value) -> &'a [Value]
 }
 
 // 17. The store of a sub has a replica where the sub's service is.
-fn rule_17(doc: &Table, part: Part, value: &Value) -> Option<u32>
-    ensures { result ≡ rule_17 (table_view doc.now) part (view value.now) }
+fn rule_17(thing: &Thing) -> Option<u32>
+    ensures { result ≡ rule_17 (table_view thing.now.doc.now) thing.now.part
+        (view thing.now.value.now) }
 {
-    match part {
-        Part::Sub => wants(is_among(home_of(doc, value), replicas_of(doc, value))),
+    match thing.part {
+        Part::Sub => wants(is_among(
+            home_of(thing.doc, thing.value),
+            replicas_of(thing.doc, thing.value),
+        )),
         _ => None,
     }
 }
 
 // 18. The service of a request is there and has the handler.
-fn rule_18(doc: &Table, part: Part, value: &Value) -> Option<u32>
-    ensures { result ≡ rule_18 (table_view doc.now) part (view value.now) }
+fn rule_18(thing: &Thing) -> Option<u32>
+    ensures { result ≡ rule_18 (table_view thing.now.doc.now) thing.now.part
+        (view thing.now.value.now) }
 {
-    match part {
+    match thing.part {
         Part::Request => {
-            let service = text_at(value, "service").as_bytes();
-            wants(has_handler(doc, service, text_at(value, "handler").as_bytes()))
+            let service = text_at(thing.value, "service").as_bytes();
+            wants(has_handler(
+                thing.doc,
+                service,
+                text_at(thing.value, "handler").as_bytes(),
+            ))
         },
         _ => None,
     }
 }
 
 // 19. No request has a value of more than `LONGEST_VALUE` bytes.
-fn rule_19(part: Part, value: &Value) -> Option<u32>
-    ensures { result ≡ rule_19 part (view value.now) }
+fn rule_19(thing: &Thing) -> Option<u32>
+    ensures { result ≡ rule_19 thing.now.part (view thing.now.value.now) }
 {
-    match part {
-        Part::Request => wants(text_at(value, "value").len() <= LONGEST_VALUE),
+    match thing.part {
+        Part::Request => wants(text_at(thing.value, "value").len() <= LONGEST_VALUE),
         _ => None,
     }
 }
@@ -334,58 +375,60 @@ fn fault_line(alloc: Global, wanted: LangCode, value: &Value) -> Result<Option<u
 }
 
 // 20. Every line of a body is one that the language has.
-fn rule_20(alloc: Global, part: Part, value: &Value) -> Result<Option<u32>, NoMemory>
-    ensures { IfOk result (λ line. line ≡ rule_20 part (view value.now)) }
+fn rule_20(alloc: Global, thing: &Thing) -> Result<Option<u32>, NoMemory>
+    ensures { IfOk result (λ line. line ≡ rule_20 thing.now.part (view thing.now.value.now)) }
 {
-    match part {
-        Part::Handler => fault_line(alloc, LangCode::Unknown, value),
+    match thing.part {
+        Part::Handler => fault_line(alloc, LangCode::Unknown, thing.value),
         _ => Ok(None),
     }
 }
 
 // 21. The blocks of each body are right.
-fn rule_21(alloc: Global, part: Part, value: &Value) -> Result<Option<u32>, NoMemory>
-    ensures { IfOk result (λ line. line ≡ rule_21 part (view value.now)) }
+fn rule_21(alloc: Global, thing: &Thing) -> Result<Option<u32>, NoMemory>
+    ensures { IfOk result (λ line. line ≡ rule_21 thing.now.part (view thing.now.value.now)) }
 {
-    match part {
-        Part::Handler => fault_line(alloc, LangCode::Block, value),
+    match thing.part {
+        Part::Handler => fault_line(alloc, LangCode::Block, thing.value),
         _ => Ok(None),
     }
 }
 
 // 22. The variables of each body are right.
-fn rule_22(alloc: Global, part: Part, value: &Value) -> Result<Option<u32>, NoMemory>
-    ensures { IfOk result (λ line. line ≡ rule_22 part (view value.now)) }
+fn rule_22(alloc: Global, thing: &Thing) -> Result<Option<u32>, NoMemory>
+    ensures { IfOk result (λ line. line ≡ rule_22 thing.now.part (view thing.now.value.now)) }
 {
-    match part {
-        Part::Handler => fault_line(alloc, LangCode::Variable, value),
+    match thing.part {
+        Part::Handler => fault_line(alloc, LangCode::Variable, thing.value),
         _ => Ok(None),
     }
 }
 
 // 23. The store of a statement is there and of a kind that allows it.
-fn rule_23(
-    alloc: Global,
-    doc: &Table,
-    home: &str,
-    part: Part,
-    value: &Value,
-) -> Result<Option<u32>, NoMemory>
+fn rule_23(alloc: Global, thing: &Thing) -> Result<Option<u32>, NoMemory>
     ensures { IfOk result (λ line. line
-        ≡ rule_23 (table_view doc.now) home.now part (view value.now)) }
+        ≡ rule_23 (table_view thing.now.doc.now) thing.now.home.now thing.now.part
+        (view thing.now.value.now)) }
 {
-    match part {
-        Part::Handler => bad_line(alloc, Rule::StatementStores, doc, home, value),
+    match thing.part {
+        Part::Handler => bad_line(
+            alloc,
+            Rule::StatementStores,
+            thing.doc,
+            thing.home,
+            thing.value,
+        ),
         _ => Ok(None),
     }
 }
 
 // 24. The service of a `call` or a `send` is there and has the handler.
-fn rule_24(alloc: Global, doc: &Table, part: Part, value: &Value) -> Result<Option<u32>, NoMemory>
-    ensures { IfOk result (λ line. line ≡ rule_24 (table_view doc.now) part (view value.now)) }
+fn rule_24(alloc: Global, thing: &Thing) -> Result<Option<u32>, NoMemory>
+    ensures { IfOk result (λ line. line ≡ rule_24 (table_view thing.now.doc.now) thing.now.part
+        (view thing.now.value.now)) }
 {
-    match part {
-        Part::Handler => bad_line(alloc, Rule::StatementHandlers, doc, "", value),
+    match thing.part {
+        Part::Handler => bad_line(alloc, Rule::StatementHandlers, thing.doc, "", thing.value),
         _ => Ok(None),
     }
 }
@@ -426,55 +469,46 @@ fn item_line(rule: Rule, part: Part, value: &Value) -> Option<u32>
 }
 
 // The first five rules on a thing of a part: a region and a choice are texts, the others are tables.
-fn shape_line(rule: Rule, part: Part, value: &Value) -> Option<u32>
-    ensures { result ≡ shape_line rule part (view value.now) }
+fn shape_line(rule: Rule, thing: &Thing) -> Option<u32>
+    ensures { result ≡ shape_line rule thing.now.part (view thing.now.value.now) }
 {
-    match part {
-        Part::Region => typed_line(rule, is_text(value)),
-        Part::Choice => typed_line(rule, is_text(value)),
-        _ => item_line(rule, part, value),
+    match thing.part {
+        Part::Region => typed_line(rule, is_text(thing.value)),
+        Part::Choice => typed_line(rule, is_text(thing.value)),
+        _ => item_line(rule, thing.part, thing.value),
     }
 }
 
-/// The line at which a thing of a part fails a rule, for a document. The region of the service goes with a handler, and the things of
-/// its part before it go with each; for a handler those of its service.
-pub fn rule_line(
-    alloc: Global,
-    rule: Rule,
-    doc: &Table,
-    home: &str,
-    part: Part,
-    earlier: &[Value],
-    value: &Value,
-) -> Result<Option<u32>, NoMemory>
+/// The line at which a thing of a document fails a rule.
+pub fn rule_line(alloc: Global, rule: Rule, thing: &Thing) -> Result<Option<u32>, NoMemory>
     ensures { IfOk result (λ line. line
-        ≡ rule_line rule (table_view doc.now) home.now part (map view earlier.now)
-        (view value.now)) }
+        ≡ rule_line rule (table_view thing.now.doc.now) thing.now.home.now thing.now.part
+        (map view thing.now.earlier.now) (view thing.now.value.now)) }
 {
     match rule {
-        Rule::Listed => Ok(shape_line(rule, part, value)),
-        Rule::There => Ok(shape_line(rule, part, value)),
-        Rule::Typed => Ok(shape_line(rule, part, value)),
-        Rule::Counted => Ok(shape_line(rule, part, value)),
-        Rule::Ranged => Ok(shape_line(rule, part, value)),
-        Rule::PlainNames => Ok(rule_6(part, value)),
-        Rule::DistinctRegions => Ok(rule_7(part, earlier, value)),
-        Rule::DistinctObjects => Ok(rule_8(doc, part, earlier, value)),
-        Rule::DistinctHandlers => Ok(rule_9(part, earlier, value)),
-        Rule::DistinctSubs => Ok(rule_10(part, earlier, value)),
-        Rule::StoreKinds => Ok(rule_11(part, value)),
-        Rule::Replicas => Ok(rule_12(doc, part, value)),
-        Rule::QueueTries => Ok(rule_13(part, value)),
-        Rule::ServiceRegions => Ok(rule_14(doc, part, value)),
-        Rule::SubStores => Ok(rule_15(doc, part, value)),
-        Rule::SubHandlers => Ok(rule_16(doc, part, value)),
-        Rule::SubReplicas => Ok(rule_17(doc, part, value)),
-        Rule::RequestHandlers => Ok(rule_18(doc, part, value)),
-        Rule::RequestValues => Ok(rule_19(part, value)),
-        Rule::Statements => rule_20(alloc, part, value),
-        Rule::Blocks => rule_21(alloc, part, value),
-        Rule::Variables => rule_22(alloc, part, value),
-        Rule::StatementStores => rule_23(alloc, doc, home, part, value),
-        Rule::StatementHandlers => rule_24(alloc, doc, part, value),
+        Rule::Listed => Ok(shape_line(rule, thing)),
+        Rule::There => Ok(shape_line(rule, thing)),
+        Rule::Typed => Ok(shape_line(rule, thing)),
+        Rule::Counted => Ok(shape_line(rule, thing)),
+        Rule::Ranged => Ok(shape_line(rule, thing)),
+        Rule::PlainNames => Ok(rule_6(thing)),
+        Rule::DistinctRegions => Ok(rule_7(thing)),
+        Rule::DistinctObjects => Ok(rule_8(thing)),
+        Rule::DistinctHandlers => Ok(rule_9(thing)),
+        Rule::DistinctSubs => Ok(rule_10(thing)),
+        Rule::StoreKinds => Ok(rule_11(thing)),
+        Rule::Replicas => Ok(rule_12(thing)),
+        Rule::QueueTries => Ok(rule_13(thing)),
+        Rule::ServiceRegions => Ok(rule_14(thing)),
+        Rule::SubStores => Ok(rule_15(thing)),
+        Rule::SubHandlers => Ok(rule_16(thing)),
+        Rule::SubReplicas => Ok(rule_17(thing)),
+        Rule::RequestHandlers => Ok(rule_18(thing)),
+        Rule::RequestValues => Ok(rule_19(thing)),
+        Rule::Statements => rule_20(alloc, thing),
+        Rule::Blocks => rule_21(alloc, thing),
+        Rule::Variables => rule_22(alloc, thing),
+        Rule::StatementStores => rule_23(alloc, thing),
+        Rule::StatementHandlers => rule_24(alloc, thing),
     }
 }

@@ -7,7 +7,7 @@ ghost use Rattle.anti_rules.specs.inner.Parts.{parts, place_in};
 use crate::body::next;
 use crate::place::{Part, Place};
 use crate::rule::Rule;
-use crate::rule_lines::{rule_line, table_line};
+use crate::rule_lines::{Thing, rule_line, table_line};
 use crate::toml_tree::{services_in, text_at, things_at, things_in};
 use anti_ids::NoMemory;
 use std::alloc::Global;
@@ -39,7 +39,14 @@ fn first_from(
     let mut item = before;
     for (index, value) in values.iter().enumerate() {
         item = next(item);
-        if let Some(line) = rule_line(alloc, rule, doc, home, part, &values[..index], value)? {
+        let thing = Thing {
+            doc,
+            home,
+            part,
+            earlier: &values[..index],
+            value,
+        };
+        if let Some(line) = rule_line(alloc, rule, &thing)? {
             return Ok(Some(Place { part, item, line }));
         }
     }
