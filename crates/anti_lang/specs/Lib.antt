@@ -13,3 +13,4 @@ pub mod Turns
 pub mod Turned
 pub mod Parsing
 pub mod Spans
+pub mod inner

@@ -1,14 +1,18 @@
-// The forms of lines, by the words behind the keyword.
-ghost use Rattle.std.specs.Prelude.{◌≡◌, [], ◌∷◌, Some, IfOk, map, option_map};
+// The forms of lines: each is read by the words behind its keyword, and written.
+ghost use Rattle.std.specs.Prelude.{◌≡◌, [], ◌∷◌, Some, IfOk, map, option_map, codes, decimal};
 ghost use Rattle.anti_lang.specs.Program.{Append, Remove, Transfer, Read, Scan, Poll, Call, Send, Reply};
-ghost use Rattle.anti_lang.specs.Vocabulary.{key_of, value_of, count_of};
-ghost use Rattle.anti_lang.specs.Lines.{Does, OpenRepeat, read_as, joined, one_word_form, no_word_form, read_form, scan_form, poll_form, call_form, send_form, if_form};
+ghost use Rattle.anti_lang.specs.Vocabulary.{key_text, value_text, key_of, value_of, count_of};
+ghost use Rattle.anti_lang.specs.Lines.{Does, OpenRepeat, read_as, joined, one_word_form, no_word_form, read_form, scan_form, poll_form, call_form, send_form, if_form, statement_words};
+ghost use Rattle.anti_lang.specs.Parsing.{spaced};
 
 use crate::line::Line;
 use crate::name::plain_name;
-use crate::statement::Statement;
-use crate::word::{cell_of, count_of, key_of, value_of, variable_of};
-use anti_ids::NoMemory;
+use crate::split::spaced;
+use crate::statement::{KeyWord, Statement, ValueWord};
+use crate::word::{
+    cell_of, count_of, count_text, key_of, key_text, value_of, value_text, variable_of,
+};
+use anti_ids::{Bytes, Name, NoMemory};
 use std::alloc::Global;
 
 // `read STORE KEY as VARIABLE`.
@@ -34,6 +38,23 @@ fn read_of(store: &[u8], key: &[u8], joint: &[u8], variable: &[u8]) -> Option<Li
     }))
 }
 
+// The words of a `read` or of a `poll`, whichever the first word is.
+pub fn read_text<'a>(
+    alloc: Global,
+    word: &'a [u8],
+    store: &'a Name,
+    key: &'a KeyWord,
+    variable: &'a Name,
+) -> Result<Bytes, NoMemory>
+    ensures { IfOk result (λ text. text.items ≡ spaced (word.now ∷ store.now ∷ key_text key.now ∷ codes "as" ∷ variable.now ∷ [])) }
+{
+    let key = key_text(alloc, key)?;
+    spaced(
+        alloc,
+        &[word, store.bytes(), key.bytes(), b"as", variable.bytes()],
+    )
+}
+
 // `scan STORE PREFIX as VARIABLE`.
 pub fn scan_form(words: &[&[u8]]) -> Option<Line>
     ensures { result ≡ read_as (scan_form (map (λ word. word.now) words.now)) }
@@ -55,6 +76,18 @@ fn scan_of(store: &[u8], prefix: &[u8], joint: &[u8], variable: &[u8]) -> Option
         prefix: plain_name(prefix)?,
         variable: variable_of(variable)?,
     }))
+}
+
+pub fn scan_text(
+    alloc: Global,
+    store: &Name,
+    prefix: &Name,
+    variable: &Name,
+) -> Result<Bytes, NoMemory>
+    ensures { IfOk result (λ text. text.items ≡ spaced (statement_words (Scan store.now prefix.now variable.now))) }
+{
+    let (store, prefix) = (store.bytes(), prefix.bytes());
+    spaced(alloc, &[b"scan", store, prefix, b"as", variable.bytes()])
 }
 
 // `poll STORE KEY as VARIABLE`.
@@ -125,6 +158,30 @@ fn call_of(
     }
 }
 
+pub fn call_text<'a>(
+    alloc: Global,
+    service: &'a Name,
+    handler: &'a Name,
+    value: &'a ValueWord,
+    variable: &'a Name,
+) -> Result<Bytes, NoMemory>
+    ensures { IfOk result (λ text. text.items ≡ spaced (statement_words (Call service.now handler.now value.now variable.now))) }
+{
+    let value = value_text(alloc, value)?;
+    let (service, handler) = (service.bytes(), handler.bytes());
+    spaced(
+        alloc,
+        &[
+            b"call",
+            service,
+            handler,
+            value.bytes(),
+            b"as",
+            variable.bytes(),
+        ],
+    )
+}
+
 // `send SERVICE HANDLER VALUE`.
 pub fn send_form(alloc: Global, words: &[&[u8]]) -> Result<Option<Line>, NoMemory>
     ensures { IfOk result (λ line. line ≡ read_as (send_form (map (λ word. word.now) words.now))) }
@@ -159,6 +216,21 @@ fn send_of(
     }
 }
 
+pub fn send_text(
+    alloc: Global,
+    service: &Name,
+    handler: &Name,
+    value: &ValueWord,
+) -> Result<Bytes, NoMemory>
+    ensures { IfOk result (λ text. text.items ≡ spaced (statement_words (Send service.now handler.now value.now))) }
+{
+    let value = value_text(alloc, value)?;
+    spaced(
+        alloc,
+        &[b"send", service.bytes(), handler.bytes(), value.bytes()],
+    )
+}
+
 // `reply VALUE`.
 pub fn reply_form(alloc: Global, words: &[&[u8]]) -> Result<Option<Line>, NoMemory>
     ensures { IfOk result (λ line. line ≡ read_as (one_word_form (λ word. Some (Does (Reply (value_of word)))) (map (λ word. word.now) words.now))) }
@@ -176,6 +248,20 @@ fn reply_of(alloc: Global, value: &[u8]) -> Result<Option<Line>, NoMemory>
         Some(value) => Ok(Some(Line::Does(Statement::Reply(value)))),
         None => Ok(None),
     }
+}
+
+pub fn reply_text(alloc: Global, value: &ValueWord) -> Result<Bytes, NoMemory>
+    ensures { IfOk result (λ text. text.items ≡ spaced (codes "reply" ∷ value_text value.now ∷ [])) }
+{
+    let value = value_text(alloc, value)?;
+    pair_text(alloc, b"reply", value.bytes())
+}
+
+// A keyword, and the one word behind it.
+pub fn pair_text<'a>(alloc: Global, keyword: &'a [u8], word: &'a [u8]) -> Result<Bytes, NoMemory>
+    ensures { IfOk result (λ text. text.items ≡ spaced (keyword.now ∷ word.now ∷ [])) }
+{
+    spaced(alloc, &[keyword, word])
 }
 
 // `append VARIABLE`.
@@ -236,6 +322,13 @@ pub fn repeat_form(words: &[&[u8]]) -> Option<Line>
     }
 }
 
+pub fn repeat_text(alloc: Global, count: u32) -> Result<Bytes, NoMemory>
+    ensures { IfOk result (λ text. text.items ≡ spaced (codes "repeat" ∷ decimal count ∷ [])) }
+{
+    let count = count_text(alloc, count)?;
+    pair_text(alloc, b"repeat", count.bytes())
+}
+
 // `if VARIABLE absent`.
 pub fn if_form(words: &[&[u8]]) -> Option<Line>
     ensures { result ≡ read_as (if_form (map (λ word. word.now) words.now)) }
@@ -253,6 +346,12 @@ fn if_of(variable: &[u8], last: &[u8]) -> Option<Line>
         return None;
     }
     Some(Line::IfAbsent(variable_of(variable)?))
+}
+
+pub fn if_text(alloc: Global, variable: &Name) -> Result<Bytes, NoMemory>
+    ensures { IfOk result (λ text. text.items ≡ spaced (codes "if" ∷ variable.now ∷ codes "absent" ∷ [])) }
+{
+    spaced(alloc, &[b"if", variable.bytes(), b"absent"])
 }
 
 // A keyword that stands alone, for this line.

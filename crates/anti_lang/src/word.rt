@@ -1,15 +1,25 @@
 // What stands for a variable, a key, a value and a count in a line.
-ghost use Rattle.std.specs.Prelude.{◌≡◌, ℕ, List, [], ◌∷◌, Bool, IfOk};
+ghost use Rattle.std.specs.Prelude.{◌≡◌, ℕ, List, [], ◌∷◌, Bool, IfOk, decimal};
 ghost use Rattle.std.specs.Bool.{then_some};
 ghost use Rattle.std.specs.List.{list_all};
+ghost use Rattle.anti_ids.specs.Ascii.{dollar};
 ghost use Rattle.anti_ids.specs.Names.{is_name, is_plain};
 ghost use Rattle.anti_lang.specs.Texts.{is_variable, is_literal, is_literal_byte, has_dollar};
-ghost use Rattle.anti_lang.specs.Vocabulary.{key_of, key_behind, key_fits, value_of, value_behind, value_fits, count_of};
+ghost use Rattle.anti_lang.specs.Vocabulary.{key_text, value_text, key_of, key_behind, key_fits, value_of, value_behind, value_fits, count_of};
 
 use crate::name::{any_name, plain_name};
 use crate::statement::{KeyWord, ValueWord};
-use anti_ids::{MOST_TURNS, Name, NoMemory, Value, ValueFault, read_decimal};
+use anti_ids::{Bytes, MOST_TURNS, Name, NoMemory, Value, ValueFault, read_decimal};
 use std::alloc::Global;
+
+/// A word that stands for itself.
+pub fn plain_text(alloc: Global, bytes: &[u8]) -> Result<Bytes, NoMemory>
+    ensures { IfOk result (λ text. text.items ≡ bytes.now) }
+{
+    let mut text = Bytes::new(alloc);
+    text.append(bytes)?;
+    Ok(text)
+}
 
 /// The variable that a word is: a plain name other than `in`.
 pub fn variable_of(word: &[u8]) -> Option<Name>
@@ -19,6 +29,16 @@ pub fn variable_of(word: &[u8]) -> Option<Name>
         return None;
     }
     plain_name(word)
+}
+
+// `$` and the name of a variable.
+fn variable_text(alloc: Global, name: &[u8]) -> Result<Bytes, NoMemory>
+    ensures { IfOk result (λ text. text.items ≡ dollar ∷ name.now) }
+{
+    let mut text = Bytes::new(alloc);
+    text.append(b"$")?;
+    text.append(name)?;
+    Ok(text)
 }
 
 // What a word of `$` and these bytes is for a key.
@@ -48,6 +68,17 @@ pub fn cell_of(word: &[u8]) -> Option<KeyWord>
     match word {
         [b'$', name @ ..] => key_behind(name),
         _ => Some(KeyWord::Plain(any_name(word)?)),
+    }
+}
+
+/// The word of a key.
+pub fn key_text(alloc: Global, key: &KeyWord) -> Result<Bytes, NoMemory>
+    ensures { IfOk result (λ text. text.items ≡ key_text key.now) }
+{
+    match key {
+        KeyWord::Input => plain_text(alloc, b"$in"),
+        KeyWord::Of(variable) => variable_text(alloc, variable.bytes()),
+        KeyWord::Plain(name) => plain_text(alloc, name.bytes()),
     }
 }
 
@@ -101,10 +132,29 @@ pub fn value_of(alloc: Global, word: &[u8]) -> Result<Option<ValueWord>, NoMemor
     }
 }
 
+/// The word of a value.
+pub fn value_text(alloc: Global, value: &ValueWord) -> Result<Bytes, NoMemory>
+    ensures { IfOk result (λ text. text.items ≡ value_text value.now) }
+{
+    match value {
+        ValueWord::Input => plain_text(alloc, b"$in"),
+        ValueWord::Of(variable) => variable_text(alloc, variable.bytes()),
+        ValueWord::Literal(value) => plain_text(alloc, value.bytes()),
+    }
+}
+
 /// The number of turns that a word is.
 pub fn count_of(word: &[u8]) -> Option<u32>
     ensures { result ≡ count_of word.now }
 {
     let count = read_decimal(word, 1, MOST_TURNS as u64)?;
     Some(count as u32)
+}
+
+/// The word of a number of turns.
+pub fn count_text(alloc: Global, count: u32) -> Result<Bytes, NoMemory>
+    ensures { IfOk result (λ text. text.items ≡ decimal count) }
+{
+    let text = format!(in alloc; "{count}")?;
+    plain_text(alloc, text.as_bytes())
 }

@@ -1,14 +1,17 @@
-// The line of a write.
+// The line of a write, read and written.
 ghost use Rattle.std.specs.Prelude.{◌≡◌, [], ◌∷◌, Some, IfOk, map, option_map};
 ghost use Rattle.std.specs.Bool.{then_some};
 ghost use Rattle.anti_lang.specs.Held.{held_view};
-ghost use Rattle.anti_lang.specs.Lines.{held_fits, held_of, written, read_as, write_form};
+ghost use Rattle.anti_lang.specs.Lines.{held_fits, held_of, written, read_as, write_form, statement_words};
+ghost use Rattle.anti_lang.specs.Parsing.{spaced};
+ghost use Rattle.anti_lang.specs.Program.{Write};
 
 use crate::line::Line;
 use crate::name::plain_name;
-use crate::statement::Statement;
-use crate::word::{key_of, value_of, variable_of};
-use anti_ids::{Name, NoMemory};
+use crate::split::spaced;
+use crate::statement::{KeyWord, Statement, ValueWord};
+use crate::word::{key_of, key_text, value_of, value_text, variable_of};
+use anti_ids::{Bytes, Name, NoMemory};
 use std::alloc::Global;
 
 /// What the words behind the value of a write say of its variable.
@@ -111,5 +114,34 @@ fn write_of(
             untracked: held.untracked,
         }))),
         None => Ok(None),
+    }
+}
+
+// The words of such a line.
+pub fn write_text(
+    alloc: Global,
+    store: &Name,
+    key: &KeyWord,
+    value: &ValueWord,
+    variable: &Option<Name>,
+    untracked: bool,
+) -> Result<Bytes, NoMemory>
+    ensures { IfOk result (λ text. text.items ≡ spaced (statement_words (Write store.now key.now value.now variable.now untracked))) }
+{
+    let key = key_text(alloc, key)?;
+    let value = value_text(alloc, value)?;
+    let (word, store, key, value) = (b"write", store.bytes(), key.bytes(), value.bytes());
+    match variable {
+        None => spaced(alloc, &[word, store, key, value]),
+        Some(name) => {
+            if untracked {
+                spaced(
+                    alloc,
+                    &[word, store, key, value, b"as", name.bytes(), b"untracked"],
+                )
+            } else {
+                spaced(alloc, &[word, store, key, value, b"as", name.bytes()])
+            }
+        }
     }
 }

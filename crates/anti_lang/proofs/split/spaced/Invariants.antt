@@ -1,6 +1,6 @@
 use Rattle.std.proofs.Common.{◌≡◌, ◌++◌, map, length}
 use Rattle.anti_lang.specs.Parsing.{spaced}
-use Rattle.anti_lang.proofs.printer.spaced.Given as goal
+use Rattle.anti_lang.proofs.split.spaced.Given as goal
 
 abbrev pub invariant-loop-rest : goal.invariant-loop-rest
 invariant-loop-rest l = l.text.items ++ spaced (map (λ word. word.now) l.rest) ≡ spaced (map (λ word. word.now) l.words)
