@@ -86,6 +86,7 @@ impl Sink for MemorySink {
         let front = piece.split_at(count).0;
         match self.bytes.append(front) {
             Ok(()) => {}
+            // the type keeps space for as many as there is room for
             Err(NoMemory) => unreachable!(),
         }
         self.room -= count;
