@@ -7,10 +7,10 @@ use Rattle.anti_kind.specs.declared.port.Answer.{Answer}
 use Rattle.anti_kind.specs.declared.port.Answer.TheVariants.{Made, NotYet, Full, Spent, NoMemory}
 use Rattle.anti_kind.specs.Objects.{Start, ready, IsLegal}
 use Rattle.anti_kind.specs.Ports.{View, entry_of, IsRefused, Answers, Answered}
-use Rattle.anti_kind.specs.Records.{Gives}
+use Rattle.anti_kind.specs.Records.{Gives, Goes}
 use Rattle.anti_turn.specs.Lists.{times, IsFront, GoesOn, Adds}
 use Rattle.anti_turn.proofs.Fronts.{entries_of_others}
-use Rattle.anti_shared.specs.Passes.{seat_of, calls_of}
+use Rattle.anti_shared.specs.Passes.{GoesFrom, seat_of, calls_of}
 use Rattle.anti_shared.specs.inner.Seating.{ended_in}
 use Rattle.anti_shared.specs.inner.Offers.{answer_of}
 use Rattle.anti_shared.proofs.Numbered.{times_first, times_later, ended_same, calls_more}
@@ -40,6 +40,18 @@ module _ (start : Start) (q : Asking) (n : ℕ) (found left : List Entry) where
   pub adds : (r : Result Answer Asking) → IsOffered r → Adds seat_of n found left
   adds (Ok a) offered = adds_given a offered.0
   adds (Err back) offered = adds_none offered.1
+
+  wants : (a : Answer) → Gives start found n q left a → a ≡ NoMemory → Goes start left q
+  wants (Made place stamp reply) gives is = absurd (cc)
+  wants NotYet gives is = absurd (cc)
+  wants (Full a b c) gives is = absurd (cc)
+  wants (Spent clock) gives is = absurd (cc)
+  wants NoMemory gives is = subst (λ (h : List Entry). Goes start h q) (sym gives.0) gives.1
+
+  -- memory is wanted only for what can be done
+  pub wanted : (s : Option Start) → s ≡ Some start → (r : Result Answer Asking) → IsOffered r → IfOk r (λ a. a ≡ NoMemory → GoesFrom s left q)
+  wanted s is (Ok a) offered = λ wanting. subst (λ (t : Option Start). GoesFrom t left q) (sym is) (wants a offered.0 wanting)
+  wanted s is (Err back) offered = tt
 
   module _ (seen : List Entry) (ended : List ℕ) (visits : ℕ) (goes : GoesOn seat_of (n ∷ ended) seen found) where
     mine : calls_of n found ≡ calls_of n seen

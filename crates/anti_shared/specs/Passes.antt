@@ -1,8 +1,10 @@
 -- What contracts see of a shared object and of a pass, and what the calls make of them.
 use Rattle.std.specs.Prelude.{◌≡◌, ℕ, ◌+◌, ◌-◌, ◌/◌, ◌<◌, ◌≤◌, ◌==◌, cond, Bool, false, List, [], ◌∷◌, ◌++◌, map, option_map, All, Option, None, Some}
+use Rattle.anti_kind.specs.declared.asking.Asking.{Asking}
 use Rattle.anti_kind.specs.declared.entry.Entry.{Entry}
 use Rattle.anti_kind.specs.Objects.{Start, IsLegal}
 use Rattle.anti_kind.specs.Ports.{View}
+use Rattle.anti_kind.specs.Records.{Goes}
 use Rattle.anti_turn.specs.Lists.{times, longer_of, entries_of, IsFront}
 use Rattle.anti_turn.specs.Places.{TableId}
 
@@ -59,6 +61,11 @@ ended_number pair = pair.0
 abbrev pub LegalFrom : Option Start → List Entry → Type 0
 LegalFrom None h = ⊥
 LegalFrom (Some start) h = IsLegal start h
+
+-- what is asked can be done behind the history, from the start that there is
+abbrev pub GoesFrom : Option Start → List Entry → Asking → Type 0
+GoesFrom None h q = ⊥
+GoesFrom (Some start) h q = Goes start h q
 
 -- what the object started as
 abbrev pub start_of : {M : Type 0} → (M → Start) → Identity M → Option Start

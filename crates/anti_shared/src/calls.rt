@@ -1,7 +1,7 @@
 ghost use Rattle.std.specs.Prelude.{◌≡◌, All, IfOk, IfErr};
 ghost use Rattle.anti_kind.specs.Objects.{IsShip};
 ghost use Rattle.anti_kind.specs.Ports.{Answered};
-ghost use Rattle.anti_shared.specs.Passes.{after_call, after_calls, start_of, view_of};
+ghost use Rattle.anti_shared.specs.Passes.{GoesFrom, after_call, after_calls, start_of, view_of};
 ghost use Rattle.anti_shared.specs.inner.Offers.{answer_of};
 
 use crate::pass::Pass;
@@ -20,6 +20,7 @@ impl<M: Machine> Shared<M> {
         ensures back { IfErr result (λ back. back ≡ asking) }
         ensures pass { pass.new ≡ after_call pass.old pass.new.seen pass.new.mine }
         ensures own { All (λ e. e.seat ≡ pass.old.number) pass.new.mine }
+        ensures memory { IfOk result (λ answer. answer ≡ Answer.NoMemory → GoesFrom (start_of M.start pass.old.id) pass.new.seen asking) }
         ensures ship { IsShip asking.call → IfOk result (λ answer. answer ≡ Answer.NoMemory → ⊥) }
     {
         let number = pass.seat.number();
@@ -29,7 +30,8 @@ impl<M: Machine> Shared<M> {
         answer
     }
 
-    /// Makes a call on the object, for an actor whose last stamp is `clock`. It may wait for the turn. Of a `Ship` it takes no memory.
+    /// Makes a call on the object, for an actor whose last stamp is `clock`. It may wait for the turn. Memory is wanted only for a call
+    /// that is ready, fits and has a stamp, and never for a `Ship`.
     pub fn call<R: Wait>(
         &self,
         rt: &R,
@@ -43,6 +45,7 @@ impl<M: Machine> Shared<M> {
         ensures answer { Answered (start_of M.start pass.old.id) (record { object = pass.old.id.object; actor = actor; span = span; clock = clock; call = c }) (view_of pass.old) (view_of pass.new) result }
         ensures pass { pass.new ≡ after_call pass.old pass.new.seen pass.new.mine }
         ensures own { All (λ e. e.seat ≡ pass.old.number) pass.new.mine }
+        ensures memory { result ≡ Answer.NoMemory → GoesFrom (start_of M.start pass.old.id) pass.new.seen (record { object = pass.old.id.object; actor = actor; span = span; clock = clock; call = c }) }
         ensures ship { IsShip c → result ≡ Answer.NoMemory → ⊥ }
     {
         let asking = Asking {
@@ -58,7 +61,8 @@ impl<M: Machine> Shared<M> {
         }
     }
 
-    /// Makes a call on the object once it is ready: it tries until then, and never answers `NotYet`. Of a `Ship` it takes no memory.
+    /// Makes a call on the object once it is ready: it tries until then, and never answers `NotYet`. Memory is wanted only for a call that
+    /// is ready, fits and has a stamp, and never for a `Ship`.
     pub fn call_wait<R: Wait>(
         &self,
         rt: &R,
@@ -73,6 +77,7 @@ impl<M: Machine> Shared<M> {
         ensures waits { result ≡ Answer.NotYet → ⊥ }
         ensures pass { pass.new ≡ after_calls pass.old pass.new.seen pass.new.mine pass.new.visits }
         ensures own { All (λ e. e.seat ≡ pass.old.number) pass.new.mine }
+        ensures memory { result ≡ Answer.NoMemory → GoesFrom (start_of M.start pass.old.id) pass.new.seen (record { object = pass.old.id.object; actor = actor; span = span; clock = clock; call = c }) }
         ensures ship { IsShip c → result ≡ Answer.NoMemory → ⊥ }
     {
         let mut asking = Asking {
@@ -89,6 +94,7 @@ impl<M: Machine> Shared<M> {
             }
             thread::yield_now();
         }
+        // `forever` does not end
         unreachable!()
     }
 }

@@ -1,7 +1,7 @@
-ghost use Rattle.std.specs.Prelude.{◌≡◌, ℕ};
+ghost use Rattle.std.specs.Prelude.{◌≡◌, ℕ, is_some, true};
 ghost use Rattle.anti_kind.specs.Objects.{IsShip};
 ghost use Rattle.anti_kind.specs.Ports.{Answered};
-ghost use Rattle.anti_shared.specs.Passes.{port_start, port_view, after_call};
+ghost use Rattle.anti_shared.specs.Passes.{GoesFrom, port_start, port_view};
 
 use crate::pass::Pass;
 use crate::shared::Shared;
@@ -49,7 +49,13 @@ impl<'a, M: Machine, R: Wait> Port for SharedPort<'a, M, R> {
     }
 
     /// As `Shared::call`. An object that is not the port's answers that the call is not ready.
-    fn call(&mut self, object: u32, actor: Actor, span: u32, clock: u64, c: Call) -> Answer {
+    fn call(&mut self, object: u32, actor: Actor, span: u32, clock: u64, c: Call) -> Answer
+        ensures answer { Answered (port_start M.start self.old object) (record { object = object; actor = actor; span = span; clock = clock; call = c }) (port_view self.old object) (port_view self.new object) result }
+        ensures others { (o : ℕ) → (o ≡ object → ⊥) → port_view self.new o ≡ port_view self.old o }
+        ensures fixed { (o : ℕ) → port_start M.start self.new o ≡ port_start M.start self.old o }
+        ensures ship { IsShip c → result ≡ Answer.NoMemory → ⊥ }
+        ensures memory { result ≡ Answer.NoMemory → GoesFrom (port_start M.start self.old object) (port_view self.new object).seen (record { object = object; actor = actor; span = span; clock = clock; call = c }) }
+    {
         let shared = self.shared;
         if object != shared.object {
             return Answer::NotYet;
@@ -60,7 +66,15 @@ impl<'a, M: Machine, R: Wait> Port for SharedPort<'a, M, R> {
 
 impl<'a, M: Machine, R: Wait> WaitPort for SharedPort<'a, M, R> {
     /// As `Shared::call_wait`.
-    fn call_wait(&mut self, _object: u32, actor: Actor, span: u32, clock: u64, c: Call) -> Answer {
+    fn call_wait(&mut self, object: u32, actor: Actor, span: u32, clock: u64, c: Call) -> Answer
+        requires { is_some (port_start M.start self.old object) ≡ true }
+        ensures answer { Answered (port_start M.start self.old object) (record { object = object; actor = actor; span = span; clock = clock; call = c }) (port_view self.old object) (port_view self.new object) result }
+        ensures waits { result ≡ Answer.NotYet → ⊥ }
+        ensures others { (o : ℕ) → (o ≡ object → ⊥) → port_view self.new o ≡ port_view self.old o }
+        ensures fixed { (o : ℕ) → port_start M.start self.new o ≡ port_start M.start self.old o }
+        ensures ship { IsShip c → result ≡ Answer.NoMemory → ⊥ }
+        ensures memory { result ≡ Answer.NoMemory → GoesFrom (port_start M.start self.old object) (port_view self.new object).seen (record { object = object; actor = actor; span = span; clock = clock; call = c }) }
+    {
         self.shared
             .call_wait(self.rt, self.pass, actor, span, clock, c)
     }
