@@ -52,6 +52,7 @@ impl<T: Listed> Turn<T> {
         let mut closed = table.close_with(seat);
         let slot = closed.take(VALUE);
         closed.free();
+        // no seat has the turn, and then the value lies in its slot (`Fits`)
         let Some(value) = slot else { unreachable!() };
         Ok(value)
     }

@@ -23,6 +23,7 @@ impl<T: Listed> Turn<T> {
     {
         self.take(rt, &mut seat.seat);
         let slot = self.table.shared.exchange(&mut seat.seat, VALUE, None);
+        // by `Takes` of `take`
         let Some(value) = slot else { unreachable!() };
         Held { value }
     }
@@ -46,6 +47,7 @@ impl<T: Listed> Turn<T> {
             }
             shared.park(rt, TURN, TAKEN as u32);
         }
+        // `forever` does not end
         unreachable!()
     }
 
@@ -60,6 +62,7 @@ impl<T: Listed> Turn<T> {
         let Held { value } = held;
         let shared = &self.table.shared;
         let nothing = shared.exchange(&mut seat.seat, VALUE, Some(value));
+        // `enter` moved the value out of the slot (`Sits`)
         let None = nothing else { unreachable!() };
         shared.store::<Free<T>>(&mut seat.seat, TURN, FREE);
         shared.wake_one(TURN);

@@ -96,6 +96,7 @@ fn taken_back<T>(mut slots: Vec<Option<T>>) -> T
 {
     let last = slots.pop();
     slots.destroy_empty();
+    // both by the `requires`
     let Some(slot) = last else { unreachable!() };
     let Some(value) = slot else { unreachable!() };
     value

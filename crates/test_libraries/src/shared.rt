@@ -195,6 +195,7 @@ fn is_alone_but_while_a_second_is_out<M: Machine + Drop>(
 {
     let before = shared.alone(&mut first) && has(&first, 1, 4_294_967_294);
     let Ok(second) = shared.split(&mut first) else {
+        // by `never_err` of `split`
         unreachable!()
     };
     let between = !shared.alone(&mut first)

@@ -73,11 +73,8 @@ enum Told<'a> {
     Count(usize),
     // The id of what was written, which the lineage then has.
     Wrote(&'a [u8], u64),
-    // The row.
     Row(Shown<'a>),
-    // The rows.
     Rows(&'a [Shown<'a>]),
-    // The ids.
     Ids(&'a [Version<'a>]),
     // That it is not ready.
     NotYet,

@@ -71,6 +71,7 @@ fn is_alone_but_while_a_second_is_out(alloc: Global) -> bool {
     };
     let before = turn.alone(&mut first) && has(&first, 1, 4_294_967_294);
     let Ok(second) = turn.split(&mut first) else {
+        // by `never_err` of `split`
         unreachable!()
     };
     let between = !turn.alone(&mut first)
@@ -139,6 +140,7 @@ fn both_add<R: Threads + Wait + Sync + AllocGlobal>(rt: &R) -> bool {
         return false;
     };
     let Ok(second) = turn.split(&mut first) else {
+        // by `never_err` of `split`
         unreachable!()
     };
     let (mut first, second) = work_both(rt, &turn, first, second);
