@@ -33,6 +33,7 @@ impl BarrierAnswer {
             ShimFault::Full { held, owed, need } => BarrierAnswer::Full { held, owed, need },
             ShimFault::Spent { clock } => BarrierAnswer::Spent { clock },
             ShimFault::Unwritten(id) => BarrierAnswer::Unwritten(id),
+            // no look appends an id, so `IsOfLook` leaves this one out
             ShimFault::LineageFull(_) => unreachable!(),
             ShimFault::NoMemory => BarrierAnswer::NoMemory,
         }

@@ -13,9 +13,9 @@ use anti_ids::Lineage;
 use anti_kind::{Port, WaitPort};
 use std::alloc::Global;
 
-/// Looks at each store of `here` of which the lineage has ids and of which the cursor has no sight,
-/// in ascending order, up to the first refusal. The stores `here` are those with a replica in the
-/// region, in ascending order. The sights of the cursor are those that earlier calls with the same
+/// Looks at the stores of `here` of which the lineage has ids and of which the cursor has no sight,
+/// up to the first refusal, if there is one. The stores `here` have a replica in the region, and
+/// stand in ascending order. The sights of the cursor are those that earlier calls with the same
 /// port, lineage and region have left in it; on every answer but `Clear` it keeps what was seen.
 pub fn barrier<P: Port>(
     alloc: Global,

@@ -13,10 +13,9 @@ use anti_ids::Lineage;
 use anti_kind::{Call, Handle, Port, Reply};
 use std::alloc::Global;
 
-/// Makes a dry look at each store of `here` of which the lineage has ids, in ascending order, and
-/// names all ids that these looks named as missing, each at its own store's step. The stores `here`
-/// are those with a replica in the region, in ascending order. A refusal takes back none of the
-/// looks before it.
+/// Makes a dry look at each store of `here` of which the lineage has ids, and names all ids that
+/// these looks named as missing, each at its own store's step. The stores `here` have a replica in
+/// the region, and stand in ascending order. A refusal takes back none of the looks that were made.
 pub fn dry_run<P: Port>(
     alloc: Global,
     port: &mut P,
@@ -48,6 +47,7 @@ pub fn dry_run<P: Port>(
         let missing = see_dry(port, who, look.store, region, ids)?;
         match named.transfer(missing.get()) {
             Ok(()) => {}
+            // all that is named is of the lineage, for whose ids there is room
             Err(_) => unreachable!(),
         }
     }
@@ -73,6 +73,7 @@ fn see_dry<P: Port>(
     };
     let made = who.ask(port, store, look)?;
     let Reply::Missing { missing, .. } = made.reply else {
+        // by `IsAsked`: the entry that was made has the reply that its call is due
         unreachable!()
     };
     Ok(missing)

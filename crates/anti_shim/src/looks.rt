@@ -23,7 +23,7 @@ impl Copies for PlannedLook {
     }
 }
 
-/// The looks of a barrier, in the order in which they are made.
+/// The looks of a barrier.
 pub type Looks = List<PlannedLook>;
 
 /// The looks that a barrier makes where the stores `here`, in ascending order, have a replica: one

@@ -51,6 +51,7 @@ pub(crate) fn see<P: Port, A: Asks<P>>(
         reply,
     } = who.ask_by::<P, A>(port, store, look)?;
     let Reply::Missing { unwritten, .. } = reply else {
+        // by `IsAsked`: the entry that was made has the reply that its call is due
         unreachable!()
     };
     match unwritten.get().iter().next() {

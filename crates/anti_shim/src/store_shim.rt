@@ -97,6 +97,7 @@ impl<K> StoreShim<K> {
                 key: *key.get(),
                 version,
             }),
+            // by `IsAsked`: the entry that was made has the reply that its call is due
             _ => unreachable!(),
         }
     }
@@ -152,6 +153,7 @@ impl StoreShim<TableStore> {
         let region = self.region;
         let made = who.ask(port, self.store, Call::Scan { region, prefix })?;
         let Reply::Shown(rows) = made.reply else {
+            // by `IsAsked`: the entry that was made has the reply that its call is due
             unreachable!()
         };
         Ok(rows)
@@ -198,6 +200,7 @@ fn only_row(reply: Reply) -> Row
     ensures { IsShown reply result }
 {
     let Reply::Shown(mut rows) = reply else {
+        // by the `requires`, as below
         unreachable!()
     };
     match rows.pop() {
