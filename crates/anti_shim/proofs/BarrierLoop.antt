@@ -2,7 +2,7 @@
 use Rattle.std.proofs.Common.{◌≡◌, ⊎_elim, inl, inr, ℕ, zero, suc, ◌+◌, ◌<◌, Bool, true, false, cond, not, List, [], ◌∷◌, ◌++◌, length, get_or, take, filter, All, refl, ap, sym, ◌∙◌, subst, append_assoc, append-nil, arith}
 use Rattle.std.specs.Prelude.{Contains, Option, Result, Ok, Err}
 use Rattle.std.proofs.lemmas.Bool.{cases_eq}
-use Rattle.std.proofs.lemmas.List.{length_push, same_from_push}
+use Rattle.std.proofs.lemmas.List.{same_from_push}
 use Rattle.std.proofs.lemmas.List.Elements.{All-contains, All-more, All-weaker, Contains-get_or, Contains-push, Contains-append_left}
 use Rattle.anti_ids.specs.declared.id.WriteId.{WriteId}
 use Rattle.anti_kind.specs.declared.actor.Actor.{Actor}
@@ -22,22 +22,21 @@ use Rattle.anti_shim.specs.declared.fault.ShimFault.TheVariants.{NotYet, Full, S
 use Rattle.anti_shim.specs.declared.barrier_answer.BarrierAnswer.TheVariants as answers
 use Rattle.anti_shim.specs.declared.looks.PlannedLook.{PlannedLook}
 use Rattle.anti_shim.specs.declared.sight.Sight.{Sight}
-use Rattle.anti_shim.specs.Steps.{Step, asking, IsAsked, MayAsk, IsAdded, CallerAfter}
+use Rattle.anti_shim.specs.Steps.{Step, asking, IsAsked, MayAsk, IsAdded}
 use Rattle.anti_shim.specs.Shims.{SeeGives, Sees}
 use Rattle.anti_shim.specs.Sights.{has_sight, unseen, HasSights}
-use Rattle.anti_shim.specs.Looks.{IsLookedAt, SomeLook, AtMostOneLook, idle}
+use Rattle.anti_shim.specs.Looks.{IsLookedAt, SomeLook, OnlyLooks}
 use Rattle.anti_shim.specs.Barriers.{sights_after, sight_of, KeepsSights, BarrierGives, BarrierDoes}
 use Rattle.anti_shim.specs.inner.Looks.{Keeps, LooksOnce, IsRefusal}
-use Rattle.anti_shim.proofs.NextCall.{Entered, entered, answered_made, none_added, last, whole, idle_more, caller_more}
-use Rattle.anti_shim.proofs.LookLemmas.{IsRight, misses, looked_whole, looks_more, made_bound, Refuses, refuses, not_yet, full, spent, no_memory}
+use Rattle.anti_shim.proofs.NextCall.{none_more, nothing, Entered, entered, answered_made, none_added, last, whole, idle_more}
+use Rattle.anti_shim.proofs.LookLemmas.{IsRight, misses, looked_whole, no_looks, only_more, Refuses, refuses, not_yet, full, spent, no_memory}
 use Rattle.anti_shim.proofs.SightLemmas.{has_still, has_last, none_before, none_last, sights_stay, sights_more, sights_of}
 
 -- What holds after some looks, also after one that was refused.
 pub record Went (s : Step) (region : ℕ) (planned : List PlannedLook) (given sights : List Sight) : Type 0 where
-  pub looked : (o : ℕ) → AtMostOneLook s region false (unseen given planned) o
+  pub only : OnlyLooks s region false (unseen given planned)
   pub seen : HasSights s.new s.before region planned sights
   pub kept : KeepsSights s given sights
-  pub caller : CallerAfter s
 
 -- what a barrier has done that answers so after these looks
 pub done : (s : Step) (region : ℕ) (planned : List PlannedLook) (given sights left : List Sight) (answer : BarrierAnswer) → Went s region planned given sights
@@ -45,11 +44,9 @@ pub done : (s : Step) (region : ℕ) (planned : List PlannedLook) (given sights 
 done s region planned given sights left answer w are gives =
     record {
       gives = gives;
-      sights = subst (λ (xs : List Sight). HasSights s.new s.after region planned xs) (sym are) (sights_of s.new s.before s.after region planned sights w.caller.actor w.caller.span w.seen);
+      sights = subst (λ (xs : List Sight). HasSights s.new s.after region planned xs) (sym are) (sights_of s.new s.before s.after region planned sights w.only.caller.actor w.only.caller.span w.seen);
       kept = subst (λ (xs : List Sight). KeepsSights s given xs) (sym are) w.kept;
-      looks = w.looked;
-      made = λ o. made_bound s region false (unseen given planned) o (w.looked o);
-      caller = w.caller;
+      only = w.only;
     }
 
 -- A store of which there is no sight was not asked, but the last one.
@@ -58,30 +55,13 @@ Unasked s sights = (o : ℕ) → has_sight sights o ≡ false → s.new o ≡ s.
 
 -- Before the first look.
 
-none_more : (es : List Entry) (e : Entry) → es ≡ es ++ e ∷ [] → ⊥
-none_more es e is = let longer : length es ≡ length (es ++ e ∷ []) = ap (λ (xs : List Entry). length xs) is in omega (arith, length_push es e)
-
-abbrev pub nothing : (ℕ → Option Start) → (ℕ → View) → Caller → Step
-nothing starts views who = record { starts = starts; old = views; new = views; before = who; after = who }
-
-pub after_nothing : (starts : ℕ → Option Start) (views : ℕ → View) (who : Caller) → CallerAfter (nothing starts views who)
-after_nothing starts views who =
-    record {
-      actor = refl;
-      span = refl;
-      since = omega arith;
-      stamps = λ o e added. absurd (none_more (views o).made e added);
-      reached = inl refl;
-    }
-
 pub went_start : (starts : ℕ → Option Start) (views : ℕ → View) (who : Caller) (region : ℕ) (planned : List PlannedLook) (given : List Sight)
     → HasSights views who region planned given → Went (nothing starts views who) region planned given given
 went_start starts views who region planned given h =
     record {
-      looked = λ o. idle refl;
+      only = no_looks starts views who region false (unseen given planned);
       seen = h;
       kept = record { more = []; front = sym (append-nil given); kept = λ o e added clear. absurd (none_more (views o).made e added) };
-      caller = after_nothing starts views who;
     }
 
 -- What passes a test stays.
@@ -151,10 +131,9 @@ module _ {s : Step} {region : ℕ} {planned : List PlannedLook} {given sights : 
         → HasSights new s.before region planned after → KeepsSights (whole s new next) given after → Went (whole s new next) region planned given after
     went_with outcome after asked seen kept =
         record {
-          looked = looks_more s new next region false (unseen given planned) look outcome is_unseen same t.went.caller (inl asked) t.went.looked;
+          only = only_more s new next region false (unseen given planned) look outcome is_unseen same (inl asked) t.went.only;
           seen = seen;
           kept = kept;
-          caller = caller_more s new next look.store (Look region look.ids false) same t.went.caller outcome (inl asked);
         }
 
     seen_still : (outcome : Result Made ShimFault) → IsAsked (last s new next) look.store (Look region look.ids false) outcome → HasSights new s.before region planned sights
@@ -189,8 +168,8 @@ module _ {s : Step} {region : ℕ} {planned : List PlannedLook} {given sights : 
             entry = e.entry;
             place = e.stands;
             stamp = e.stamp;
-            actor = e.actor ∙ ap (λ (a : Actor). named a look.store made.place) t.went.caller.actor;
-            span = e.span ∙ t.went.caller.span;
+            actor = e.actor ∙ ap (λ (a : Actor). named a look.store made.place) t.went.only.caller.actor;
+            span = e.span ∙ t.went.only.caller.span;
             call = e.call;
             reply = e.reply ∙ said;
           }))
@@ -275,7 +254,7 @@ module _ {s : Step} {region : ℕ} {look : PlannedLook} {fault : ShimFault} wher
 module _ {s : Step} {region : ℕ} {planned : List PlannedLook} {given sights : List Sight} {i : ℕ} {look : PlannedLook} (t : Turn s region planned given sights i look) where
   abbrev the_look : (new : ℕ → View) (next : Caller) (clock : ℕ) (answer : Answer) → IsLookedAt (last s new next) region false look clock answer
       → SomeLook (whole s new next) region false (unseen given planned) clock answer
-  the_look new next clock answer at = record { look = look; planned = is_unseen t; looked = looked_whole s new next region false look clock answer (same t) t.went.caller at }
+  the_look new next clock answer at = record { look = look; planned = is_unseen t; looked = looked_whole s new next region false look clock answer (same t) t.went.only.caller at }
 
   abbrev pub Tells : (ℕ → View) → Caller → List Sight → BarrierAnswer → Type 0
   Tells new next after answer = BarrierGives (whole s new next) region planned (unseen given planned) after answer × (sights_after answer after ≡ after)

@@ -18,13 +18,13 @@ use Rattle.anti_shim.specs.declared.caller.Caller.{Caller}
 use Rattle.anti_shim.specs.declared.caller.Made.{Made}
 use Rattle.anti_shim.specs.declared.fault.ShimFault.{ShimFault}
 use Rattle.anti_shim.specs.declared.looks.PlannedLook.{PlannedLook}
-use Rattle.anti_shim.specs.Steps.{Step, asking, IsAsked, CallerAfter}
+use Rattle.anti_shim.specs.Steps.{Step, asking, IsAsked}
 use Rattle.anti_shim.specs.Shims.{Gives}
-use Rattle.anti_shim.specs.Looks.{looking, IsLookedAt, SomeLook, AtMostOneLook}
+use Rattle.anti_shim.specs.Looks.{looking, IsLookedAt, SomeLook, OnlyLooks}
 use Rattle.anti_shim.specs.DryRuns.{Names, union, DryRunGives}
 use Rattle.anti_shim.specs.inner.Looks.{IsMissing, SeesDry}
-use Rattle.anti_shim.proofs.NextCall.{last, whole, caller_more, answered_made}
-use Rattle.anti_shim.proofs.LookLemmas.{IsRight, named_by, named_part, never_not_yet, looked_whole, looks_more, Refuses, refuses, not_yet, full, spent, no_memory}
+use Rattle.anti_shim.proofs.NextCall.{last, whole, answered_made}
+use Rattle.anti_shim.proofs.LookLemmas.{IsRight, named_by, named_part, never_not_yet, looked_whole, only_more, Refuses, refuses, not_yet, full, spent, no_memory}
 
 -- A store is as it was that none of the first looks is of.
 abbrev pub Untouched : Step → List PlannedLook → ℕ → Type 0
@@ -71,9 +71,8 @@ names_stay s new next region (look ∷ looks) (ids ∷ finds) same zipped =
 pub record DryTurn (s : Step) (region : ℕ) (planned : List PlannedLook) (i : ℕ) (look : PlannedLook) : Type 0 where
   pub right : All (IsRight s.starts region) planned
   pub ascends : AllPairs (λ a b. a.store < b.store) planned
-  pub looked : (o : ℕ) → AtMostOneLook s region true planned o
+  pub only : OnlyLooks s region true planned
   pub untouched : Untouched s planned i
-  pub caller : CallerAfter s
   pub within : i < length planned
   pub is : look ≡ get_or planned i look
 
@@ -92,11 +91,8 @@ module _ {s : Step} {region : ℕ} {planned : List PlannedLook} {i : ℕ} {look 
 
   module _ {new : ℕ → View} {next : Caller} where
     module _ {outcome : Result Made ShimFault} (asked : IsAsked (last s new next) look.store (Look region look.ids true) outcome) where
-      pub dry_looked : (o : ℕ) → AtMostOneLook (whole s new next) region true planned o
-      dry_looked = looks_more s new next region true planned look outcome is_planned same t.caller (inl asked) t.looked
-
-      pub dry_caller : CallerAfter (whole s new next)
-      dry_caller = caller_more s new next look.store (Look region look.ids true) same t.caller outcome (inl asked)
+      pub dry_only : OnlyLooks (whole s new next) region true planned
+      dry_only = only_more s new next region true planned look outcome is_planned same (inl asked) t.only
 
       pub dry_untouched : Untouched (whole s new next) planned (i + 1)
       dry_untouched o off =
@@ -124,7 +120,7 @@ module _ {s : Step} {region : ℕ} {planned : List PlannedLook} {i : ℕ} {look 
           place = made.place;
           stamp = made.stamp;
           unwritten = gives.0;
-          looked = looked_whole s new next region true look s.after.clock (port.Made made.place made.stamp (Missing missing gives.0)) same t.caller named;
+          looked = looked_whole s new next region true look s.after.clock (port.Made made.place made.stamp (Missing missing gives.0)) same t.only.caller named;
         }
 
     -- a look that was made
@@ -152,12 +148,12 @@ module _ {s : Step} {region : ℕ} {planned : List PlannedLook} {i : ℕ} {look 
 
     -- a look that was refused
     the_look : (clock : ℕ) (answer : Answer) → IsLookedAt (last s new next) region true look clock answer → SomeLook (whole s new next) region true planned clock answer
-    the_look clock answer at = record { look = look; planned = is_planned; looked = looked_whole s new next region true look clock answer same t.caller at }
+    the_look clock answer at = record { look = look; planned = is_planned; looked = looked_whole s new next region true look clock answer same t.only.caller at }
 
     gives_so : {fault : ShimFault} → Refuses (last s new next) region true look fault → DryRunGives (whole s new next) region planned (Err fault)
     gives_so (not_yet at) =
         absurd (never_not_yet (whole s new next) region look (All-contains (IsRight s.starts region) planned look t.right is_planned) next.clock
-        (looked_whole s new next region true look next.clock port.NotYet same t.caller at))
+        (looked_whole s new next region true look next.clock port.NotYet same t.only.caller at))
     gives_so (full {held} {owed} {need} at) = the_look next.clock (port.Full held owed need) at
     gives_so (spent {clock} at) = the_look next.clock (port.Spent clock) at
     gives_so no_memory = tt

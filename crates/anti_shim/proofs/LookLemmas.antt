@@ -23,9 +23,9 @@ use Rattle.anti_shim.specs.declared.fault.ShimFault.{ShimFault}
 use Rattle.anti_shim.specs.declared.fault.ShimFault.TheVariants.{NotYet, Full, Spent, NoMemory}
 use Rattle.anti_shim.specs.declared.looks.PlannedLook.{PlannedLook}
 use Rattle.anti_shim.specs.Steps.{Step, asking, outcome_of, IsAsked, MayAsk, CallerAfter}
-use Rattle.anti_shim.specs.Looks.{looking, IsLookedAt, AtMostOneLook, idle, looked, looks_at}
+use Rattle.anti_shim.specs.Looks.{looking, IsLookedAt, AtMostOneLook, idle, looked, looks_at, OnlyLooks}
 use Rattle.anti_shim.specs.Barriers.{Misses}
-use Rattle.anti_shim.proofs.NextCall.{last, whole, idle_more, one_answer, answered_made}
+use Rattle.anti_shim.proofs.NextCall.{nothing, after_nothing, last, whole, idle_more, caller_more, one_answer, answered_made}
 
 -- Tests and filters.
 
@@ -160,6 +160,29 @@ module _ (s : Step) (region : ℕ) (look : PlannedLook) (right : IsRight s.start
       ready_dry : (a b : Bool) → a ≡ true → b ≡ true → (a && (b && true)) ≡ false → ⊥
       ready_dry a b x y e = let on : (a && (b && true)) ≡ true = rw (x, y) refl in absurd (cc)
 
+-- How many entries there are more.
+
+a_look : (looks : List PlannedLook) (look : PlannedLook) (o : ℕ) → Contains looks look → look.store ≡ o → looks_at o looks ≡ 1
+a_look looks look o there is =
+    let at : (get_or looks there.0 look).store ≡ o = ap (λ (l : PlannedLook). l.store) there.2 ∙ is in
+    ap (λ (b : Bool). cond b 1 0) (list_any_at (λ (l : PlannedLook). l.store == o) looks there.0 look there.1 (eq-eqb (get_or looks there.0 look).store o at))
+
+made_bound : (s : Step) (region : ℕ) (dry : Bool) (looks : List PlannedLook) (o : ℕ) → AtMostOneLook s region dry looks o → length (s.new o).made ≤ length (s.old o).made + looks_at o looks
+made_bound s region dry looks o (idle same) = let e : length (s.new o).made ≡ length (s.old o).made = ap (λ (v : View). length v.made) same in omega arith
+made_bound s region dry looks o (looked {clock} {answer} l here) =
+    let one : length (s.new l.look.store).made ≤ length (s.old l.look.store).made + 1 =
+    one_answer (s.starts l.look.store) (looking s.before region dry l.look clock) (s.old l.look.store) (s.new l.look.store) answer l.looked in
+    let at : length (s.new o).made ≤ length (s.old o).made + 1 = subst (λ (n : ℕ). length (s.new n).made ≤ length (s.old n).made + 1) here one in
+    omega (arith, a_look looks l.look o l.planned here)
+
+-- Only looks.
+
+pub only_looks : (s : Step) (region : ℕ) (dry : Bool) (looks : List PlannedLook) → ((o : ℕ) → AtMostOneLook s region dry looks o) → CallerAfter s → OnlyLooks s region dry looks
+only_looks s region dry looks each caller = record { once = each; made = λ o. made_bound s region dry looks o (each o); caller = caller }
+
+pub no_looks : (starts : ℕ → Option Start) (views : ℕ → View) (who : Caller) (region : ℕ) (dry : Bool) (looks : List PlannedLook) → OnlyLooks (nothing starts views who) region dry looks
+no_looks starts views who region dry looks = only_looks (nothing starts views who) region dry looks (λ o. idle refl) (after_nothing starts views who)
+
 -- One look more, at a store that was as it was.
 
 module _ (s : Step) (new : ℕ → View) (next : Caller) (region : ℕ) (dry : Bool) where
@@ -172,7 +195,7 @@ module _ (s : Step) (new : ℕ → View) (next : Caller) (region : ℕ) (dry : B
       subst (λ (q : Asking). Answered (s.starts look.store) q (s.old look.store) (new look.store) answer) asks
       (subst (λ (v : View). Answered (s.starts look.store) (looking s.after region dry look clock) v (new look.store) answer) same at)
 
-  pub at_most_same : (looks : List PlannedLook) (o : ℕ) → new o ≡ s.new o → AtMostOneLook s region dry looks o → AtMostOneLook (whole s new next) region dry looks o
+  at_most_same : (looks : List PlannedLook) (o : ℕ) → new o ≡ s.new o → AtMostOneLook s region dry looks o → AtMostOneLook (whole s new next) region dry looks o
   at_most_same looks o same (idle untouched) = idle (same ∙ untouched)
   at_most_same looks o same (looked {clock} {answer} l here) =
       let there : s.new l.look.store ≡ new l.look.store = sym (subst (λ (n : ℕ). new n ≡ s.new n) (sym here) same) in
@@ -182,7 +205,7 @@ module _ (s : Step) (new : ℕ → View) (next : Caller) (region : ℕ) (dry : B
         looked = subst (λ (v : View). Answered (s.starts l.look.store) (looking s.before region dry l.look clock) (s.old l.look.store) v answer) there l.looked;
       }) here
 
-  pub looks_more : (looks : List PlannedLook) (look : PlannedLook) (outcome : Result Made ShimFault) → Contains looks look → s.new look.store ≡ s.old look.store → CallerAfter s
+  looks_more : (looks : List PlannedLook) (look : PlannedLook) (outcome : Result Made ShimFault) → Contains looks look → s.new look.store ≡ s.old look.store → CallerAfter s
       → MayAsk (last s new next) look.store (Look region look.ids dry) outcome
       → ((o : ℕ) → AtMostOneLook s region dry looks o) → (o : ℕ) → AtMostOneLook (whole s new next) region dry looks o
   looks_more looks look outcome planned same caller (inl asked) so_far o =
@@ -191,20 +214,11 @@ module _ (s : Step) (new : ℕ → View) (next : Caller) (region : ℕ) (dry : B
       (cases_eq look.store o)
   looks_more looks look outcome planned same caller (inr none) so_far o = idle_more s new next none.0 (λ x. AtMostOneLook x region dry looks o) (so_far o)
 
--- How many entries there are more.
-
-a_look : (looks : List PlannedLook) (look : PlannedLook) (o : ℕ) → Contains looks look → look.store ≡ o → looks_at o looks ≡ 1
-a_look looks look o there is =
-    let at : (get_or looks there.0 look).store ≡ o = ap (λ (l : PlannedLook). l.store) there.2 ∙ is in
-    ap (λ (b : Bool). cond b 1 0) (list_any_at (λ (l : PlannedLook). l.store == o) looks there.0 look there.1 (eq-eqb (get_or looks there.0 look).store o at))
-
-pub made_bound : (s : Step) (region : ℕ) (dry : Bool) (looks : List PlannedLook) (o : ℕ) → AtMostOneLook s region dry looks o → length (s.new o).made ≤ length (s.old o).made + looks_at o looks
-made_bound s region dry looks o (idle same) = let e : length (s.new o).made ≡ length (s.old o).made = ap (λ (v : View). length v.made) same in omega arith
-made_bound s region dry looks o (looked {clock} {answer} l here) =
-    let one : length (s.new l.look.store).made ≤ length (s.old l.look.store).made + 1 =
-    one_answer (s.starts l.look.store) (looking s.before region dry l.look clock) (s.old l.look.store) (s.new l.look.store) answer l.looked in
-    let at : length (s.new o).made ≤ length (s.old o).made + 1 = subst (λ (n : ℕ). length (s.new n).made ≤ length (s.old n).made + 1) here one in
-    omega (arith, a_look looks l.look o l.planned here)
+  pub only_more : (looks : List PlannedLook) (look : PlannedLook) (outcome : Result Made ShimFault) → Contains looks look → s.new look.store ≡ s.old look.store
+      → MayAsk (last s new next) look.store (Look region look.ids dry) outcome → OnlyLooks s region dry looks → OnlyLooks (whole s new next) region dry looks
+  only_more looks look outcome planned same asked only =
+      only_looks (whole s new next) region dry looks (looks_more looks look outcome planned same only.caller asked only.once)
+      (caller_more s new next look.store (Look region look.ids dry) same only.caller outcome asked)
 
 -- Looks that were refused: the last stamp of the caller is still what it was.
 

@@ -119,6 +119,24 @@ unasked starts views who object call = inr (record { views = λ o. refl; caller 
 pub no_memory_of : {A : Type 0} (result : Result A ShimFault) → IsErrAnd result (λ fault. fault ≡ NoMemory) → result ≡ Err NoMemory
 no_memory_of result is = let e = err_from_is_err_and result is in e.1 ∙ ap Err e.2
 
+-- Before the first call.
+
+pub none_more : (es : List Entry) (e : Entry) → es ≡ es ++ e ∷ [] → ⊥
+none_more es e is = let longer : length es ≡ length (es ++ e ∷ []) = ap (λ (xs : List Entry). length xs) is in omega (arith, length_push es e)
+
+abbrev pub nothing : (ℕ → Option Start) → (ℕ → View) → Caller → Step
+nothing starts views who = record { starts = starts; old = views; new = views; before = who; after = who }
+
+pub after_nothing : (starts : ℕ → Option Start) (views : ℕ → View) (who : Caller) → CallerAfter (nothing starts views who)
+after_nothing starts views who =
+    record {
+      actor = refl;
+      span = refl;
+      since = omega arith;
+      stamps = λ o e added. absurd (none_more (views o).made e added);
+      reached = inl refl;
+    }
+
 -- One call more.
 
 -- the call behind a step, as a step, and the step with it

@@ -11,9 +11,9 @@ use Rattle.anti_shim.specs.declared.barrier_answer.BarrierAnswer.{BarrierAnswer}
 use Rattle.anti_shim.specs.declared.barrier_answer.BarrierAnswer.TheVariants.{Clear, NotYet, Unwritten, Full, Spent, NoMemory}
 use Rattle.anti_shim.specs.declared.looks.PlannedLook.{PlannedLook}
 use Rattle.anti_shim.specs.declared.sight.Sight.{Sight}
-use Rattle.anti_shim.specs.Steps.{Step, IsAdded, CallerAfter}
+use Rattle.anti_shim.specs.Steps.{Step, IsAdded}
 use Rattle.anti_shim.specs.Sights.{has_sight, unseen, HasSights}
-use Rattle.anti_shim.specs.Looks.{SomeLook, LastLook, AddsAtMost, AtMostOneLook, looks_at}
+use Rattle.anti_shim.specs.Looks.{SomeLook, LastLook, OnlyLooks}
 
 -- the sights that there are after a call: those that it hands out, else the cursor's
 abbrev pub sights_after : BarrierAnswer → List Sight → List Sight
@@ -73,6 +73,4 @@ pub record BarrierDoes (step : Step) (region : ℕ) (planned : List PlannedLook)
   pub gives : BarrierGives step region planned (unseen before planned) after answer
   pub sights : HasSights step.new step.after region planned (sights_after answer after)
   pub kept : KeepsSights step before (sights_after answer after)
-  pub looks : (o : ℕ) → AtMostOneLook step region false (unseen before planned) o
-  pub made : (o : ℕ) → AddsAtMost step o (looks_at o (unseen before planned))
-  pub caller : CallerAfter step
+  pub only : OnlyLooks step region false (unseen before planned)

@@ -6,7 +6,7 @@ use Rattle.anti_kind.specs.declared.call.Call.TheVariants.{Look}
 use Rattle.anti_kind.specs.declared.port.Answer.{Answer}
 use Rattle.anti_shim.specs.declared.caller.Caller.{Caller}
 use Rattle.anti_shim.specs.declared.looks.PlannedLook.{PlannedLook}
-use Rattle.anti_shim.specs.Steps.{Step, asking, IsAnswered}
+use Rattle.anti_shim.specs.Steps.{Step, CallerAfter, asking, IsAnswered}
 
 -- a look as a caller asks for it whose last stamp is `clock`
 abbrev pub looking : Caller → ℕ → Bool → PlannedLook → ℕ → Asking
@@ -43,3 +43,10 @@ AddsAtMost step o most = length (step.new o).made ≤ length (step.old o).made +
 -- how many entries these looks may add at an object: one at their stores, none elsewhere
 abbrev pub looks_at : ℕ → List PlannedLook → ℕ
 looks_at o looks = cond (list_any (λ look. look.store == o) looks) 1 0
+
+-- Of these looks some were made, at most one at an object, and nothing else was done. The caller has
+-- their stamps.
+pub record OnlyLooks (step : Step) (region : ℕ) (dry : Bool) (looks : List PlannedLook) : Type 0 where
+  pub once : (o : ℕ) → AtMostOneLook step region dry looks o
+  pub made : (o : ℕ) → AddsAtMost step o (looks_at o looks)
+  pub caller : CallerAfter step

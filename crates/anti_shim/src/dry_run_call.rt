@@ -1,8 +1,8 @@
 ghost use Rattle.std.specs.Prelude.{◌≡◌, ℕ, true};
 ghost use Rattle.anti_shim.specs.Plans.{plan};
-ghost use Rattle.anti_shim.specs.Steps.{between, CallerAfter};
+ghost use Rattle.anti_shim.specs.Steps.{between};
 ghost use Rattle.anti_shim.specs.Sights.{IsHere};
-ghost use Rattle.anti_shim.specs.Looks.{AddsAtMost, AtMostOneLook, looks_at};
+ghost use Rattle.anti_shim.specs.Looks.{OnlyLooks};
 ghost use Rattle.anti_shim.specs.DryRuns.{DryRunGives};
 ghost use Rattle.anti_shim.specs.inner.Looks.{SeesDry};
 
@@ -27,11 +27,8 @@ pub fn dry_run<P: Port>(
     requires { IsHere (P.start port.old) region here.now }
     ensures answer { let step = between P.Port port.old port.new who.old who.new in
         DryRunGives step region (plan here.now lineage.now) result }
-    ensures looks { let step = between P.Port port.old port.new who.old who.new in
-        (o : ℕ) → AtMostOneLook step region true (plan here.now lineage.now) o }
-    ensures made { let step = between P.Port port.old port.new who.old who.new in
-        (o : ℕ) → AddsAtMost step o (looks_at o (plan here.now lineage.now)) }
-    ensures caller { CallerAfter (between P.Port port.old port.new who.old who.new) }
+    ensures only { let step = between P.Port port.old port.new who.old who.new in
+        OnlyLooks step region true (plan here.now lineage.now) }
     ensures fixed { (o : ℕ) → P.start port.new o ≡ P.start port.old o }
 {
     let Ok(looks) = plan(alloc, here, lineage) else {

@@ -1,5 +1,5 @@
 use Rattle.std.proofs.lemmas.Grind.{common_steps}
-use Rattle.std.proofs.Common.{◌≡◌, ◌<◌, ◌≤◌, ◌+◌, ℕ, true, List, length, get_or, refl, ap, sym, ◌∙◌, subst, arith}
+use Rattle.std.proofs.Common.{◌≡◌, ◌<◌, ◌≤◌, ◌+◌, true, List, length, get_or, refl, ap, sym, ◌∙◌, subst, arith}
 use Rattle.std.specs.Prelude.{Result, Ok, Err}
 use Rattle.std.proofs.lemmas.Result.{err_from_is_err_and}
 use Rattle.anti_ids.specs.declared.id.WriteId.{WriteId}
@@ -8,14 +8,14 @@ use Rattle.anti_ids.specs.Ids.{has_id, with_ids}
 use Rattle.anti_shim.specs.declared.fault.ShimFault.{ShimFault}
 use Rattle.anti_shim.specs.declared.looks.PlannedLook.{PlannedLook}
 use Rattle.anti_shim.specs.Plans.{plan}
-use Rattle.anti_shim.specs.Steps.{between, CallerAfter}
-use Rattle.anti_shim.specs.Looks.{AtMostOneLook}
+use Rattle.anti_shim.specs.Steps.{between}
+use Rattle.anti_shim.specs.Looks.{OnlyLooks}
 use Rattle.anti_shim.specs.DryRuns.{DryRunGives}
 use Rattle.anti_shim.specs.inner.Looks.{SeesDry}
 use Rattle.anti_shim.proofs.NextCall.{last}
-use Rattle.anti_shim.proofs.LookLemmas.{made_bound}
+use Rattle.anti_shim.proofs.LookLemmas.{no_looks}
 use Rattle.anti_shim.proofs.PlanLemmas.{plan_right, plan_ids, plan_ascends}
-use Rattle.anti_shim.proofs.DryRunLoop.{DryTurn, dry_looked, dry_untouched, dry_caller, dry_part, dry_finds, dry_gives, union_short, part_more}
+use Rattle.anti_shim.proofs.DryRunLoop.{DryTurn, dry_only, dry_untouched, dry_part, dry_finds, dry_gives, union_short, part_more}
 use Rattle.anti_shim.proofs.dry_run_call.dry_run.Given as given
 use Rattle.anti_shim.proofs.dry_run_call.dry_run.Goals as goal
 use Rattle.anti_shim.proofs.dry_run_call.dry_run.Goals.{After-see_dry}
@@ -28,9 +28,8 @@ turn g c =
     record {
       right = plan_right (g.P.Port.start c.args.port.now) c.args.region c.args.here.now c.args.lineage.now c.requires;
       ascends = plan_ascends c.args.here.now c.args.lineage.now c.requires.ascending;
-      looked = c.loop-look.invariant.looked;
+      only = c.loop-look.invariant.only;
       untouched = c.loop-look.invariant.untouched;
-      caller = c.loop-look.invariant.caller;
       within = subst (λ (xs : List PlannedLook). c.loop-look.look-index < length xs) items c.loop-look-test.true;
       is = c.look-item.is ∙ ap (λ (xs : List PlannedLook). get_or xs c.loop-look.look-index c.look-item.result) items;
     }
@@ -54,23 +53,12 @@ returns-in_err-missing-clause-answer g c =
     let gives = dry_gives (turn g a) (seen g a (Err fault) c.in_err-missing.was) in
     subst (λ (r : Result (List WriteId) ShimFault). DryRunGives (between g.P.Port c.args.port.now c.see_dry.new.port c.args.who.now c.see_dry.new.who) c.args.region planned r) (sym is) gives
 
-looked : (g : given.Over) (c : After-see_dry g) (o : ℕ)
-    → AtMostOneLook (between g.P.Port c.args.port.now c.see_dry.new.port c.args.who.now c.see_dry.new.who) c.args.region true (plan c.args.here.now c.args.lineage.now) o
-looked g c = dry_looked (turn g c) (seen g c c.see_dry.result refl).asked
+only : (g : given.Over) (c : After-see_dry g)
+    → OnlyLooks (between g.P.Port c.args.port.now c.see_dry.new.port c.args.who.now c.see_dry.new.who) c.args.region true (plan c.args.here.now c.args.lineage.now)
+only g c = dry_only (turn g c) (seen g c c.see_dry.result refl).asked
 
-caller : (g : given.Over) (c : After-see_dry g) → CallerAfter (between g.P.Port c.args.port.now c.see_dry.new.port c.args.who.now c.see_dry.new.who)
-caller g c = dry_caller (turn g c) (seen g c c.see_dry.result refl).asked
-
-pub returns-in_err-missing-clause-looks : goal.returns-in_err-missing-clause-looks
-returns-in_err-missing-clause-looks g c = looked g (goal.at.returns-in_err-missing-clause-looks g c).After-see_dry
-
-pub returns-in_err-missing-clause-made : goal.returns-in_err-missing-clause-made
-returns-in_err-missing-clause-made g c o =
-    made_bound (between g.P.Port c.args.port.now c.see_dry.new.port c.args.who.now c.see_dry.new.who) c.args.region true (plan c.args.here.now c.args.lineage.now) o
-    (looked g (goal.at.returns-in_err-missing-clause-made g c).After-see_dry o)
-
-pub returns-in_err-missing-clause-caller : goal.returns-in_err-missing-clause-caller
-returns-in_err-missing-clause-caller g c = caller g (goal.at.returns-in_err-missing-clause-caller g c).After-see_dry
+pub returns-in_err-missing-clause-only : goal.returns-in_err-missing-clause-only
+returns-in_err-missing-clause-only g c = only g (goal.at.returns-in_err-missing-clause-only g c).After-see_dry
 
 -- What is named is a part of the lineage.
 
@@ -105,29 +93,21 @@ loop-look-preserved g c =
     let more : c.transfer.new.self.ids ≡ with_ids missing c.loop-look.named.ids = c.in-Ok-transfer.ensures.ok in
     let finds = dry_finds (turn g a) l c.loop-look.named.ids c.loop-look.invariant.finds in
     record {
-      looked = looked g a;
+      only = only g a;
       untouched = dry_untouched (turn g a) l.asked;
       finds = (finds.0, finds.1, more ∙ finds.2);
       part = λ id has. part_more missing c.loop-look.named.ids c.args.lineage.now (part g a missing gave) c.loop-look.invariant.part id (subst (λ (xs : List WriteId). has_id id xs ≡ true) more has);
       room = c.transfer.ensures.spare ∙ c.loop-look.invariant.room;
-      caller = caller g a;
       fixed = λ o. c.see_dry.ensures.fixed o ∙ c.loop-look.invariant.fixed o;
     }
 
 pub returns-clause-answer : goal.returns-clause-answer
 returns-clause-answer g c = grind (arith, common_steps)
 
-pub returns-clause-made : goal.returns-clause-made
-returns-clause-made g c = grind (arith, common_steps)
+pub returns-in_default-clause-only : goal.returns-in_default-clause-only
+returns-in_default-clause-only g c =
+    no_looks (g.P.Port.start c.args.port.now) (g.P.Port.view c.args.port.now) c.args.who.now c.args.region true (plan c.args.here.now c.args.lineage.now)
 
-pub loop-look-init : goal.loop-look-init
-loop-look-init g c = grind (arith, common_steps)
-
-pub returns-in_default-clause-caller : goal.returns-in_default-clause-caller
-returns-in_default-clause-caller g c = grind (arith, common_steps)
-
-pub returns-in_default-reserve-clause-caller : goal.returns-in_default-reserve-clause-caller
-returns-in_default-reserve-clause-caller g c = grind (arith, common_steps)
-
-pub returns-in_default-share-clause-made : goal.returns-in_default-share-clause-made
-returns-in_default-share-clause-made g c = grind (arith, common_steps)
+pub returns-in_default-reserve-clause-only : goal.returns-in_default-reserve-clause-only
+returns-in_default-reserve-clause-only g c =
+    no_looks (g.P.Port.start c.args.port.now) (g.P.Port.view c.args.port.now) c.args.who.now c.args.region true (plan c.args.here.now c.args.lineage.now)
