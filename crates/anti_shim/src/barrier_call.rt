@@ -32,7 +32,12 @@ pub fn barrier<P: Port>(
         BarrierDoes step region (plan here.now lineage.now) cursor.old cursor.new result }
     ensures fixed { (o : ℕ) → P.start port.new o ≡ P.start port.old o }
 {
-    go_over::<P, Once>(alloc, port, who, region, here, lineage, cursor)
+    let wanted = Wanted {
+        region,
+        here,
+        lineage,
+    };
+    go_over::<P, Once>(alloc, port, who, wanted, cursor)
 }
 
 /// As `barrier`, over a port whose calls may wait: each look is made once it is ready. It may wait,
@@ -53,7 +58,21 @@ pub fn barrier_wait<P: WaitPort>(
     ensures waits { result ≡ BarrierAnswer.NotYet → ⊥ }
     ensures fixed { (o : ℕ) → P.start port.new o ≡ P.start port.old o }
 {
-    go_over::<P, UntilReady>(alloc, port, who, region, here, lineage, cursor)
+    let wanted = Wanted {
+        region,
+        here,
+        lineage,
+    };
+    go_over::<P, UntilReady>(alloc, port, who, wanted, cursor)
+}
+
+// What a barrier waits for: that the ids of the lineage are visible in the region, each at its store
+// of `here`.
+#[derive(Drop)]
+struct Wanted<'a> {
+    region: u32,
+    here: &'a [u32],
+    lineage: &'a Lineage,
 }
 
 // A barrier over a port that is asked so.
@@ -61,26 +80,24 @@ fn go_over<P: Port, A: Asks<P>>(
     alloc: Global,
     port: &mut P,
     who: &mut Caller,
-    region: u32,
-    here: &[u32],
-    lineage: &Lineage,
+    wanted: Wanted,
     cursor: &mut Barrier,
 ) -> BarrierAnswer
-    requires here { IsHere (P.start port.old) region here.now }
-    requires sights { HasSights (P.view port.old) who.old region (plan here.now lineage.now) cursor.old }
+    requires here { IsHere (P.start port.old) wanted.region wanted.here.now }
+    requires sights { HasSights (P.view port.old) who.old wanted.region (plan wanted.here.now wanted.lineage.now) cursor.old }
     ensures answer { let step = between P.Port port.old port.new who.old who.new in
-        BarrierDoes step region (plan here.now lineage.now) cursor.old cursor.new result }
+        BarrierDoes step wanted.entry.region (plan wanted.entry.here.now wanted.entry.lineage.now) cursor.old cursor.new result }
     ensures waits { A.waits ≡ true → result ≡ BarrierAnswer.NotYet → ⊥ }
     ensures fixed { (o : ℕ) → P.start port.new o ≡ P.start port.old o }
 {
-    let Ok(looks) = plan(alloc, here, lineage) else {
+    let Ok(looks) = plan(alloc, wanted.here, wanted.lineage) else {
         return BarrierAnswer::NoMemory;
     };
     for look in looks.as_slice() {
         if cursor.has(look.store) {
             continue;
         }
-        if let Err(fault) = cursor.look::<P, A>(port, who, region, look) {
+        if let Err(fault) = cursor.look::<P, A>(port, who, wanted.region, look) {
             return BarrierAnswer::refused(fault);
         }
     }

@@ -1,7 +1,7 @@
 ghost use Rattle.std.specs.Prelude.{◌≡◌, ℕ, Err, is_some, true};
 ghost use Rattle.anti_shim.specs.Steps.{between, IsAsked};
 
-use crate::asks::{Asks, Once};
+use crate::asks::Asks;
 use crate::fault::ShimFault;
 use anti_kind::{Actor, Answer, Call, Port, Reply};
 
@@ -23,22 +23,9 @@ pub struct Made {
 }
 
 impl Caller {
-    // Makes one call on an object of a port. Where the port refuses it, the fault says so.
-    pub(crate) fn ask<P: Port>(
-        &mut self,
-        port: &mut P,
-        object: u32,
-        call: Call,
-    ) -> Result<Made, ShimFault>
-        ensures answer { let step = between P.Port port.old port.new self.old self.new in
-            IsAsked step object call result }
-        ensures fixed { (o : ℕ) → P.start port.new o ≡ P.start port.old o }
-    {
-        self.ask_by::<P, Once>(port, object, call)
-    }
-
-    // Makes one call on an object of a port that is asked so.
-    pub(crate) fn ask_by<P: Port, A: Asks<P>>(
+    // Makes one call on an object of a port that is asked so. Where the port refuses it, the fault
+    // says so.
+    pub(crate) fn ask<P: Port, A: Asks<P>>(
         &mut self,
         port: &mut P,
         object: u32,

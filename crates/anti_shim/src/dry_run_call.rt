@@ -6,6 +6,7 @@ ghost use Rattle.anti_shim.specs.Looks.{OnlyLooks};
 ghost use Rattle.anti_shim.specs.DryRuns.{DryRunGives};
 ghost use Rattle.anti_shim.specs.inner.Looks.{SeesDry};
 
+use crate::asks::Once;
 use crate::caller::Caller;
 use crate::fault::ShimFault;
 use crate::looks::plan;
@@ -68,7 +69,7 @@ fn see_dry<P: Port>(
         ids,
         dry: true,
     };
-    let made = who.ask(port, store, look)?;
+    let made = who.ask::<P, Once>(port, store, look)?;
     let Reply::Missing { missing, .. } = made.reply else {
         // by `IsAsked`: the entry that was made has the reply that its call is due
         unreachable!()

@@ -49,7 +49,7 @@ pub(crate) fn see<P: Port, A: Asks<P>>(
         place,
         stamp,
         reply,
-    } = who.ask_by::<P, A>(port, store, look)?;
+    } = who.ask::<P, A>(port, store, look)?;
     let Reply::Missing { unwritten, .. } = reply else {
         // by `IsAsked`: the entry that was made has the reply that its call is due
         unreachable!()

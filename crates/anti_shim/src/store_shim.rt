@@ -91,7 +91,7 @@ impl<K> StoreShim<K> {
             value,
             lineage: stored,
         };
-        match who.ask(port, self.store, write)?.reply {
+        match who.ask::<P, Once>(port, self.store, write)?.reply {
             Reply::Written { key, version } => Ok(WriteId {
                 store: self.store,
                 key: *key.get(),
@@ -131,7 +131,7 @@ impl<K: ReadByKey> StoreShim<K> {
         ensures fixed { (o : ℕ) → P.start port.new o ≡ P.start port.old o }
     {
         let region = self.region;
-        let made = who.ask(port, self.store, Call::Read { region, key })?;
+        let made = who.ask::<P, Once>(port, self.store, Call::Read { region, key })?;
         Ok(only_row(made.reply))
     }
 }
@@ -151,7 +151,7 @@ impl StoreShim<TableStore> {
         ensures fixed { (o : ℕ) → P.start port.new o ≡ P.start port.old o }
     {
         let region = self.region;
-        let made = who.ask(port, self.store, Call::Scan { region, prefix })?;
+        let made = who.ask::<P, Once>(port, self.store, Call::Scan { region, prefix })?;
         let Reply::Shown(rows) = made.reply else {
             // by `IsAsked`: the entry that was made has the reply that its call is due
             unreachable!()
@@ -169,7 +169,7 @@ impl StoreShim<TopicStore> {
         ensures fixed { (o : ℕ) → P.start port.new o ≡ P.start port.old o }
     {
         let region = self.region;
-        let made = who.ask(port, self.store, Call::Poll { region, key })?;
+        let made = who.ask::<P, Once>(port, self.store, Call::Poll { region, key })?;
         Ok(only_row(made.reply))
     }
 }

@@ -8,9 +8,9 @@ use Rattle.anti_shim.proofs.barrier_call.go_over.Given as goal
 abbrev pub invariant-loop-look : goal.invariant-loop-look
 invariant-loop-look g l =
     let s = between g.P.Port l.fn.port l.port l.fn.who l.who in
-    let planned = plan l.here l.lineage in
+    let planned = plan l.wanted.here.now l.wanted.lineage.now in
     record {
-      went : Went s l.region planned l.fn.cursor l.cursor;
+      went : Went s l.wanted.region planned l.fn.cursor l.cursor;
       unasked : Unasked s l.cursor;
       covered : All (λ look. has_sight l.cursor look.store ≡ true) (take l.look-index planned);
       fixed : (o : ℕ) → g.P.Port.start l.port o ≡ g.P.Port.start l.fn.port o;

@@ -8,7 +8,7 @@ use Rattle.anti_shim.proofs.sight.see.Goals as goal
 pub returns-clause-answer : goal.returns-clause-answer
 returns-clause-answer g c =
     let made = c.in_ok-place.field-0 in
-    let s = between g.P.Port c.args.port.now c.ask_by.new.port c.args.who.now c.ask_by.new.self in
+    let s = between g.P.Port c.args.port.now c.ask.new.port c.args.who.now c.ask.new.self in
     record {
       outcome = Ok made;
       asked = inl c.in_ok-place.ensures.answer;
