@@ -1,6 +1,7 @@
 -- A block as a list of its statements.
 use Rattle.std.proofs.Common.{◌≡◌, List, [], ◌∷◌, refl, ap}
-use Rattle.anti_lang.specs.Bodies.{block_from, list_of}
+use Rattle.anti_lang.specs.Bodies.{block_from}
+use Rattle.anti_lang.specs.Steps.{list_of}
 use Rattle.anti_lang.specs.Program.{Step, Block, End, Then}
 
 pub list_again : (steps : List Step) → list_of (block_from steps) ≡ steps

@@ -15,7 +15,8 @@ use Rattle.anti_rules.specs.declared.rule.Rule.TheVariants.{PlainNames}
 use Rattle.anti_rules.specs.declared.place.Part.TheVariants.{Service}
 use Rattle.anti_rules.proofs.Holds.{each_kept, wanted, each_wanted, each_handler}
 use Rattle.anti_app.specs.Parts.{regions_of, handler_of, service_of, services_of}
-use Rattle.anti_app.specs.Sound.{has_named, is_served, fits_services}
+use Rattle.anti_app.specs.Objects.{has_named}
+use Rattle.anti_app.specs.Sound.{is_served, fits_services}
 use Rattle.anti_app.proofs.Lookups.{name_stays, first_passes, first_good, any_made, any_found}
 use Rattle.anti_app.proofs.Kept.{some_passes}
 

@@ -14,7 +14,7 @@ use Rattle.anti_lang.specs.Blocks.{lines_of}
 use Rattle.anti_lang.specs.Faults.{block_fault, variable_fault}
 use Rattle.anti_lang.specs.Spans.{spans_of}
 use Rattle.anti_ids.specs.declared.limits.TheConstants.{GREATEST_SEED, LONGEST_VALUE, MOST_CHOICES, MOST_COUNTED, MOST_HANDLERS, MOST_LINES, MOST_REGIONS, MOST_REPLICAS, MOST_REQUESTS, MOST_SERVICES, MOST_STORES, MOST_SUBS, MOST_TRIES, MOST_WORKERS}
-use Rattle.anti_kind.specs.Store.{is_pulled}
+use Rattle.anti_kind.specs.Starts.{is_pulled}
 use Rattle.anti_app.specs.Sound.{are_distinct, is_few, is_sound_store, is_stored, fits_stores, fits_services, is_sound_body, is_sound_handler, is_sound_service, has_handler, hands_out, hands_to, is_sound_sub, is_sound_request, is_countable, is_part, is_shipment, is_sound_choice, are_sound_regions, are_sound_stores, are_sound_services, are_sound_subs, are_sound_requests, are_sound_choices, are_sound_numbers, is_sound}
 use Rattle.anti_app.proofs.Kept.{some_passes}
 use Rattle.anti_app.specs.declared.app.App.{App}

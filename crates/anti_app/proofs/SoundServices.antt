@@ -22,7 +22,8 @@ use Rattle.anti_rules.proofs.Holds.{NoHandlerFails, each_kept, wanted, each_want
 use Rattle.anti_app.specs.declared.app.ServiceDef.{ServiceDef}
 use Rattle.anti_app.specs.declared.app.HandlerDef.{HandlerDef}
 use Rattle.anti_app.specs.Parts.{number_or_0, regions_of, region_number, stores_of, handler_of, service_of, services_of, service_number, handler_number, handler_in, value_or_empty, request_of, requests_of}
-use Rattle.anti_app.specs.Sound.{are_distinct, is_stored, has_named, is_sound_handler, is_sound_service, are_sound_services, has_handler, is_sound_request, are_sound_requests}
+use Rattle.anti_app.specs.Sound.{are_distinct, is_stored, is_sound_handler, is_sound_service, are_sound_services, has_handler, is_sound_request, are_sound_requests}
+use Rattle.anti_app.specs.Objects.{has_named}
 use Rattle.anti_app.proofs.Lookups.{name_stays, first_found, first_good, first_numbered, first_made, distinct_made}
 use Rattle.anti_app.proofs.Kept.{FailsNone, FailNone, each_sound, each_true, counts_at, table_kept, length_made, names_back, some_passes}
 use Rattle.anti_app.proofs.SoundLemmas.{service_known}

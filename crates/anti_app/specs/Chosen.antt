@@ -125,11 +125,6 @@ abbrev pub choices_from : App → ℕ → List Data → Result (List Choice) ℕ
 choices_from app before [] = Ok []
 choices_from app before (d ∷ ds) = choice_or (next before) (choice_of app d) (choices_from app (next before) ds)
 
--- what is made of choices, where none is wrong
-abbrev pub if_chosen : {T : Type 0} → (List Choice → T) → Result (List Choice) ℕ → Result T ℕ
-if_chosen make (Ok choices) = Ok (make choices)
-if_chosen make (Err number) = Err number
-
 -- The choices of a document, or the number, counted from 1, of the first that is none.
 abbrev pub choices_of : Members → Result (List Choice) ℕ
 choices_of doc = choices_from (app_with doc []) 0 (things_at (codes "choices") doc)

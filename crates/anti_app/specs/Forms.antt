@@ -4,11 +4,6 @@ use Rattle.std.specs.List.{find}
 use Rattle.std.specs.Str.{bytes_eq}
 use Rattle.anti_app.specs.declared.form.ChoiceForm.{ChoiceForm}
 use Rattle.anti_app.specs.declared.form.ChoiceForm.TheVariants.{Take, Repost, Pull, Repull, Ship, Again, Go, Finish}
-use Rattle.anti_app.specs.declared.form.FormRow.{FormRow}
-
--- the word and the form of a row of the code
-abbrev pub row_view : FormRow → List ℕ × ChoiceForm
-row_view row = (row.0.now, row.1)
 
 -- The words and their forms.
 abbrev pub form_rows : List (List ℕ × ChoiceForm)

@@ -5,4 +5,6 @@ pub mod Sound
 pub mod Stated
 pub mod Subs
 pub mod Objects
+pub mod Numbers
 pub mod Running
+pub mod inner

@@ -1,20 +1,22 @@
 -- The numbers of objects and handlers. The stores come first, in the order of the application, and then the inboxes of its
 -- services.
-use Rattle.std.specs.Prelude.{ℕ, ◌<◌, ◌≤◌, ◌+◌, suc, ◌==◌, Bool, true, false, List, [], ◌∷◌, Option, Some, None, length, map, nat_lt, slice_get, ◌-◌, if◌then◌else◌}
+use Rattle.std.specs.Prelude.{ℕ, ◌+◌, suc, ◌==◌, Bool, true, false, List, [], ◌∷◌, Option, Some, None, length, map, nat_lt, slice_get, ◌-◌, if◌then◌else◌}
 use Rattle.std.specs.List.{list_any}
 use Rattle.std.specs.Option.{option_map_or}
-use Rattle.anti_app.specs.Sound.{has_named}
 use Rattle.std.specs.Str.{bytes_eq}
 use Rattle.anti_kind.specs.Store.{is_queue}
-use Rattle.anti_lang.specs.Bodies.{block_of, step_of}
-use Rattle.anti_lang.specs.Program.{Block, Step, End}
-use Rattle.anti_lang.specs.declared.statement.Statement.{Statement}
+use Rattle.anti_lang.specs.Bodies.{block_of}
+use Rattle.anti_lang.specs.Program.{Block, End}
 use Rattle.anti_app.specs.declared.app.App.{App}
 use Rattle.anti_app.specs.declared.app.HandlerDef.{HandlerDef}
 use Rattle.anti_app.specs.declared.app.ServiceDef.{ServiceDef}
 use Rattle.anti_app.specs.declared.app.StoreDef.{StoreDef}
 use Rattle.anti_app.specs.declared.objects.ObjectAt.{ObjectAt}
 use Rattle.anti_app.specs.declared.objects.ObjectAt.TheVariants.{Store, Inbox}
+
+-- Whether a service of this name has a handler of that name.
+abbrev pub has_named : List ℕ → List HandlerDef → Bool
+has_named name handlers = list_any (λ handler. bytes_eq handler.name name) handlers
 
 -- the place of the store with a name among these, counted from 0; how many they are, where none has the name
 abbrev pub store_among : List StoreDef → List ℕ → ℕ
@@ -56,20 +58,9 @@ object_at app number =
 abbrev pub is_store : App → ℕ → Bool
 is_store app number = nat_lt number (length app.stores.items)
 
--- the number of a store, and that of an inbox
-abbrev pub IsStore : App → ℕ → Type 0
-IsStore app number = number < length app.stores.items
-
-abbrev pub IsInbox : App → ℕ → Type 0
-IsInbox app number = (length app.stores.items ≤ number) × (number < object_count app)
-
 -- the number of the inbox of a service
 abbrev pub inbox_number : App → ℕ → ℕ
 inbox_number app service = length app.stores.items + service
-
--- the service of an inbox
-abbrev pub service_at : App → ℕ → ℕ
-service_at app inbox = inbox - length app.stores.items
 
 -- the inbox of the service with a name
 abbrev pub inbox_of : App → List ℕ → ℕ
@@ -86,10 +77,6 @@ handler_number app service name = handler_in (slice_get app.services.items servi
 -- whether a service has a handler with a name
 abbrev pub has_handler : App → ℕ → List ℕ → Bool
 has_handler app service name = option_map_or (λ s. has_named name s.handlers.items) (slice_get app.services.items service) false
-
--- the statements of the code
-abbrev pub steps_of : List Statement → List Step
-steps_of statements = map step_of statements
 
 -- the body of a handler by its number; the empty one, where there is no such handler
 abbrev pub body_in : Option HandlerDef → Block

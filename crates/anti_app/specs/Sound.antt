@@ -5,7 +5,8 @@ use Rattle.std.specs.Option.{option_map_or}
 use Rattle.std.specs.Str.{bytes_eq}
 use Rattle.anti_ids.specs.Names.{is_plain}
 use Rattle.anti_kind.specs.declared.store_kind.StoreKind.{StoreKind}
-use Rattle.anti_kind.specs.Store.{has_keys, is_pulled, is_scanned, is_topic}
+use Rattle.anti_kind.specs.Store.{has_keys, is_scanned, is_topic}
+use Rattle.anti_kind.specs.Starts.{is_pulled}
 use Rattle.anti_lang.specs.Program.{Block, Write, Read, Scan, Poll, Call, Send}
 use Rattle.anti_lang.specs.Bodies.{block_of}
 use Rattle.anti_lang.specs.Lines.{Line, Does}
@@ -21,6 +22,7 @@ use Rattle.anti_app.specs.declared.app.RequestDef.{RequestDef}
 use Rattle.anti_app.specs.declared.app.SubDef.{SubDef}
 use Rattle.anti_app.specs.declared.app.Choice.{Choice}
 use Rattle.anti_app.specs.declared.app.Choice.TheVariants.{Take, Repost, Pull, Repull, Ship, Again, Go, Finish}
+use Rattle.anti_app.specs.Objects.{has_named}
 
 -- No two of these are the same.
 abbrev pub are_distinct : {T : Type 0} → (T → T → Bool) → List T → Bool
@@ -59,10 +61,6 @@ fits_stores stores region (Does (Read store key variable)) = is_near has_keys st
 fits_stores stores region (Does (Scan store prefix variable)) = is_near is_scanned stores store region
 fits_stores stores region (Does (Poll store key variable)) = is_near is_topic stores store region
 fits_stores stores region line = true
-
--- Whether a service of this name has a handler of that name.
-abbrev pub has_named : List ℕ → List HandlerDef → Bool
-has_named name handlers = list_any (λ handler. bytes_eq handler.name name) handlers
 
 abbrev pub is_served : List ServiceDef → List ℕ → List ℕ → Bool
 is_served services service handler = list_any (λ s. bytes_eq s.name service && has_named handler s.handlers.items) services

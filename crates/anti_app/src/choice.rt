@@ -2,7 +2,8 @@ ghost use Rattle.std.specs.Prelude.{◌≡◌, ◌==◌, map, option_map, IfOk, 
 ghost use Rattle.anti_ids.specs.Ascii.{dot};
 ghost use Rattle.anti_ids.specs.List.{plain};
 ghost use Rattle.toml.specs.View.{view};
-ghost use Rattle.anti_app.specs.Chosen.{number_of, object_place, object_number, if_both, service_named, sub_named, part_of, bringing, ship, again, go_to, choice_by, choice_in, choice_of, choices_from, if_chosen};
+ghost use Rattle.anti_app.specs.Chosen.{number_of, object_place, object_number, if_both, service_named, sub_named, part_of, bringing, ship, again, go_to, choice_by, choice_in, choice_of, choices_from};
+ghost use Rattle.anti_app.specs.inner.Choices.{if_chosen};
 
 use crate::app::{App, Choice, Choices};
 use crate::form::{ChoiceForm, form_of};

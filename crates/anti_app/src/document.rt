@@ -7,7 +7,8 @@ ghost use Rattle.anti_rules.specs.Order.{first_breach};
 ghost use Rattle.anti_rules.specs.inner.Parses.{all_bodies};
 ghost use Rattle.anti_app.specs.Sound.{is_sound};
 ghost use Rattle.anti_app.specs.Parts.{seed_of, workers_of};
-ghost use Rattle.anti_app.specs.Chosen.{app_with, choices_of, if_chosen};
+ghost use Rattle.anti_app.specs.Chosen.{app_with, choices_of};
+ghost use Rattle.anti_app.specs.inner.Choices.{if_chosen};
 ghost use Rattle.anti_app.specs.Stated.{app_of, app_or, app_unless};
 ghost use Rattle.anti_app.specs.declared.app.AppFault.TheVariants as faults;
 

@@ -1,5 +1,6 @@
 ghost use Rattle.std.specs.Prelude.{◌≡◌, map};
-ghost use Rattle.anti_app.specs.Forms.{row_view, form_rows, form_of};
+ghost use Rattle.anti_app.specs.inner.Choices.{row_view};
+ghost use Rattle.anti_app.specs.Forms.{form_rows, form_of};
 
 /// The form of a choice: what its words name. Its first word says which form it has.
 #[derive(Clone, Copy)]

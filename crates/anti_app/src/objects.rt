@@ -1,9 +1,8 @@
 ghost use Rattle.std.specs.Prelude.{◌≡◌, ℕ, ◌<◌, ◌≤◌, Some, length, option_map, slice_get, IfOk};
-ghost use Rattle.anti_lang.specs.Bodies.{list_of};
-ghost use Rattle.anti_app.specs.Sound.{has_named};
+ghost use Rattle.anti_lang.specs.Steps.{list_of, steps_of};
+ghost use Rattle.anti_app.specs.Objects.{has_named, body_among, body_of, handler_among, handler_number, has_handler, inbox_number, inbox_of, is_here, is_queue_at, is_store, object_at, object_count, region_of, service_among, store_among, store_names, store_number, stores_here};
 ghost use Rattle.anti_app.specs.Running.{CanRun};
-ghost use Rattle.anti_app.specs.Objects.{steps_of};
-ghost use Rattle.anti_app.specs.Objects.{body_among, body_of, handler_among, handler_number, has_handler, inbox_number, inbox_of, is_here, is_queue_at, is_store, object_at, object_count, region_of, service_among, service_at, store_among, store_names, store_number, stores_here};
+ghost use Rattle.anti_app.specs.Numbers.{service_at};
 
 use crate::app::{App, HandlerDef, ServiceDef, StoreDef};
 use anti_ids::{Name, NoMemory};

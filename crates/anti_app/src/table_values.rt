@@ -1,6 +1,6 @@
 ghost use Rattle.std.specs.Prelude.{◌≡◌, [], ◌∷◌, OnOk};
 ghost use Rattle.std.specs.Option.{option_and_then};
-ghost use Rattle.anti_ids.specs.List.{pushed};
+ghost use Rattle.anti_ids.specs.ListCalls.{pushed};
 ghost use Rattle.toml.specs.Data.{get_member, as_integer};
 ghost use Rattle.toml.specs.View.{view, table_view};
 ghost use Rattle.anti_rules.specs.Trees.{member_in};

@@ -10,7 +10,8 @@ use Rattle.std.proofs.lemmas.Bool.{cond-true}
 use Rattle.std.proofs.lemmas.Option.{slice_get-get_or}
 use Rattle.anti_ids.specs.Answers.{AnswersBut}
 use Rattle.anti_ids.specs.Each.{Each}
-use Rattle.anti_ids.specs.Ids.{IsAscending, id_cmp, with_id}
+use Rattle.anti_ids.specs.Invariants.{IsAscending}
+use Rattle.anti_ids.specs.Ids.{id_cmp, with_id}
 use Rattle.anti_ids.specs.declared.limits.TheConstants.{MOST_IDS}
 use Rattle.anti_ids.proofs.IdLemmas.{turned_back, each_weaker, with_id-last}
 use Rattle.anti_ids.proofs.Places.{goes_behind}

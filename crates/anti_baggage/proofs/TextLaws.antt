@@ -17,7 +17,8 @@ use Rattle.std.proofs.lemmas.List.Splits.{slice_split_none, slice_split_at, join
 use Rattle.std.proofs.lemmas.Option.{unwrap_or-slice_get}
 use Rattle.percent_encoding.specs.Percent.{percent_decode}
 use Rattle.anti_ids.specs.Each.{Each}
-use Rattle.anti_ids.specs.Ids.{IsAscending, id_cmp}
+use Rattle.anti_ids.specs.Invariants.{IsAscending}
+use Rattle.anti_ids.specs.Ids.{id_cmp}
 use Rattle.anti_ids.specs.Names.{is_name}
 use Rattle.anti_ids.specs.declared.id.WriteId.{WriteId}
 use Rattle.anti_ids.proofs.Decimals.{decimal_back}

@@ -3,7 +3,7 @@ use Rattle.std.specs.Prelude.{◌≡◌, ℕ, ◌<◌, ◌^◌, Bool, true, not,
 use Rattle.std.specs.List.{list_all, list_any}
 use Rattle.std.specs.Str.{bytes_eq}
 use Rattle.anti_ids.specs.Each.{Each}
-use Rattle.anti_ids.specs.Ids.{IsLineage}
+use Rattle.anti_ids.specs.Invariants.{IsLineage}
 use Rattle.anti_ids.specs.Names.{is_name}
 use Rattle.anti_ids.specs.declared.id.WriteId.{WriteId}
 

@@ -36,7 +36,8 @@ pub struct Baggage {
 impl Model for Baggage {
     ghost use Rattle.std.specs.Prelude.{ℕ};
     ghost use Rattle.std.specs.Coded.{coded_ℕ};
-    ghost use Rattle.anti_ids.specs.List.{Listed, list_code};
+    ghost use Rattle.anti_ids.specs.List.{Listed};
+    ghost use Rattle.anti_ids.specs.ListCalls.{list_code};
     ghost use Rattle.anti_baggage.specs.inner.Kept.{IsKept};
 
     ghost Value = { Listed ℕ };

@@ -1,6 +1,6 @@
 ghost use Rattle.std.specs.Prelude.{◌≡◌, ◌≤◌, ℕ, length, take, OnOk, OnErr, IsOk, IsTrue};
 ghost use Rattle.std.specs.Str.{bytes_eq};
-ghost use Rattle.anti_ids.specs.List.{extended};
+ghost use Rattle.anti_ids.specs.ListCalls.{extended};
 ghost use Rattle.anti_baggage.specs.Escapes.{is_unreserved, escaped_byte, escaped};
 
 use anti_ids::{List, NoMemory};

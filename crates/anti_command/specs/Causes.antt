@@ -18,14 +18,6 @@ IsTooLong bytes = LONGEST_DOCUMENT < length bytes
 abbrev pub IsRefused : AppFault → List ℕ → Type 0
 IsRefused fault bytes = (length bytes ≤ LONGEST_DOCUMENT) × (application_of bytes ≡ Err fault)
 
--- the bytes state no application, and this is the fault that tells why
-abbrev pub IsFaultOf : List ℕ → TopFault → Type 0
-IsFaultOf bytes NotToml = application_of bytes ≡ Err app.NotToml
-IsFaultOf bytes (BadApp rule place) = application_of bytes ≡ Err (app.Bad rule place)
-IsFaultOf bytes (BadChoice number) = application_of bytes ≡ Err (app.BadChoice number)
-IsFaultOf bytes NoMemory = Unit {0}
-IsFaultOf bytes _ = ⊥
-
 -- the source is to be read, and this is true of the bytes that it tells
 abbrev pub OfSource : Option Command → Option (List ℕ) → (List ℕ → Type 0) → Type 0
 OfSource asked left IsSo = (reads_source asked ≡ true) × IfSome left IsSo

@@ -1,16 +1,7 @@
 -- The status of a fault, and with which the text is written.
 use Rattle.std.specs.Prelude.{ℕ, Option, None, Some, Bool, true, false}
-use Rattle.anti_app.specs.declared.app.AppFault.{AppFault}
-use Rattle.anti_app.specs.declared.app.AppFault.TheVariants as app
 use Rattle.anti_command.specs.declared.fault.TopFault.{TopFault}
 use Rattle.anti_command.specs.declared.fault.TopFault.TheVariants.{Usage, ReadFault, WriteFault, TooLong, NotToml, BadApp, BadChoice, NoMemory}
-
--- the fault of the call for the fault of its bytes
-abbrev pub fault_of : AppFault → TopFault
-fault_of app.NotToml = NotToml
-fault_of (app.Bad rule place) = BadApp rule place
-fault_of (app.BadChoice number) = BadChoice number
-fault_of app.NoMemory = NoMemory
 
 abbrev pub status_of : Option TopFault → ℕ
 status_of None = 0

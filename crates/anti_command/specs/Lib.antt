@@ -2,7 +2,9 @@ pub mod Words
 pub mod Rows
 pub mod Lines
 pub mod Faults
+pub mod Conversions
 pub mod Runs
 pub mod Placed
 pub mod Commands
 pub mod Causes
+pub mod inner

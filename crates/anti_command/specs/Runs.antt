@@ -1,9 +1,8 @@
 -- What bytes state, a run of an application, what this is worth, and its printed forms.
-use Rattle.std.specs.Prelude.{ℕ, ◌≡◌, ◌≤◌, List, length, Option, IfSome, Result, Ok, IsTrue}
+use Rattle.std.specs.Prelude.{ℕ, ◌≡◌, ◌≤◌, List, length, Option, IfSome, Result, Ok}
 use Rattle.anti_ids.specs.List.{plain}
 use Rattle.anti_app.specs.declared.app.App.{App}
 use Rattle.anti_app.specs.declared.app.AppFault.{AppFault}
-use Rattle.anti_app.specs.Sound.{is_sound}
 use Rattle.anti_app.specs.Stated.{app_of}
 use Rattle.anti_report.specs.Report.{IsPrinted, Told}
 use Rattle.anti_trace.specs.Legal.{IsLegalTrace}
@@ -20,10 +19,6 @@ application_of bytes = app_of bytes
 -- the application is that which the bytes state, where the source tells them
 abbrev pub IsStated : Option (List ℕ) → App → Type 0
 IsStated left app = IfSome left (λ bytes. (length bytes ≤ LONGEST_DOCUMENT) × (application_of bytes ≡ Ok app))
-
--- an application that can be played
-unfoldable pub IsPlayable : App → Type 0
-IsPlayable app = IsTrue (is_sound app)
 
 -- the choices of the application were played, each in its turn
 unfoldable pub IsPlayed : RunKept → Type 0

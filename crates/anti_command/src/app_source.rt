@@ -2,8 +2,9 @@ ghost use Rattle.std.specs.Prelude.{◌≡◌, ◌≤◌, length, Some, false, t
 ghost use Rattle.anti_ids.specs.Counts.{Rose};
 ghost use Rattle.anti_command.specs.Faults.{writes};
 ghost use Rattle.anti_command.specs.Commands.{reads_source};
-ghost use Rattle.anti_command.specs.Causes.{HasCause, IsFaultOf};
-ghost use Rattle.anti_command.specs.Runs.{application_of, IsPlayable, IsStated};
+ghost use Rattle.anti_command.specs.Causes.{HasCause};
+ghost use Rattle.anti_command.specs.inner.Stated.{IsFaultOf, IsPlayable};
+ghost use Rattle.anti_command.specs.Runs.{application_of, IsStated};
 
 use crate::command::Command;
 use crate::fault::TopFault;
@@ -30,7 +31,7 @@ fn document<S: Source>(alloc: Global, src: &mut S) -> Result<Bytes, TopFault>
 }
 
 // The application that the bytes state.
-#[tactic(auto, unfolding(crate::specs::Runs::application_of, crate::specs::Runs::IsPlayable))]
+#[tactic(auto, unfolding(crate::specs::Runs::application_of, crate::specs::inner::Stated::IsPlayable))]
 fn application(alloc: Global, bytes: &[u8]) -> Result<App, TopFault>
     ensures states { IfOk result (λ app. application_of bytes.now ≡ Ok app) }
     ensures sound { IfOk result IsPlayable }

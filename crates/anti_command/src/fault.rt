@@ -1,5 +1,6 @@
 ghost use Rattle.std.specs.Prelude.{◌≡◌, ◌≤◌, ◌++◌, length, codes, decimal};
-ghost use Rattle.anti_command.specs.Faults.{fault_of, status_of};
+ghost use Rattle.anti_command.specs.Conversions.{fault_of};
+ghost use Rattle.anti_command.specs.Faults.{status_of};
 ghost use Rattle.anti_command.specs.Lines.{line_of, part_word};
 
 use anti_app::{AppFault, Part, Place};
@@ -31,7 +32,7 @@ pub enum TopFault {
 }
 
 impl From<AppFault> for TopFault {
-    ghost use Rattle.anti_command.specs.Faults.{fault_of};
+    ghost use Rattle.anti_command.specs.Conversions.{fault_of};
 
     ghost from_gives = { λ cause fault. fault ≡ fault_of cause };
 

@@ -4,7 +4,8 @@ ghost use Rattle.anti_command.specs.Faults.{writes};
 ghost use Rattle.anti_command.specs.Commands.{reads_source, IsDone, IsFrom, IsMade};
 ghost use Rattle.anti_command.specs.Rows.{Document, Run};
 ghost use Rattle.anti_command.specs.Causes.{HasCause};
-ghost use Rattle.anti_command.specs.Runs.{IsPlayable, IsStated};
+ghost use Rattle.anti_command.specs.inner.Stated.{IsPlayable};
+ghost use Rattle.anti_command.specs.Runs.{IsStated};
 ghost use Rattle.anti_load.specs.Load.{load_application};
 
 use crate::app_source::app_of;
@@ -23,7 +24,7 @@ use law_placed::placed_applications_keep_all;
 use std::alloc::Global;
 
 // Plays the choices of the application, and prints the run in this form.
-#[tactic(auto, unfolding(crate::specs::Runs::IsPlayable, crate::specs::Runs::IsLegalRun, crate::specs::Runs::IsPrintOf))]
+#[tactic(auto, unfolding(crate::specs::inner::Stated::IsPlayable, crate::specs::Runs::IsLegalRun, crate::specs::Runs::IsPrintOf))]
 fn play_app<F: Form>(alloc: Global, app: App) -> Result<Prepared, NoMemory>
     requires { IsPlayable app }
     ensures { IfOk result (λ p.
@@ -50,7 +51,7 @@ pub fn play_document<F: Form, S: Source>(alloc: Global, src: &mut S) -> Result<P
 
 /// Finds whether barriers, transfers and roots stand where they must in the document that the source has. Each error has its cause, and none
 /// is of writing.
-#[tactic(auto, unfolding(crate::specs::Runs::IsPlayable))]
+#[tactic(auto, unfolding(crate::specs::inner::Stated::IsPlayable))]
 pub fn place_document<S: Source>(alloc: Global, src: &mut S) -> Result<Prepared, TopFault>
     ensures done { IfOk result (λ p.
         IsDone (Some Command.Place) (S.left src.old) p.0 p.1.items) }
@@ -66,7 +67,7 @@ pub fn place_document<S: Source>(alloc: Global, src: &mut S) -> Result<Prepared,
 }
 
 /// Plays the load of so many requests, and prints the run in this form. Nothing is read. The only error is want of memory.
-#[tactic(auto, unfolding(crate::specs::Runs::IsPlayable))]
+#[tactic(auto, unfolding(crate::specs::inner::Stated::IsPlayable))]
 pub fn play_load<F: Form>(alloc: Global, requests: u32) -> Result<Prepared, NoMemory>
     requires { requests ≤ MOST_REQUESTS }
     ensures { IfOk result (λ p.

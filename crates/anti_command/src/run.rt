@@ -1,5 +1,6 @@
 ghost use Rattle.std.specs.Prelude.{◌≡◌, IfOk};
-ghost use Rattle.anti_command.specs.Runs.{IsPlayable, IsLegalRun, IsPlayed, FindsAll, ExplainsSpans};
+ghost use Rattle.anti_command.specs.inner.Stated.{IsPlayable};
+ghost use Rattle.anti_command.specs.Runs.{IsLegalRun, IsPlayed, FindsAll, ExplainsSpans};
 ghost use Rattle.anti_trace.specs.Ends.{ends_of};
 
 use crate::outcome::RunKept;
@@ -13,7 +14,7 @@ use std::alloc::Global;
 
 /// The run of the application, and how its processes ended: the ends are told in its record, and are not kept. The only error is want of
 /// memory.
-#[tactic(auto, unfolding(crate::specs::Runs::IsPlayable, crate::specs::Runs::IsPlayed, crate::specs::Runs::IsLegalRun, crate::specs::Runs::FindsAll, crate::specs::Runs::ExplainsSpans))]
+#[tactic(auto, unfolding(crate::specs::inner::Stated::IsPlayable, crate::specs::Runs::IsPlayed, crate::specs::Runs::IsLegalRun, crate::specs::Runs::FindsAll, crate::specs::Runs::ExplainsSpans))]
 pub fn run(alloc: Global, app: App) -> Result<(RunKept, Ends), NoMemory>
     requires { IsPlayable app }
     ensures app { IfOk result (λ run. run.0.app ≡ app) }

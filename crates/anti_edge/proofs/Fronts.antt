@@ -2,7 +2,8 @@
 use Rattle.std.proofs.Common.{ℕ, ◌≡◌, ◌+◌, ◌-◌, ◌<◌, ◌≤◌, List, [], ◌∷◌, ◌++◌, Option, None, Some, IfSome, length, take, drop, refl, sym, ◌∙◌, ap, subst, arith, append_assoc, length-append}
 use Rattle.std.proofs.Math.Seq.{drop-append_seam, take-append_seam}
 use Rattle.std.proofs.lemmas.List.{append-nil, take-append-drop}
-use Rattle.anti_edge.specs.Outside.{IsFrontGiven, IsEnd, after_front, with_bytes, with_front, AddsFront, TakesFront, TakesAtMost}
+use Rattle.anti_edge.specs.Outside.{IsFrontGiven, IsEnd, after_front, with_bytes, with_front, AddsFront, TakesAtMost}
+use Rattle.anti_edge.specs.Streams.{TakesFront}
 
 -- the bytes were read, where the source tells what was left and what is left now
 abbrev pub HasRead : Option (List ℕ) → Option (List ℕ) → List ℕ → Type 0

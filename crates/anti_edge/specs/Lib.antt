@@ -1,3 +1,4 @@
 pub mod Outside
+pub mod Streams
 pub mod Plans
 pub mod Memories

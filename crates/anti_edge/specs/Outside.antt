@@ -1,5 +1,5 @@
 -- What a source tells of the bytes that are left, what a sink tells of those that were written, and their counts of faults.
-use Rattle.std.specs.Prelude.{ℕ, ◌≡◌, ◌≤◌, List, [], ◌++◌, Option, None, IfSome, length, take, drop}
+use Rattle.std.specs.Prelude.{ℕ, ◌≡◌, ◌≤◌, List, [], ◌++◌, Option, IfSome, length, take, drop}
 use Rattle.std.specs.Option.{option_map}
 
 -- the first n bytes of the buffer are the first n of what was left
@@ -9,10 +9,6 @@ IsFrontGiven n buf left = (n ≤ length left) × (take n buf ≡ take n left)
 -- what is left behind the first n bytes, where it is told
 abbrev pub after_front : ℕ → Option (List ℕ) → Option (List ℕ)
 after_front n left = option_map (λ bytes. drop n bytes) left
-
--- what is told by one who tells nothing
-abbrev pub untold : Option (List ℕ)
-untold = None
 
 -- nothing is left
 abbrev pub IsEnd : Option (List ℕ) → Type 0
@@ -29,10 +25,6 @@ with_front n piece written = with_bytes (take n piece) written
 -- some front of the bytes was written, perhaps all of them and perhaps none
 abbrev pub AddsFront : List ℕ → Option (List ℕ) → Option (List ℕ) → Type 0
 AddsFront bytes before now = (n : ℕ) × (n ≤ length bytes) × (now ≡ with_front n bytes before)
-
--- some front of what was left was taken
-abbrev pub TakesFront : Option (List ℕ) → Option (List ℕ) → Type 0
-TakesFront before now = (n : ℕ) × (now ≡ after_front n before)
 
 -- some front of what was left was taken, of at most so many bytes
 abbrev pub TakesAtMost : ℕ → Option (List ℕ) → Option (List ℕ) → Type 0

@@ -1,6 +1,7 @@
 ghost use Rattle.std.specs.Prelude.{◌≡◌, ◌+◌, ◌-◌, ◌^◌, ◌<◌, ◌≤◌, length, min, IfOk, OnErr, Ok};
 ghost use Rattle.anti_ids.specs.Counts.{Rose};
-ghost use Rattle.anti_edge.specs.Outside.{untold, with_front};
+ghost use Rattle.anti_edge.specs.Streams.{untold};
+ghost use Rattle.anti_edge.specs.Outside.{with_front};
 
 use crate::failed::Failed;
 use crate::sink::Sink;

@@ -1,6 +1,7 @@
 ghost use Rattle.std.specs.Prelude.{◌≡◌, ◌<◌, ◌≤◌, length, IfOk, OnOk, IfSome, Err};
 ghost use Rattle.anti_ids.specs.Counts.{Rose};
-ghost use Rattle.anti_edge.specs.Outside.{IsEnd, TakesAtMost, TakesFront};
+ghost use Rattle.anti_edge.specs.Outside.{IsEnd, TakesAtMost};
+ghost use Rattle.anti_edge.specs.Streams.{TakesFront};
 
 use crate::failed::Failed;
 use crate::source::Source;

@@ -15,7 +15,8 @@ use Rattle.std.proofs.lemmas.Bool.{cond_both, cond-true, cond-false, cases_Bool,
 use Rattle.anti_ids.specs.Each.{Each}
 use Rattle.anti_ids.specs.declared.id.WriteId.{WriteId}
 use Rattle.anti_ids.specs.declared.limits.TheConstants.{MOST_IDS}
-use Rattle.anti_ids.specs.Ids.{id_cmp, is_id, has_id, placed, with_id, with_ids, without_id, ids_of, IsAscending, IsLineage}
+use Rattle.anti_ids.specs.Ids.{id_cmp, is_id, has_id, placed, with_id, with_ids, without_id, ids_of}
+use Rattle.anti_ids.specs.Invariants.{IsAscending, IsLineage}
 
 pub id_total : IsTotalOrder id_cmp
 id_total = then_total (on_total (λ (i : WriteId). i.store) nat_cmp_total) (then_total (on_total (λ (i : WriteId). i.version) nat_cmp_total) (on_total (λ (i : WriteId). i.key) nat_list_cmp_total))

@@ -6,7 +6,8 @@ use Rattle.std.proofs.lemmas.Bool.{cond_both, cond-true, cond-false, cases_Bool,
 use Rattle.std.proofs.lemmas.Option.{get_or_from_slice_get}
 use Rattle.anti_ids.specs.Each.{Each}
 use Rattle.anti_ids.specs.declared.id.WriteId.{WriteId}
-use Rattle.anti_ids.specs.Ids.{id_cmp, is_id, has_id, without_id, IsAscending, IsLineage}
+use Rattle.anti_ids.specs.Ids.{id_cmp, is_id, has_id, without_id}
+use Rattle.anti_ids.specs.Invariants.{IsAscending, IsLineage}
 use Rattle.anti_ids.specs.declared.held_ids.HeldIds.{HeldIds}
 use Rattle.anti_ids.specs.declared.held_ids.HeldIds.TheVariants.{Own, Whole, Less as Shared}
 use Rattle.anti_ids.specs.inner.Places.{StandsAt}

@@ -9,7 +9,8 @@ use Rattle.std.proofs.lemmas.List.{append-nil, append_assoc, length-append, get_
 use Rattle.std.proofs.lemmas.Option.{get_or_from_slice_get, slice_get-get_or}
 use Rattle.anti_ids.specs.Each.{Each}
 use Rattle.anti_ids.specs.declared.id.WriteId.{WriteId}
-use Rattle.anti_ids.specs.Ids.{id_cmp, IsAscending}
+use Rattle.anti_ids.specs.Ids.{id_cmp}
+use Rattle.anti_ids.specs.Invariants.{IsAscending}
 use Rattle.anti_ids.specs.inner.Parts.{joined, put_at, put_in, shifted}
 use Rattle.anti_ids.specs.inner.Places.{IsPlace}
 use Rattle.anti_ids.proofs.IdLemmas.{id_total, turned, turned_back, each_weaker, each_further}

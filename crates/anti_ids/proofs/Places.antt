@@ -13,7 +13,8 @@ use Rattle.std.proofs.lemmas.Bool.{cond-true, cond-false, or_left, or_right, or_
 use Rattle.std.proofs.lemmas.Option.{get_or_from_slice_get, slice_get-get_or}
 use Rattle.anti_ids.specs.Each.{Each}
 use Rattle.anti_ids.specs.declared.id.WriteId.{WriteId}
-use Rattle.anti_ids.specs.Ids.{id_cmp, is_id, has_id, with_id, without_id, IsAscending}
+use Rattle.anti_ids.specs.Ids.{id_cmp, is_id, has_id, with_id, without_id}
+use Rattle.anti_ids.specs.Invariants.{IsAscending}
 use Rattle.anti_ids.specs.inner.Places.{StandsAt, GoesTo, IsPlace}
 use Rattle.anti_ids.proofs.IdLemmas.{id_total, turned, turned_back, same_from_tie, is_id-itself, not_before, not_after, before_first, is_first, behind_first}
 

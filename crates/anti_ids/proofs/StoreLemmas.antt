@@ -8,7 +8,8 @@ use Rattle.std.specs.Cmp.Lexicographic.{slice_cmp}
 use Rattle.std.specs.Ordering.{nat_cmp, ordering_then}
 use Rattle.std.proofs.lemmas.Bool.{cases_lt, eqb-true}
 use Rattle.anti_ids.specs.Each.{Each}
-use Rattle.anti_ids.specs.Ids.{IsAscending, id_cmp, ids_of}
+use Rattle.anti_ids.specs.Invariants.{IsAscending}
+use Rattle.anti_ids.specs.Ids.{id_cmp, ids_of}
 use Rattle.anti_ids.specs.declared.id.WriteId.{WriteId}
 use Rattle.anti_ids.proofs.IdLemmas.{each_weaker}
 

@@ -3,7 +3,7 @@ use Rattle.std.proofs.Common.{◌≡◌, ℕ, List, [], true, false, sym, arith}
 use Rattle.std.specs.Str.{is_utf8, IsUtf8}
 use Rattle.std.proofs.lemmas.Str.{is_utf8-from_IsUtf8, IsUtf8-from_is_utf8, IsUtf8-nil}
 use Rattle.std.proofs.lemmas.Bool.{false_from_ne_true}
-use Rattle.anti_ids.specs.Values.{IsValue}
+use Rattle.anti_ids.specs.Invariants.{IsValue}
 
 pub text_is : (bytes : List ℕ) → IsUtf8 bytes → true ≡ is_utf8 bytes
 text_is bytes h = sym (is_utf8-from_IsUtf8 bytes h)

@@ -29,10 +29,6 @@ dot = 46
 abbrev pub slash : ℕ
 slash = 47
 
--- `0`
-abbrev pub zero_digit : ℕ
-zero_digit = 48
-
 -- `@`
 abbrev pub at_sign : ℕ
 at_sign = 64

@@ -1,13 +1,11 @@
 -- Ids of writes in their order, and lineages: sets of ids, each written as its ascending list.
-use Rattle.std.specs.Prelude.{◌≡◌, ℕ, ◌≤◌, List, [], ◌∷◌, ◌==◌, Bool, not, length, filter}
+use Rattle.std.specs.Prelude.{ℕ, List, [], ◌∷◌, ◌==◌, Bool, not, filter}
 use Rattle.std.specs.declared.cmp.Ordering.{Ordering}
 use Rattle.std.specs.declared.cmp.Ordering.TheVariants.{Less, Equal, Greater}
 use Rattle.std.specs.Cmp.Lexicographic.{slice_cmp}
 use Rattle.std.specs.Ordering.{nat_cmp, on, then_cmp, is_eq}
 use Rattle.std.specs.List.{list_any}
-use Rattle.anti_ids.specs.Each.{Each}
 use Rattle.anti_ids.specs.declared.id.WriteId.{WriteId}
-use Rattle.anti_ids.specs.declared.limits.TheConstants.{MOST_IDS}
 
 -- by store, then version, then the bytes of the key
 abbrev pub id_cmp : WriteId → WriteId → Ordering
@@ -44,14 +42,3 @@ without_id i js = filter (λ j. not (is_id i j)) js
 -- the ids of one store
 abbrev pub ids_of : ℕ → List WriteId → List WriteId
 ids_of store js = filter (λ j. j.store == store) js
-
--- each id is before all that stand behind it
-abbrev pub IsAscending : List WriteId → Type 0
-IsAscending [] = Unit {0}
-IsAscending (i ∷ is) = Each (λ j. id_cmp i j ≡ Less) is × IsAscending is
-
--- a set of at most `MOST_IDS` ids, each of version 1 or later
-pub record IsLineage (ids : List WriteId) : Type 0 where
-  pub ascending : IsAscending ids
-  pub written : Each (λ i. 1 ≤ i.version) ids
-  pub short : length ids ≤ MOST_IDS

@@ -1,4 +1,5 @@
 pub mod List
+pub mod ListCalls
 pub mod Answers
 pub mod Ascii
 pub mod Decimals
@@ -8,6 +9,7 @@ pub mod Values
 pub mod Counts
 pub mod Each
 pub mod Ids
+pub mod Invariants
 pub mod Roomy
 pub mod formers
 pub mod inner

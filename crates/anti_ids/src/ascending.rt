@@ -2,7 +2,8 @@
 ghost use Rattle.std.specs.Prelude.{◌≡◌, ◌↔◌, ◌+◌, ◌<◌, ◌≤◌, ◌∷◌, ◌++◌, true, not, length, take, drop, vec_len, vec_capacity, IsTrue, IfOk};
 ghost use Rattle.std.specs.declared.cmp.Ordering.TheVariants.{Less};
 ghost use Rattle.anti_ids.specs.Each.{Each};
-ghost use Rattle.anti_ids.specs.Ids.{IsAscending, IsLineage, has_id, id_cmp, ids_of, with_ids};
+ghost use Rattle.anti_ids.specs.Invariants.{IsAscending, IsLineage};
+ghost use Rattle.anti_ids.specs.Ids.{has_id, id_cmp, ids_of, with_ids};
 ghost use Rattle.anti_ids.specs.inner.Places.{IsPlace};
 
 use crate::id::WriteId;

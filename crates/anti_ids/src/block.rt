@@ -1,6 +1,6 @@
 ghost use Rattle.std.specs.Prelude.{◌≡◌, ◌<◌, ◌≤◌, ◌∷◌, ◌++◌, length, take, drop, slice_get, OnOk, OnErr, IfOk};
 ghost use Rattle.std.specs.Arc.{arc_value};
-ghost use Rattle.anti_ids.specs.Ids.{IsAscending};
+ghost use Rattle.anti_ids.specs.Invariants.{IsAscending};
 ghost use Rattle.anti_ids.specs.inner.Parts.{joined, put_at};
 ghost use Rattle.anti_ids.specs.inner.Places.{IsPlace};
 

@@ -1,5 +1,6 @@
 ghost use Rattle.std.specs.Prelude.{◌≡◌, ◌<◌, ◌≤◌, [], ◌∷◌, ◌++◌, length, slice_get, ◌==◌, OnOk, OnErr, IsOk, IfOk, IfErr, IfNone, IfSome};
-ghost use Rattle.anti_ids.specs.List.{empty, plain, pushed, reserved, extended};
+ghost use Rattle.anti_ids.specs.List.{empty, plain};
+ghost use Rattle.anti_ids.specs.ListCalls.{pushed, reserved, extended};
 
 use crate::copies::Copies;
 use crate::list::List;
@@ -25,7 +26,8 @@ pub(crate) enum ByteMemory {
 impl Model for Bytes {
     ghost use Rattle.std.specs.Prelude.{ℕ};
     ghost use Rattle.std.specs.Coded.{coded_ℕ};
-    ghost use Rattle.anti_ids.specs.List.{Listed, list_code};
+    ghost use Rattle.anti_ids.specs.List.{Listed};
+    ghost use Rattle.anti_ids.specs.ListCalls.{list_code};
     ghost use Rattle.anti_ids.specs.inner.Bytes.{listed_of, FrontFits};
 
     ghost Value = { Listed ℕ };

@@ -1,5 +1,6 @@
 ghost use Rattle.std.specs.Prelude.{[], ◌≡◌, ◌+◌, ◌<◌, ◌≤◌, false, not, length, slice_get, vec_capacity, OnOk, OnErr, IfOk, IfErr, IsErrOf, IsTrue};
-ghost use Rattle.anti_ids.specs.Ids.{IsLineage, has_id, ids_of, is_id, with_id, with_ids, without_id};
+ghost use Rattle.anti_ids.specs.Invariants.{IsLineage};
+ghost use Rattle.anti_ids.specs.Ids.{has_id, ids_of, is_id, with_id, with_ids, without_id};
 ghost use Rattle.anti_ids.specs.inner.Held.{base_ids, held_ids};
 ghost use Rattle.anti_ids.specs.inner.Left.{left_of};
 

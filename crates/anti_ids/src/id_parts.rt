@@ -2,7 +2,8 @@
 ghost use Rattle.std.specs.Prelude.{◌≡◌, ◌↔◌, ◌+◌, ◌<◌, ◌≤◌, ◌∷◌, ◌++◌, ◌^◌, [], length, get_or, slice_get, OnOk, OnErr, IfOk, IfErr, IsTrue};
 ghost use Rattle.std.specs.declared.cmp.Ordering.TheVariants.{Greater};
 ghost use Rattle.anti_ids.specs.Each.{Each};
-ghost use Rattle.anti_ids.specs.Ids.{IsAscending, id_cmp};
+ghost use Rattle.anti_ids.specs.Invariants.{IsAscending};
+ghost use Rattle.anti_ids.specs.Ids.{id_cmp};
 ghost use Rattle.anti_ids.specs.inner.Parts.{FindsPart, joined, put_at, put_in, shifted};
 ghost use Rattle.anti_ids.specs.inner.Places.{IsPlace};
 

@@ -1,5 +1,6 @@
 ghost use Rattle.std.specs.Prelude.{◌≡◌, ◌-◌, ◌<◌, ◌≤◌, [], true, false, not, ◌&&◌, ◌||◌, length, slice_get, ◌==◌, OnOk, OnErr, IfOk, IfErr, IsErrOf};
-ghost use Rattle.anti_ids.specs.Ids.{IsLineage, has_id, is_id, ids_of, with_id, with_ids, without_id};
+ghost use Rattle.anti_ids.specs.Invariants.{IsLineage};
+ghost use Rattle.anti_ids.specs.Ids.{has_id, is_id, ids_of, with_id, with_ids, without_id};
 
 use crate::copies::Copies;
 use crate::held_ids::HeldIds;
@@ -32,7 +33,7 @@ pub struct Lineage {
 impl Model for Lineage {
     ghost use Rattle.std.specs.Prelude.{List};
     ghost use Rattle.anti_ids.specs.declared.id.WriteId.{WriteId};
-    ghost use Rattle.anti_ids.specs.Ids.{IsLineage};
+    ghost use Rattle.anti_ids.specs.Invariants.{IsLineage};
     ghost use Rattle.anti_ids.specs.inner.Held.{base_ids, held_ids};
 
     ghost Value = { List WriteId };

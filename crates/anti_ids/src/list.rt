@@ -1,5 +1,6 @@
 ghost use Rattle.std.specs.Prelude.{◌≡◌, ◌+◌, ◌<◌, ◌≤◌, [], ◌∷◌, ◌++◌, length, slice_get, slice_set, ◌==◌, OnOk, OnErr, IsOk, IfOk, IfErr, IfNone, IfSome};
-ghost use Rattle.anti_ids.specs.List.{empty, pushed, reserved, extended};
+ghost use Rattle.anti_ids.specs.List.{empty};
+ghost use Rattle.anti_ids.specs.ListCalls.{pushed, reserved, extended};
 
 use crate::copies::Copies;
 use crate::memory::NoMemory;
@@ -16,7 +17,8 @@ pub struct List<T> {
 
 impl<T> Model for List<T> {
     ghost use Rattle.std.specs.Prelude.{◌+◌, ◌≤◌, vec_len, vec_capacity};
-    ghost use Rattle.anti_ids.specs.List.{Listed, list_code};
+    ghost use Rattle.anti_ids.specs.List.{Listed};
+    ghost use Rattle.anti_ids.specs.ListCalls.{list_code};
 
     ghost Value = { Listed T };
 

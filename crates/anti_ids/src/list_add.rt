@@ -1,5 +1,5 @@
 ghost use Rattle.std.specs.Prelude.{OnErr, OnOk, ◌≡◌};
-ghost use Rattle.anti_ids.specs.List.{pushed};
+ghost use Rattle.anti_ids.specs.ListCalls.{pushed};
 
 use crate::list::List;
 use crate::memory::NoMemory;

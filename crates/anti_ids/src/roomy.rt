@@ -23,7 +23,7 @@ pub struct RoomyFull;
 
 impl Model for Roomy {
     ghost use Rattle.std.specs.Prelude.{◌+◌, ◌≤◌, vec_len, vec_capacity};
-    ghost use Rattle.anti_ids.specs.Ids.{IsLineage};
+    ghost use Rattle.anti_ids.specs.Invariants.{IsLineage};
     ghost use Rattle.anti_ids.specs.Roomy.{Roomed};
 
     ghost Value = { Roomed };

@@ -1,6 +1,7 @@
 // How what a lineage holds grows: by one id, or by those of another lineage.
 ghost use Rattle.std.specs.Prelude.{◌≡◌, ◌<◌, ◌≤◌, true, false, not, length, OnOk, OnErr, IfOk, IfErr, IsErrOf, IsTrue};
-ghost use Rattle.anti_ids.specs.Ids.{IsLineage, has_id, with_id, with_ids};
+ghost use Rattle.anti_ids.specs.Invariants.{IsLineage};
+ghost use Rattle.anti_ids.specs.Ids.{has_id, with_id, with_ids};
 ghost use Rattle.anti_ids.specs.inner.Held.{base_ids, held_ids};
 
 use crate::block::Block;

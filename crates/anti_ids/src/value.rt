@@ -1,7 +1,8 @@
 ghost use Rattle.std.specs.Prelude.{◌≡◌, ◌<◌, ◌≤◌, [], false, length, IfOk, IsErrOf};
 ghost use Rattle.std.specs.Str.{is_utf8};
 ghost use Rattle.anti_ids.specs.Answers.{AnswersBut};
-ghost use Rattle.anti_ids.specs.Values.{IsValue, value_of};
+ghost use Rattle.anti_ids.specs.Invariants.{IsValue};
+ghost use Rattle.anti_ids.specs.Values.{value_of};
 ghost use Rattle.anti_ids.specs.declared.value.ValueFault.TheVariants as faults;
 
 use crate::copies::Copies;
@@ -33,7 +34,7 @@ pub struct Value {
 
 impl Model for Value {
     ghost use Rattle.std.specs.Prelude.{List, ℕ};
-    ghost use Rattle.anti_ids.specs.Values.{IsValue};
+    ghost use Rattle.anti_ids.specs.Invariants.{IsValue};
     ghost use Rattle.anti_ids.specs.inner.Texts.{bytes_of};
 
     ghost Value = { List ℕ };

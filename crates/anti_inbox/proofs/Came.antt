@@ -12,7 +12,8 @@ use Rattle.anti_kind.specs.declared.message.Message.{Message}
 use Rattle.anti_kind.specs.declared.message.MessageKind.{MessageKind}
 use Rattle.anti_kind.specs.declared.message.MessageKind.TheVariants as kinds
 use Rattle.anti_kind.specs.Inbox.{numbered, listed, posted, messages, if_to, replied, replies, has_reply, reply_is_taken, got_of, post_due, inbox_ready, inbox_due}
-use Rattle.anti_kind.specs.Objects.{inbox, Follows, IsLegal, IsStart}
+use Rattle.anti_kind.specs.Objects.{inbox, Follows, IsLegal}
+use Rattle.anti_kind.specs.Starts.{IsStart}
 use Rattle.anti_kind.proofs.Histories.{by_entries, legal_front, follows_in}
 use Rattle.anti_kind.proofs.Deliveries.{messages_more, numbered_kept, numbered_new}
 use Rattle.anti_inbox.proofs.Once.{takes_get}

@@ -14,7 +14,8 @@ use Rattle.anti_kind.specs.declared.message.Message.{Message}
 use Rattle.anti_kind.specs.declared.message.MessageKind.{MessageKind}
 use Rattle.anti_kind.specs.declared.message.MessageKind.TheVariants as kinds
 use Rattle.anti_kind.specs.Inbox.{numbered, messages, deliveries, got, takes, is_taken, free, if_to, replied, replies, has_reply, takes_reply, reply_is_taken, is_call_message, got_of, handed, post_ready, inbox_ready, inbox_due, post_need, inbox_need}
-use Rattle.anti_kind.specs.Objects.{inbox, need, fits, held, owed, Follows, IsLegal, IsStart}
+use Rattle.anti_kind.specs.Objects.{inbox, need, fits, held, owed, Follows, IsLegal}
+use Rattle.anti_kind.specs.Starts.{IsStart}
 use Rattle.anti_kind.proofs.Histories.{by_entries, legal_front, follows_in}
 use Rattle.anti_kind.proofs.Bounds.{within_units}
 use Rattle.anti_kind.proofs.Rows.{or_false}

@@ -16,7 +16,8 @@ use Rattle.anti_kind.specs.declared.message.MessageKind.{MessageKind}
 use Rattle.anti_kind.specs.declared.message.MessageKind.TheVariants as kinds
 use Rattle.anti_kind.specs.declared.call.Reply.TheVariants.{Got}
 use Rattle.anti_kind.specs.Inbox.{posted, messages, listed, numbered, is_call_message, is_taken, has_reply, reply_is_taken, deliveries, free, got_of, handed, post_ready}
-use Rattle.anti_kind.specs.Objects.{inbox, ready, IsInbox, IsLegal}
+use Rattle.anti_kind.specs.Objects.{inbox, ready, IsLegal}
+use Rattle.anti_kind.specs.Starts.{IsInbox}
 use Rattle.anti_kind.proofs.Bounds.{length_within}
 use Rattle.anti_kind.proofs.Deliveries.{IsCounted, counted, call_within}
 use Rattle.anti_inbox.specs.declared.inbox.Fate.{Fate}

@@ -10,7 +10,9 @@ use Rattle.anti_kind.specs.declared.message.Message.{Message}
 use Rattle.anti_kind.specs.declared.message.MessageKind.{MessageKind}
 use Rattle.anti_kind.specs.declared.message.MessageKind.TheVariants as kinds
 use Rattle.anti_kind.specs.Inbox.{numbered, messages, is_taken, deliveries, free, replies, got_of, handed, post_due, inbox_due}
-use Rattle.anti_kind.specs.Objects.{inbox, weight, owed, need, ready, fits, last_stamp, Follows, IsInbox, MayMake}
+use Rattle.anti_kind.specs.Objects.{inbox, weight, owed, need, ready, fits, last_stamp, Follows}
+use Rattle.anti_kind.specs.Starts.{IsInbox}
+use Rattle.anti_kind.specs.Machines.{MayMake}
 use Rattle.anti_kind.proofs.Histories.{held_more, below_last}
 use Rattle.anti_kind.proofs.Deliveries.{inbox_units, start_owes}
 use Rattle.anti_inbox.specs.declared.inbox.Inbox.{Inbox}

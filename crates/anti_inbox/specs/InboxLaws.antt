@@ -8,7 +8,8 @@ use Rattle.anti_kind.specs.declared.message.Message.{Message}
 use Rattle.anti_kind.specs.declared.message.MessageKind.{MessageKind}
 use Rattle.anti_kind.specs.declared.message.MessageKind.TheVariants as kinds
 use Rattle.anti_kind.specs.Inbox.{messages, numbered, takes, free, replies, takes_reply}
-use Rattle.anti_kind.specs.Objects.{inbox, fits, IsStart, IsLegal}
+use Rattle.anti_kind.specs.Objects.{inbox, fits, IsLegal}
+use Rattle.anti_kind.specs.Starts.{IsStart}
 
 -- Each take gets a message that was there, with its number.
 abbrev pub TakesGet : Type 0

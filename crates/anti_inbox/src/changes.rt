@@ -10,7 +10,7 @@ use anti_kind::{Handle, Message};
 
 impl Inbox {
     ghost use Rattle.anti_kind.specs.declared.call.Call.TheVariants.{Take, Repost};
-    ghost use Rattle.anti_kind.specs.Objects.{MayMake};
+    ghost use Rattle.anti_kind.specs.Machines.{MayMake};
     ghost use Rattle.anti_inbox.specs.inner.Inboxes.{start_of, At, InboxStands, Turns};
 
     // Adds a message, with a delivery that is free. All of it is added or nothing.

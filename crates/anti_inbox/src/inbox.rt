@@ -2,7 +2,8 @@ ghost use Rattle.std.specs.Prelude.{◌≡◌, ◌<◌, ◌^◌, List, [], map, 
 ghost use Rattle.std.specs.List.{range_with_len};
 ghost use Rattle.anti_kind.specs.declared.entry.Entry.{Entry};
 ghost use Rattle.anti_kind.specs.Inbox.{messages, numbered, is_call_message, is_taken, replies, has_reply, reply_is_taken, post_ready};
-ghost use Rattle.anti_kind.specs.Objects.{inbox, IsStart};
+ghost use Rattle.anti_kind.specs.Objects.{inbox};
+ghost use Rattle.anti_kind.specs.Starts.{IsStart};
 ghost use Rattle.anti_inbox.specs.inner.Fates.{fate_of, untouched};
 
 use anti_ids::NoMemory;

@@ -2,7 +2,8 @@ ghost use Rattle.std.specs.Prelude.{◌≡◌, ◌∷◌, ◌++◌, [], List, If
 ghost use Rattle.anti_kind.specs.declared.entry.Entry.{Entry};
 ghost use Rattle.anti_kind.specs.declared.call.Call.TheVariants.{Post, Take};
 ghost use Rattle.anti_kind.specs.Inbox.{free, got_of, handed, messages, numbered, post_ready, replies};
-ghost use Rattle.anti_kind.specs.Objects.{Follows, MayMake};
+ghost use Rattle.anti_kind.specs.Objects.{Follows};
+ghost use Rattle.anti_kind.specs.Machines.{MayMake};
 
 use crate::inbox::Inbox;
 use anti_ids::NoMemory;

@@ -8,7 +8,8 @@ use Rattle.anti_kind.specs.declared.call.Reply.{Reply}
 use Rattle.anti_kind.specs.declared.entry.Entry.{Entry}
 use Rattle.anti_kind.specs.Stored.{parts_of}
 use Rattle.anti_kind.specs.Store.{Store, is_queue, is_pull, is_out, store_ready, store_due, store_need, owed_shipments, owed_messages, outs}
-use Rattle.anti_kind.specs.Objects.{store, weight, held, owed, need, Follows, IsLegal, IsStore}
+use Rattle.anti_kind.specs.Objects.{store, weight, held, owed, need, Follows, IsLegal}
+use Rattle.anti_kind.specs.Starts.{IsStore}
 use Rattle.anti_kind.proofs.Histories.{held_more}
 use Rattle.anti_kind.proofs.Rows.{is_write, is_shipping}
 use Rattle.anti_kind.proofs.Units.{owed_other, owed_write, owed_ship}

@@ -3,7 +3,8 @@ use Rattle.std.proofs.Common.{◌≡◌, ℕ, Bool, true, false, cond, ◌+◌, 
 use Rattle.anti_ids.specs.declared.limits.TheConstants.{MOST_UNITS}
 use Rattle.anti_kind.specs.declared.entry.Entry.{Entry}
 use Rattle.anti_kind.specs.Store.{is_queue}
-use Rattle.anti_kind.specs.Objects.{Start, store, inbox, held, owed, need, Follows, IsLegal, IsStart}
+use Rattle.anti_kind.specs.Objects.{Start, store, inbox, held, owed, need, Follows, IsLegal}
+use Rattle.anti_kind.specs.Starts.{IsStart}
 use Rattle.anti_kind.proofs.Histories.{by_entries, length_held, fits_number}
 use Rattle.anti_kind.proofs.Balance.{store_units}
 use Rattle.anti_kind.proofs.Deliveries.{inbox_units, start_owes}

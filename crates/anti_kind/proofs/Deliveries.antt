@@ -16,7 +16,8 @@ use Rattle.anti_kind.specs.declared.message.Message.{Message}
 use Rattle.anti_kind.specs.declared.message.MessageKind.{MessageKind}
 use Rattle.anti_kind.specs.declared.message.MessageKind.TheVariants as kinds
 use Rattle.anti_kind.specs.Inbox.{numbered, listed, posted, messages, is_call, is_call_message, delivered, deliveries, got, takes, is_taken, free, if_to, replied, replies, has_reply, takes_reply, reply_is_taken, got_of, handed, post_ready, post_due, post_need, inbox_ready, inbox_due, inbox_need, numbers, untaken, unanswered, unheard}
-use Rattle.anti_kind.specs.Objects.{inbox, weight, held, owed, need, Follows, IsLegal, IsInbox}
+use Rattle.anti_kind.specs.Objects.{inbox, weight, held, owed, need, Follows, IsLegal}
+use Rattle.anti_kind.specs.Starts.{IsInbox}
 use Rattle.anti_kind.proofs.Histories.{by_entries, held_more}
 use Rattle.anti_kind.proofs.Rows.{or_false}
 use Rattle.anti_kind.proofs.Sums.{count_numbers_same, count_numbers_less, count_numbers_more, count_all, count_none}

@@ -8,8 +8,9 @@ use Rattle.anti_kind.specs.declared.entry.Entry.{Entry}
 use Rattle.anti_kind.specs.declared.row.Row.{Row}
 use Rattle.anti_kind.specs.declared.store_kind.StoreKind.{StoreKind}
 use Rattle.anti_kind.specs.declared.store_kind.StoreKind.TheVariants.{Kv, Table, Blob, Queue, Topic}
-use Rattle.anti_kind.specs.Objects.{AreTries, HasTries}
-use Rattle.anti_kind.specs.Store.{has_keys, is_pulled, is_queue, is_scanned, is_table, is_topic}
+use Rattle.anti_kind.specs.Shipments.{AreTries}
+use Rattle.anti_kind.specs.Starts.{HasTries, is_pulled}
+use Rattle.anti_kind.specs.Store.{has_keys, is_queue, is_scanned, is_table, is_topic}
 use Rattle.anti_kind.specs.Kinds.{facts_of}
 use Rattle.anti_kind.specs.Stored.{is_shipped, is_whole, parts_of}
 

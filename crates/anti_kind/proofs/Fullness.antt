@@ -15,7 +15,8 @@ use Rattle.anti_kind.specs.declared.message.MessageKind.TheVariants as kinds
 use Rattle.anti_kind.specs.Stored.{shows_of}
 use Rattle.anti_kind.specs.Inbox.{post_ready}
 use Rattle.anti_kind.specs.Store.{Store, is_replica, is_visible, is_written, can_look, scanned}
-use Rattle.anti_kind.specs.Objects.{Start, store, inbox, ready, held, owed, need, IsLegal, IsStart}
+use Rattle.anti_kind.specs.Objects.{Start, store, inbox, ready, held, owed, need, IsLegal}
+use Rattle.anti_kind.specs.Starts.{IsStart}
 use Rattle.anti_kind.specs.Laws.{NeverFalls, KeepsLaws}
 use Rattle.anti_kind.specs.Fulls.{ShowsStay, NeedNeverFalls, FullStaysFull, finds_all, asks, is_asking, AskingStaysReady}
 use Rattle.anti_kind.proofs.Histories.{legal_front, follows_in}

@@ -13,7 +13,8 @@ use Rattle.anti_kind.specs.Stored.{rows, row_of, is_shipped, shows_of}
 use Rattle.anti_kind.proofs.FactLaws.{scanned_ordered}
 use Rattle.anti_kind.specs.Store.{Store, is_scanned, is_table, is_replica, is_visible, is_written, or_absent, shown_row, scanned}
 use Rattle.anti_kind.specs.Objects.{store, due, ready, IsLegal}
-use Rattle.anti_kind.specs.Laws.{ShowsWritten, named_missing, LooksRight, is_read_at, speaks_of, shown, IsRight, ReadsRight, OwnAfter, IsTogether, ReadsTogether, KeepsLaws}
+use Rattle.anti_kind.specs.Laws.{ShowsWritten, LooksRight, is_read_at, IsRight, ReadsRight, OwnAfter, IsTogether, ReadsTogether, KeepsLaws}
+use Rattle.anti_kind.specs.Replies.{named_missing, speaks_of, shown}
 use Rattle.anti_kind.proofs.Rows.{versions_grow}
 use Rattle.anti_kind.proofs.Lineages.{IsEarlier, earlier}
 use Rattle.anti_kind.proofs.Scans.{all_scanned, scan_right}

@@ -1,14 +1,17 @@
 -- A port over one object: when a call is made, what it adds to the history, and what it answers.
 use Rattle.std.proofs.Common.{◌≡◌, ℕ, ◌+◌, ◌-◌, ◌^◌, ◌<◌, ◌≤◌, max, min, true, List, [], ◌∷◌, ◌++◌, length, refl, sym, ap, subst, ◌∙◌, append-nil, eq-eqb, arith}
 use Rattle.std.proofs.lemmas.Bool.{le-leb}
-use Rattle.anti_ids.specs.List.{Listed, pushed, reserved}
+use Rattle.anti_ids.specs.List.{Listed}
+use Rattle.anti_ids.specs.ListCalls.{pushed, reserved}
 use Rattle.anti_ids.specs.declared.limits.TheConstants.{MOST_UNITS}
 use Rattle.anti_kind.specs.declared.call.Reply.{Reply}
 use Rattle.anti_kind.specs.declared.entry.Entry.{Entry}
 use Rattle.anti_kind.specs.declared.port.Answer.{Answer}
 use Rattle.anti_kind.specs.declared.port.Answer.TheVariants.{Made, NotYet, Full, Spent, NoMemory}
-use Rattle.anti_kind.specs.Objects.{Start, ready, due, need, held, owed, fits, last_stamp, Follows, IsLegal, IsStart}
-use Rattle.anti_kind.specs.Ports.{View, entry_of, IsFront, IsRefused, IsSpent, Answers, Answered}
+use Rattle.anti_kind.specs.Objects.{Start, ready, due, need, held, owed, fits, last_stamp, Follows, IsLegal}
+use Rattle.anti_kind.specs.Starts.{IsStart}
+use Rattle.anti_kind.specs.Ports.{View, IsFront, IsRefused, IsSpent, Answers, Answered}
+use Rattle.anti_kind.specs.Entries.{entry_of}
 use Rattle.anti_kind.specs.declared.asking.Asking.{Asking}
 use Rattle.anti_ids.specs.Counts.{Rose}
 use Rattle.anti_kind.specs.Records.{IsRecorded, Gives, Goes}

@@ -8,7 +8,8 @@ use Rattle.anti_kind.specs.declared.entry.Entry.{Entry}
 use Rattle.anti_kind.specs.declared.row.Row.{Row}
 use Rattle.anti_kind.specs.declared.store_kind.StoreKind.{StoreKind}
 use Rattle.anti_kind.specs.Stored.{rows, row_of, parts_of, parts}
-use Rattle.anti_kind.specs.Store.{Store, has_part, can_ship, shipment, shipments}
+use Rattle.anti_kind.specs.Store.{Store, has_part, can_ship}
+use Rattle.anti_kind.specs.Shipments.{shipment, shipments}
 use Rattle.anti_kind.specs.Laws.{NextIsReady, NoneIsReady}
 use Rattle.anti_kind.proofs.Shipped.{ready_shipment, part_within, row_with_part}
 use Rattle.anti_kind.proofs.Finding.{Found, find_found, none_passes, in_flat_map}

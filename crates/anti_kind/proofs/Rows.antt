@@ -11,7 +11,8 @@ use Rattle.anti_kind.specs.declared.call.Reply.TheVariants.{Written}
 use Rattle.anti_kind.specs.declared.entry.Entry.{Entry}
 use Rattle.anti_kind.specs.declared.row.Row.{Row}
 use Rattle.anti_kind.specs.Stored.{stored, wrote, rows, row_of, is_ship, is_shipped}
-use Rattle.anti_kind.specs.Store.{Store, over, key_for, store_due}
+use Rattle.anti_kind.specs.Store.{Store, key_for, store_due}
+use Rattle.anti_kind.specs.inner.Over.{over}
 use Rattle.anti_kind.specs.Objects.{store, held, Follows, IsLegal}
 use Rattle.anti_kind.specs.Laws.{IsOfWrite, VersionsGrow}
 use Rattle.anti_kind.proofs.Histories.{by_entries, length_held}

@@ -19,7 +19,8 @@ use Rattle.anti_kind.specs.declared.row.Row.{Row}
 use Rattle.anti_kind.specs.Stored.{rows, row_of}
 use Rattle.anti_kind.specs.Store.{Store, absent, or_absent, is_written, shown_row, by_key, sorted, has_prefix, scanned}
 use Rattle.anti_kind.specs.Objects.{store, IsLegal}
-use Rattle.anti_kind.specs.Laws.{NeverFalls, id_of, ShowsWritten, speaks_of, IsRight}
+use Rattle.anti_kind.specs.Laws.{NeverFalls, id_of, ShowsWritten, IsRight}
+use Rattle.anti_kind.specs.Replies.{speaks_of}
 use Rattle.anti_kind.proofs.Histories.{legal_front}
 use Rattle.anti_kind.proofs.Rows.{version_at, versions_grow, row_in}
 use Rattle.anti_kind.proofs.Finding.{Found, find_found, filter_contains}

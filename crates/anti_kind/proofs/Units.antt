@@ -14,7 +14,8 @@ use Rattle.anti_kind.specs.declared.entry.Entry.{Entry}
 use Rattle.anti_kind.specs.declared.row.Row.{Row}
 use Rattle.anti_kind.specs.Stored.{rows, row_of, is_shipped, parts_of, parts}
 use Rattle.anti_kind.specs.Store.{Store, is_replica, owed_at, owed_shipments, store_ready}
-use Rattle.anti_kind.specs.Objects.{store, Follows, IsLegal, IsStore}
+use Rattle.anti_kind.specs.Objects.{store, Follows, IsLegal}
+use Rattle.anti_kind.specs.Starts.{IsStore}
 use Rattle.anti_kind.proofs.Rows.{is_write, is_shipping, new_row, or_false, rows_other, rows_write, shipped_other, shipped_ship, version_at, row_of_at}
 use Rattle.anti_kind.proofs.Shipped.{IsReadyShipment, ready_ship, ready_shipment, part_within, version_within, never_shipped}
 use Rattle.anti_kind.proofs.Sums.{sum_same, sum_one_less, count_same, count_one_less, count_all, sum_equal}

@@ -17,7 +17,8 @@ use Rattle.anti_kind.specs.declared.message.MessageKind.{MessageKind}
 use Rattle.anti_kind.specs.declared.message.MessageKind.TheVariants as kinds
 use Rattle.anti_kind.specs.declared.row.Row.{Row}
 use Rattle.anti_kind.specs.Stored.{rows, is_ship, is_shipped, shows_of}
-use Rattle.anti_kind.specs.Store.{Store, is_table, is_replica, has_part, can_ship, shipments, next_shipment, is_visible, is_written, is_pull_by, is_nack, is_there, next, store_ready}
+use Rattle.anti_kind.specs.Store.{Store, is_table, is_replica, has_part, can_ship, is_visible, is_written, is_pull_by, is_nack, is_there, next, store_ready}
+use Rattle.anti_kind.specs.Shipments.{shipments, next_shipment}
 use Rattle.anti_kind.specs.Inbox.{delivered, deliveries, is_taken, takes, free, if_to, replied, has_reply, reply_is_taken, post_ready, post_due, inbox_ready, inbox_due}
 use Rattle.anti_kind.specs.Objects.{store, inbox, Follows, IsLegal}
 use Rattle.anti_kind.specs.Waiting.{lacks, waits, posted_as, brought, reaches, WaitingIsNotReady, WaitingGoesOn, NoneLeftGoesOn}

@@ -1,13 +1,11 @@
 -- The tables at work: short runs of each kind of store and of an inbox, replayed by computation.
-use Rattle.std.specs.Prelude.{◌≡◌, codes, ℕ, ◌+◌, Bool, true, false, ◌&&◌, Some, None, refl}
-use Rattle.std.specs.Prelude.{List, [], ◌∷◌, ◌++◌, length, take, map, replicate}
+use Rattle.std.specs.Prelude.{◌≡◌, codes, ℕ, ◌+◌, Bool, true, false, ◌&&◌, Some, None, refl, List, [], ◌∷◌, ◌++◌, length, take, map, replicate}
 use Rattle.std.specs.Fmt.{digits}
 use Rattle.anti_ids.specs.List.{plain}
 use Rattle.anti_ids.specs.declared.id.WriteId.{WriteId}
 use Rattle.anti_kind.specs.declared.actor.Actor.TheVariants.{Carrier}
 use Rattle.anti_kind.specs.declared.call.Call.{Call}
-use Rattle.anti_kind.specs.declared.call.Call.TheVariants.{Write, Read, Scan, Poll, Look, Ship, Again, Pull, Repull, Ack, Nack}
-use Rattle.anti_kind.specs.declared.call.Call.TheVariants.{Post, Take, Repost, TakeReply}
+use Rattle.anti_kind.specs.declared.call.Call.TheVariants.{Write, Read, Scan, Poll, Look, Ship, Again, Pull, Repull, Ack, Nack, Post, Take, Repost, TakeReply}
 use Rattle.anti_kind.specs.declared.call.Reply.{Reply}
 use Rattle.anti_kind.specs.declared.call.Reply.TheVariants.{Written, Shown, Missing, Moved, Pulled, Posted, Got, Done}
 use Rattle.anti_kind.specs.declared.entry.Entry.{Entry}
@@ -16,13 +14,16 @@ use Rattle.anti_kind.specs.declared.message.MessageKind.{MessageKind}
 use Rattle.anti_kind.specs.declared.message.MessageKind.TheVariants as kinds
 use Rattle.anti_kind.specs.declared.row.Row.{Row}
 use Rattle.anti_kind.specs.declared.store_kind.StoreKind.TheVariants.{Kv, Table, Blob, Queue, Topic}
-use Rattle.anti_kind.specs.Stored.{parts_of, upto_of}
-use Rattle.anti_kind.specs.Store.{store_of, kv_store, table_store, is_visible}
+use Rattle.anti_kind.specs.Stored.{parts_of}
+use Rattle.anti_kind.specs.Shipments.{upto_of, next_ship}
+use Rattle.anti_kind.specs.Store.{store_of, is_visible}
+use Rattle.anti_kind.specs.Starts.{kv_store, table_store}
 use Rattle.anti_kind.specs.Inbox.{free}
-use Rattle.anti_kind.specs.Laws.{speaks_of, shown, KeepsLaws}
+use Rattle.anti_kind.specs.Replies.{speaks_of, shown}
+use Rattle.anti_kind.specs.Laws.{KeepsLaws}
 use Rattle.anti_kind.specs.Fulls.{is_asking}
 use Rattle.anti_kind.proofs.Keeping.{keeps_laws}
-use Rattle.anti_kind.specs.Objects.{Start, store, inbox, ready, due, need, held, owed, next_ship, fits, last_stamp}
+use Rattle.anti_kind.specs.Objects.{Start, store, inbox, ready, due, need, held, owed, fits, last_stamp}
 
 -- the entry that a carrier's call makes
 abbrev made : Start → List Entry → Call → Entry

@@ -9,7 +9,8 @@ use Rattle.anti_kind.specs.declared.entry.Entry.{Entry}
 use Rattle.anti_kind.specs.declared.message.MessageKind.{MessageKind}
 use Rattle.anti_kind.specs.declared.message.MessageKind.TheVariants as kinds
 use Rattle.anti_kind.specs.Store.{is_visible}
-use Rattle.anti_kind.specs.Objects.{Start, store, inbox, ready, need, held, owed, fits, Follows, IsLegal, IsStart}
+use Rattle.anti_kind.specs.Objects.{Start, store, inbox, ready, need, held, owed, fits, Follows, IsLegal}
+use Rattle.anti_kind.specs.Starts.{IsStart}
 use Rattle.anti_kind.specs.Laws.{NeverFalls, ShowsWritten}
 
 -- Held and owed after an entry are what they were before and what its call needed.

@@ -1,15 +1,17 @@
 -- The laws of a store's kind: what can be relied on at every store, whatever its table says and whatever its regions show.
-use Rattle.std.specs.Prelude.{◌≡◌, ℕ, ◌<◌, ◌≤◌, ◌⊎◌, ◌↔◌, Bool, true, false, List, [], ◌∷◌, ◌++◌, length, take, ◌==◌, bytes_eq, All, AllPairs, Contains, None, Some}
+use Rattle.std.specs.Prelude.{◌≡◌, ℕ, ◌<◌, ◌≤◌, ◌⊎◌, ◌↔◌, Bool, true, false, List, [], ◌∷◌, ◌++◌, ◌==◌, All, AllPairs, Contains, None, Some}
 use Rattle.anti_ids.specs.declared.id.WriteId.{WriteId}
 use Rattle.anti_kind.specs.declared.call.Call.{Call}
 use Rattle.anti_kind.specs.declared.call.Call.TheVariants.{Read, Scan, Poll, Look, Ship, Again}
 use Rattle.anti_kind.specs.declared.call.Reply.{Reply}
-use Rattle.anti_kind.specs.declared.call.Reply.TheVariants.{Shown, Missing, Pulled}
+use Rattle.anti_kind.specs.declared.call.Reply.TheVariants.{Shown, Pulled}
 use Rattle.anti_kind.specs.declared.entry.Entry.{Entry}
 use Rattle.anti_kind.specs.declared.row.Row.{Row}
 use Rattle.anti_kind.specs.Stored.{stored, rows, row_of}
 use Rattle.anti_kind.specs.Store.{Store, is_visible, is_written, absent, shown_row}
-use Rattle.anti_kind.specs.Objects.{store, ready, due, next_ship, IsLegal}
+use Rattle.anti_kind.specs.Objects.{store, ready, due, IsLegal}
+use Rattle.anti_kind.specs.Shipments.{next_ship}
+use Rattle.anti_kind.specs.Replies.{named_missing, speaks_of, shown}
 
 -- What a region shows for a key never falls as a legal history grows.
 abbrev pub NeverFalls : Store → Type 0
@@ -25,11 +27,6 @@ ShowsWritten s = (h : List Entry) → IsLegal (store s) h → (g : ℕ) (k : Lis
 
 -- Looks.
 
--- the ids that a look's reply names as missing
-abbrev pub named_missing : Reply → List WriteId
-named_missing (Missing missing unwritten) = missing
-named_missing _ = []
-
 -- A look names as missing exactly those of its ids that are not visible at its region.
 abbrev pub LooksRight : Store → Type 0
 LooksRight s =
@@ -44,18 +41,6 @@ is_read_at g (Read region key) = region == g
 is_read_at g (Scan region prefix) = region == g
 is_read_at g (Poll region key) = region == g
 is_read_at g _ = false
-
--- whether a read speaks of the key k: a scan speaks of every key with its prefix, the others of the key that they name
-abbrev pub speaks_of : List ℕ → Call → Bool
-speaks_of k (Read region key) = bytes_eq key k
-speaks_of k (Scan region prefix) = bytes_eq prefix (take (length prefix) k)
-speaks_of k (Poll region key) = bytes_eq key k
-speaks_of k _ = false
-
--- the rows that a read's reply shows
-abbrev pub shown : Reply → List Row
-shown (Shown list) = list.items
-shown _ = []
 
 -- c is a read at the region g, and is ready after the legal history h
 pub record IsReading (s : Store) (h : List Entry) (g : ℕ) (c : Call) : Type 0 where

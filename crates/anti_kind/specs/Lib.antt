@@ -4,9 +4,15 @@ pub mod Store
 pub mod Cells
 pub mod Inbox
 pub mod Objects
+pub mod Starts
+pub mod Shipments
+pub mod Machines
 pub mod Laws
+pub mod Replies
 pub mod Fulls
 pub mod Waiting
 pub mod Ports
+pub mod Entries
 pub mod Records
 pub mod Lones
+pub mod inner

@@ -1,17 +1,12 @@
 -- Objects: a store or an inbox, what it starts as, and which histories are legal from there.
-use Rattle.std.specs.Prelude.{◌≡◌, ℕ, ◌+◌, ◌<◌, ◌≤◌, max, Bool, true, false, List, [], ◌∷◌, ◌++◌, length, nat_le, All, AllPairs, Contains, Option, None, sum_by}
-use Rattle.anti_ids.specs.Names.{is_plain}
-use Rattle.anti_ids.specs.declared.limits.TheConstants.{MOST_UNITS, MOST_REGIONS, MOST_TRIES, MOST_REQUESTS}
+use Rattle.std.specs.Prelude.{◌≡◌, ℕ, ◌+◌, ◌<◌, max, Bool, true, List, [], ◌∷◌, ◌++◌, length, nat_le, All, sum_by}
+use Rattle.anti_ids.specs.declared.limits.TheConstants.{MOST_UNITS}
 use Rattle.anti_kind.specs.declared.call.Call.{Call}
-use Rattle.anti_kind.specs.declared.call.Call.TheVariants.{Ship}
 use Rattle.anti_kind.specs.declared.call.Reply.{Reply}
 use Rattle.anti_kind.specs.declared.call.Reply.TheVariants.{Shown}
 use Rattle.anti_kind.specs.declared.entry.Entry.{Entry}
 use Rattle.anti_kind.specs.declared.message.Message.{Message}
-use Rattle.anti_kind.specs.declared.message.MessageKind.TheVariants as kinds
-use Rattle.anti_kind.specs.declared.store_kind.StoreKind.{StoreKind}
-use Rattle.anti_kind.specs.Stored.{upto_of}
-use Rattle.anti_kind.specs.Store.{Store, is_queue, next_shipment, store_ready, store_due, store_need, store_owed}
+use Rattle.anti_kind.specs.Store.{Store, store_ready, store_due, store_need, store_owed}
 use Rattle.anti_kind.specs.Inbox.{inbox_ready, inbox_due, inbox_need, inbox_owed}
 
 -- what an object starts as
@@ -46,16 +41,6 @@ abbrev pub owed : Start → List Entry → ℕ
 owed (store s) h = store_owed s h
 owed (inbox requests) h = inbox_owed requests h
 
--- how far a region has everything: how many versions, from the first on, are whole there
-abbrev pub upto : Start → List Entry → ℕ → ℕ
-upto (store s) h g = upto_of s.kind h g
-upto (inbox requests) h g = 0
-
--- the next shipment to a region, its version and its part
-abbrev pub next_ship : Start → List Entry → ℕ → Option (ℕ × ℕ)
-next_ship (store s) h g = next_shipment s h g
-next_ship (inbox requests) h g = None
-
 abbrev pub fits : Start → List Entry → Call → Bool
 fits start h c = nat_le (held h + owed start h + need start h c) MOST_UNITS
 
@@ -80,47 +65,3 @@ LegalAfter start h (e ∷ rest) = Follows start h e × LegalAfter start (h ++ e 
 
 abbrev pub IsLegal : Start → List Entry → Type 0
 IsLegal start h = LegalAfter start [] h
-
--- Which starts there are.
-
--- how many times a message may be handed out, where messages are tried
-abbrev pub AreTries : Bool → ℕ → Type 0
-AreTries true tries = (1 ≤ tries) × (tries ≤ MOST_TRIES)
-AreTries false tries = Unit {0}
-
-abbrev pub HasTries : StoreKind → ℕ → Type 0
-HasTries kind tries = AreTries (is_queue kind) tries
-
--- a store with one to eight replicas in different regions, subscriptions to plain channels at these, and, in a queue, tries
-pub record IsStore (s : Store) : Type 0 where
-  pub some : 1 ≤ length s.regions
-  pub few : length s.regions ≤ MOST_REGIONS
-  pub below : All (λ g. g < MOST_REGIONS) s.regions
-  pub distinct : AllPairs (λ a b. a ≡ b → ⊥) s.regions
-  pub subscribed : All (λ sub. Contains s.regions sub.region × (is_plain sub.channel ≡ true)) s.subs
-  pub tries : HasTries s.kind s.tries
-
-pub record IsInbox (requests : List Message) : Type 0 where
-  pub few : length requests ≤ MOST_REQUESTS
-  pub asked : All (λ m. m.kind ≡ kinds.Request) requests
-
-abbrev pub IsStart : Start → Type 0
-IsStart (store s) = IsStore s
-IsStart (inbox requests) = IsInbox requests
-
--- h is a legal history of a sound start, for which a machine stands
-pub record StandsFor (start : Start) (stands : List Entry → Type 0) (h : List Entry) : Type 0 where
-  pub sane : IsStart start
-  pub legal : IsLegal start h
-  pub state : stands h
-
--- some history for which the machine stands has the call ready, and it fits
-pub record MayMake (start : Start) (stands : List Entry → Type 0) (c : Call) : Type 0 where
-  pub history : List Entry
-  pub stands_for : StandsFor start stands history
-  pub is_ready : ready start history c ≡ true
-  pub fits : fits start history c ≡ true
-
-abbrev pub IsShip : Call → Type 0
-IsShip (Ship region version part) = Unit {0}
-IsShip _ = ⊥

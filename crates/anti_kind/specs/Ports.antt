@@ -3,14 +3,12 @@ use Rattle.std.specs.Prelude.{◌≡◌, ℕ, ◌+◌, ◌-◌, ◌^◌, ◌<◌
 use Rattle.anti_ids.specs.declared.limits.TheConstants.{MOST_UNITS}
 use Rattle.anti_ids.specs.Counts.{Rose}
 use Rattle.anti_kind.specs.declared.asking.Asking.{Asking}
-use Rattle.anti_kind.specs.declared.actor.Actor.{Actor}
-use Rattle.anti_kind.specs.declared.actor.Actor.TheVariants.{Process, Newborn}
 use Rattle.anti_kind.specs.declared.call.Call.{Call}
-use Rattle.anti_kind.specs.declared.call.Reply.{Reply}
 use Rattle.anti_kind.specs.declared.entry.Entry.{Entry}
 use Rattle.anti_kind.specs.declared.port.Answer.{Answer}
 use Rattle.anti_kind.specs.declared.port.Answer.TheVariants.{Made, NotYet, Full, Spent, NoMemory}
 use Rattle.anti_kind.specs.Objects.{Start, ready, need, held, owed, fits, last_stamp, Follows, IsLegal}
+use Rattle.anti_kind.specs.Entries.{entry_of}
 
 -- What a caller knows of an object: the history that was seen, the entries of the port's own calls, and a number that tells that a
 -- call came to the object.
@@ -18,23 +16,6 @@ pub record View : Type 0 where
   pub seen : List Entry
   pub made : List Entry
   pub visits : ℕ
-
--- a process that the entry itself begins is named by the entry's object and place
-abbrev pub named : Actor → ℕ → ℕ → Actor
-named Newborn object place = Process (record { object = object; place = place })
-named actor object place = actor
-
-abbrev pub entry_of : Asking → ℕ → ℕ → ℕ → Reply → Entry
-entry_of q seat place stamp reply = record {
-  stamp = stamp;
-  object = q.object;
-  place = place;
-  seat = seat;
-  actor = named q.actor q.object place;
-  span = q.span;
-  call = q.call;
-  reply = reply;
-}
 
 -- the first list is the front of the second
 abbrev pub IsFront : List Entry → List Entry → Type 0

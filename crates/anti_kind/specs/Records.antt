@@ -7,8 +7,10 @@ use Rattle.anti_kind.specs.declared.port.Answer.{Answer}
 use Rattle.anti_kind.specs.declared.port.Answer.TheVariants.{Made, NotYet, Full, Spent, NoMemory}
 use Rattle.anti_kind.specs.declared.recorded.Refusal.{Refusal}
 use Rattle.anti_kind.specs.declared.recorded.Refusal.TheVariants as refusals
-use Rattle.anti_kind.specs.Objects.{Start, ready, owed, fits, last_stamp, Follows, StandsFor}
-use Rattle.anti_kind.specs.Ports.{entry_of, IsFull, IsSpent}
+use Rattle.anti_kind.specs.Objects.{Start, ready, owed, fits, last_stamp, Follows}
+use Rattle.anti_kind.specs.Machines.{StandsFor}
+use Rattle.anti_kind.specs.Entries.{entry_of}
+use Rattle.anti_kind.specs.Ports.{IsFull, IsSpent}
 
 -- what is seen of it
 pub record Record (M : Type 0) : Type 0 where

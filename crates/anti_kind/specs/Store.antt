@@ -1,5 +1,5 @@
 -- The tables of the five kinds of store: which calls are ready after a history, what they are due, and the units that they need.
-use Rattle.std.specs.Prelude.{ℕ, ◌+◌, ◌*◌, max, Bool, true, false, cond, not, ◌&&◌, ◌||◌, List, [], ◌∷◌, ◌++◌, length, take, ◌==◌, nat_lt, nat_le, bytes_eq, Option, None, Some, find, filter, count_by, sum_by, slice_get, decimal, map, flat_map}
+use Rattle.std.specs.Prelude.{ℕ, ◌+◌, ◌*◌, max, Bool, true, false, cond, not, ◌&&◌, ◌||◌, List, [], ◌∷◌, ◌++◌, length, take, ◌==◌, nat_lt, nat_le, bytes_eq, Option, None, Some, find, filter, count_by, sum_by, slice_get, decimal}
 use Rattle.std.specs.List.{list_any, list_all}
 use Rattle.std.specs.Ordering.{nat_cmp, is_lt}
 use Rattle.std.specs.Cmp.Lexicographic.{slice_cmp}
@@ -15,7 +15,6 @@ use Rattle.anti_kind.specs.declared.entry.Entry.{Entry}
 use Rattle.anti_kind.specs.declared.row.Row.{Row}
 use Rattle.anti_kind.specs.declared.store_kind.Sub.{Sub}
 use Rattle.anti_kind.specs.declared.store_kind.StoreKind.{StoreKind}
-use Rattle.anti_kind.specs.declared.store_kind.StoreKind.TheVariants.{Kv, Table, Blob, Queue, Topic}
 use Rattle.anti_kind.specs.Kinds.{facts_of}
 use Rattle.anti_kind.specs.Stored.{rows, row_of, is_shipped, parts_of, parts, is_whole, shows_of, is_in}
 
@@ -34,21 +33,6 @@ abbrev pub store_of : StoreKind → ℕ → List ℕ → List Sub → ℕ → St
 store_of kind number regions subs tries =
     record { kind = kind; number = number; regions = regions; subs = subs; tries = tries; shows = shows_of kind }
 
-abbrev pub kv_store : ℕ → List ℕ → Store
-kv_store number regions = store_of Kv number regions [] 0
-
-abbrev pub table_store : ℕ → List ℕ → Store
-table_store number regions = store_of Table number regions [] 0
-
-abbrev pub blob_store : ℕ → List ℕ → Store
-blob_store number regions = store_of Blob number regions [] 0
-
-abbrev pub queue_store : ℕ → List ℕ → List Sub → ℕ → Store
-queue_store number regions subs tries = store_of Queue number regions subs tries
-
-abbrev pub topic_store : ℕ → List ℕ → List Sub → Store
-topic_store number regions subs = store_of Topic number regions subs 0
-
 -- Kinds.
 
 abbrev pub has_keys : StoreKind → Bool
@@ -66,19 +50,12 @@ is_queue kind = (facts_of kind).tried
 abbrev pub is_topic : StoreKind → Bool
 is_topic kind = (facts_of kind).polled
 
-abbrev pub is_pulled : StoreKind → Bool
-is_pulled kind = (facts_of kind).pulled
-
 -- Writing.
 
 -- the key that a write gets: the given one, but in a queue and a topic c#n for the nth write to the channel c
 abbrev pub key_for : StoreKind → List Entry → List ℕ → List ℕ
 key_for kind h key =
     cond (has_keys kind) key (key ++ hash ∷ decimal (count_by (is_in key) (rows h) + 1))
-
--- the lineage that a write to a key stores
-abbrev pub over : Store → List Entry → List ℕ → List WriteId → List WriteId
-over s h key lineage = lineage
 
 -- Shipping.
 
@@ -97,17 +74,6 @@ is_next h g v = list_all (λ r. nat_le v r.version || is_shipped h g r.version 1
 abbrev pub can_ship : Store → List Entry → ℕ → ℕ → ℕ → Bool
 can_ship s h g v p =
     is_replica s g && (has_part s.kind (row_of h v) p && (not (is_shipped h g v p) && (not (is_table s.kind) || is_next h g v)))
-
--- the shipments of a row, by version and part, ascending by part
-abbrev pub shipment : ℕ → ℕ → ℕ × ℕ
-shipment v p = (v, p)
-
-abbrev pub shipments : StoreKind → Row → List (ℕ × ℕ)
-shipments kind r = map (shipment r.version) (parts kind r)
-
--- the first shipment to g that can be made, ascending by version and part
-abbrev pub next_shipment : Store → List Entry → ℕ → Option (ℕ × ℕ)
-next_shipment s h g = find (λ x. can_ship s h g x.0 x.1) (flat_map (shipments s.kind) (rows h))
 
 -- Looking.
 

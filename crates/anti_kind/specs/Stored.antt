@@ -1,6 +1,6 @@
 -- What a history of a store wrote, which parts of it were shipped where, and what a region therefore shows.
 use Rattle.std.specs.Prelude.{ℕ, ◌+◌, ◌/◌, max, Bool, false, cond, not, ◌&&◌, List, [], ◌∷◌, length, ◌==◌, bytes_eq, Option, find, flat_map}
-use Rattle.std.specs.List.{list_any, list_all, range_with_len, prefix_len, take_while}
+use Rattle.std.specs.List.{list_any, list_all, range_with_len, take_while}
 use Rattle.anti_ids.specs.Ascii.{hash}
 use Rattle.anti_ids.specs.declared.id.WriteId.{WriteId}
 use Rattle.anti_ids.specs.declared.limits.TheConstants.{PART_BYTES}
@@ -64,10 +64,6 @@ greatest test k (r ∷ rest) = max (cond (bytes_eq r.key k && test r) r.version 
 -- What a region shows for a key: the greatest version of it that is whole there, or 0.
 abbrev pub shows_of : StoreKind → List Entry → ℕ → List ℕ → ℕ
 shows_of kind h g k = greatest (is_whole kind h g) k (rows h)
-
--- How far a region has everything: how many versions, from the first on, are whole there.
-abbrev pub upto_of : StoreKind → List Entry → ℕ → ℕ
-upto_of kind h g = prefix_len (is_whole kind h g) (rows h)
 
 -- A write to a queue or a topic names its channel; the key of the nth write to the channel c is c#n.
 abbrev pub channel_of : List ℕ → List ℕ

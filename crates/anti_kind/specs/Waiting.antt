@@ -14,7 +14,8 @@ use Rattle.anti_kind.specs.declared.message.MessageKind.TheVariants as kinds
 use Rattle.anti_kind.specs.Stored.{shows_of}
 use Rattle.anti_kind.specs.Store.{Store, is_visible, is_written, store_ready}
 use Rattle.anti_kind.specs.Inbox.{has_reply, inbox_ready}
-use Rattle.anti_kind.specs.Objects.{Start, store, inbox, next_ship, ready, IsLegal}
+use Rattle.anti_kind.specs.Objects.{Start, store, inbox, ready, IsLegal}
+use Rattle.anti_kind.specs.Shipments.{next_ship}
 
 -- an id of this version is not visible at the region
 abbrev pub lacks : Store → List Entry → ℕ → ℕ → WriteId → Bool

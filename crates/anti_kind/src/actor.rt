@@ -1,5 +1,5 @@
 ghost use Rattle.std.specs.Prelude.{◌≡◌};
-ghost use Rattle.anti_kind.specs.Ports.{named};
+ghost use Rattle.anti_kind.specs.Entries.{named};
 
 /// The entry that began a process: the number of its object and its place in that object's history, counted from 1.
 #[derive(Clone, Copy, PartialEq, Eq)]

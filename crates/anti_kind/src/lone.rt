@@ -1,5 +1,7 @@
 ghost use Rattle.std.specs.Prelude.{◌≡◌, ℕ, ◌+◌, ◌-◌, ◌^◌, min, [], IfErr, IfOk, Some};
-ghost use Rattle.anti_kind.specs.Objects.{IsLegal, IsShip, StandsFor};
+ghost use Rattle.anti_kind.specs.Objects.{IsLegal};
+ghost use Rattle.anti_kind.specs.Shipments.{IsShip};
+ghost use Rattle.anti_kind.specs.Machines.{StandsFor};
 ghost use Rattle.anti_kind.specs.Ports.{Answered};
 ghost use Rattle.anti_kind.specs.Lones.{AreOwn, IsNumbered, lone_start, lone_view};
 

@@ -8,7 +8,9 @@ pub trait Machine {
     ghost use Rattle.std.specs.Prelude.{◌≡◌, List, [], ◌∷◌, ◌++◌, true, IfOk, IfSome, OnOk, OnErr, IsOk};
     ghost use Rattle.anti_kind.specs.declared.entry.Entry.{Entry};
     ghost use Rattle.anti_kind.specs.Waiting.{waits};
-    ghost use Rattle.anti_kind.specs.Objects.{Start, ready, need, held, owed, upto, next_ship, due, Follows, StandsFor, MayMake, IsShip};
+    ghost use Rattle.anti_kind.specs.Objects.{Start, ready, need, held, owed, due, Follows};
+    ghost use Rattle.anti_kind.specs.Shipments.{upto, next_ship, IsShip};
+    ghost use Rattle.anti_kind.specs.Machines.{StandsFor, MayMake};
 
     ghost start: { Self → Start };
 

@@ -29,7 +29,8 @@ pub enum Answer {
 /// Some objects, each with a start and a legal history, on which calls are made.
 pub trait Port {
     ghost use Rattle.std.specs.Prelude.{◌≡◌, ℕ, Option, is_some};
-    ghost use Rattle.anti_kind.specs.Objects.{Start, IsShip};
+    ghost use Rattle.anti_kind.specs.Objects.{Start};
+    ghost use Rattle.anti_kind.specs.Shipments.{IsShip};
     ghost use Rattle.anti_kind.specs.Ports.{Answered, View};
 
     ghost start: { Self → ℕ → Option Start };
@@ -51,7 +52,7 @@ pub trait Port {
 /// A port whose calls may wait until they are ready.
 pub trait WaitPort: Port {
     ghost use Rattle.std.specs.Prelude.{◌≡◌, ℕ, Some, is_some, true};
-    ghost use Rattle.anti_kind.specs.Objects.{IsShip};
+    ghost use Rattle.anti_kind.specs.Shipments.{IsShip};
     ghost use Rattle.anti_kind.specs.Ports.{Answered};
 
     /// Makes a call on an object that the port has, once it is ready. It may wait, and never answers `NotYet`. A `Ship` is never refused

@@ -1,6 +1,8 @@
 ghost use Rattle.std.specs.Prelude.{◌≡◌, ◌+◌, ◌-◌, ◌^◌, ◌<◌, max, true, false, [], ◌∷◌, ◌++◌, length, IfErr, IfOk, OnOk, OnErr, IsOk};
-ghost use Rattle.anti_kind.specs.Objects.{Follows, IsLegal, IsShip, StandsFor, due, fits, last_stamp, need, owed, ready};
-ghost use Rattle.anti_kind.specs.Ports.{entry_of};
+ghost use Rattle.anti_kind.specs.Objects.{Follows, IsLegal, due, fits, last_stamp, need, owed, ready};
+ghost use Rattle.anti_kind.specs.Shipments.{IsShip};
+ghost use Rattle.anti_kind.specs.Machines.{StandsFor};
+ghost use Rattle.anti_kind.specs.Entries.{entry_of};
 ghost use Rattle.anti_kind.specs.Records.{Gives, Goes, IsRefusal};
 
 use crate::actor::Birth;

@@ -1,7 +1,8 @@
 -- What a `Kv` stands for: what its base stands for, as a store of its kind.
 use Rattle.std.specs.Prelude.{ℕ, List}
 use Rattle.anti_kind.specs.declared.entry.Entry.{Entry}
-use Rattle.anti_kind.specs.Store.{Store, kv_store}
+use Rattle.anti_kind.specs.Store.{Store}
+use Rattle.anti_kind.specs.Starts.{kv_store}
 use Rattle.anti_kind.specs.Objects.{Start, store}
 use Rattle.anti_replicas.specs.Stores.{number_of, regions_of}
 use Rattle.anti_replicas.specs.inner.Standing.{Stands}

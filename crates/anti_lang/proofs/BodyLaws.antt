@@ -6,7 +6,8 @@ use Rattle.anti_lang.specs.Program.{Step, Block, Repeat, IfAbsent}
 use Rattle.anti_lang.specs.Lines.{Line, Does, OpenRepeat, OpenIf, Close, fits, opens_none, read_line}
 use Rattle.anti_lang.specs.Blocks.{step_lines, lines_of, up}
 use Rattle.anti_lang.specs.Faults.{block_fault, variable_fault}
-use Rattle.anti_lang.specs.Parsing.{read_or, lines_from, one_block, body_or, parsed_or, parsed, all_spelled, printed}
+use Rattle.anti_lang.specs.Parsing.{read_or, lines_from, one_block, body_or, parsed_or, parsed}
+use Rattle.anti_lang.specs.Printing.{all_spelled, printed}
 use Rattle.anti_lang.proofs.LineLemmas.{read_found, read_again}
 use Rattle.anti_lang.proofs.SpacedLemmas.{words_again}
 use Rattle.anti_lang.specs.Spans.{spans_of}

@@ -2,8 +2,7 @@
 use Rattle.std.proofs.Common.{◌≡◌, ℕ, zero, suc, ◌-◌, ◌∙◌, sym, ap, refl, List, [], ◌∷◌, ◌++◌, append_assoc, length, arith}
 use Rattle.std.specs.Prelude.{Bool, true, false, not, ◌||◌, cond, nat_lt, find, Option, Some, None, option_map}
 use Rattle.std.proofs.lemmas.List.{append-nil}
-use Rattle.anti_lang.specs.Program.{Step, Block, Then, Repeat, IfAbsent}
-use Rattle.anti_lang.specs.Program.{End}
+use Rattle.anti_lang.specs.Program.{Step, Block, Then, Repeat, IfAbsent, End}
 use Rattle.anti_lang.specs.Lines.{Line, Does, OpenRepeat, OpenIf, Close}
 use Rattle.anti_lang.specs.Blocks.{step_lines, lines_of, behind, wrap, ended, up}
 use Rattle.anti_lang.specs.Parsing.{one_block}

@@ -3,7 +3,8 @@ use Rattle.std.proofs.Common.{◌≡◌, ◌∙◌, sym, ap, List, [], ◌∷◌
 use Rattle.anti_ids.specs.List.{Listed}
 use Rattle.anti_lang.specs.Program.{Block}
 use Rattle.anti_lang.specs.Blocks.{with_line, up}
-use Rattle.anti_lang.specs.Lines.{Line, line_of}
+use Rattle.anti_lang.specs.Lines.{Line}
+use Rattle.anti_lang.specs.Parses.{line_of}
 use Rattle.anti_lang.specs.Stated.{stated, all_stated, ArePlain}
 use Rattle.anti_lang.specs.Turned.{Hold}
 use Rattle.anti_lang.specs.declared.line.Line as code

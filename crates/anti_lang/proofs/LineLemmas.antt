@@ -8,7 +8,8 @@ use Rattle.anti_lang.specs.Texts.{is_variable}
 use Rattle.anti_lang.specs.Keywords.{keyword_text, keywords, keyword_among, keyword_of}
 use Rattle.anti_lang.specs.Vocabulary.{key_fits, value_fits, key_of, value_of, count_of}
 use Rattle.anti_lang.specs.Program.{Step, Write, Append, Remove, Transfer, Barrier, DryRun, Read, Scan, Poll, Call, Send, Reply, Nack, Root, Stop, Repeat, IfAbsent}
-use Rattle.anti_lang.specs.Lines.{Line, Does, OpenRepeat, OpenIf, Close, spelling, fits, opens_none, statement_fits, held_words, held_fits, joined, held_of, written, write_form, read_form, scan_form, poll_form, call_form, send_form, if_form, one_word_form, no_word_form, form_of, fitting, read_line}
+use Rattle.anti_lang.specs.Lines.{Line, Does, OpenRepeat, OpenIf, Close, fits, opens_none, statement_fits, held_fits, joined, held_of, written, write_form, read_form, scan_form, poll_form, call_form, send_form, if_form, one_word_form, no_word_form, form_of, fitting, read_line}
+use Rattle.anti_lang.specs.Printing.{spelling, held_words}
 use Rattle.anti_lang.specs.declared.keyword.Keyword.{Keyword}
 use Rattle.anti_lang.specs.declared.keyword.Keyword.TheVariants as keyword
 use Rattle.anti_lang.proofs.WordLemmas.{both, found, same, key_found, value_found, count_found, key_again, value_again, count_again, name_no_dollar, plain_no_dollar}

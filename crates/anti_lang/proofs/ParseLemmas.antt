@@ -4,10 +4,12 @@ use Rattle.std.specs.Prelude.{Result, Ok, Err}
 use Rattle.anti_ids.specs.Answers.{AnswersBut}
 use Rattle.anti_ids.specs.List.{Listed, plain}
 use Rattle.anti_lang.specs.Program.{Block}
-use Rattle.anti_lang.specs.Lines.{Line, line_of}
+use Rattle.anti_lang.specs.Lines.{Line}
+use Rattle.anti_lang.specs.Parses.{line_of, body_parsed}
 use Rattle.anti_lang.specs.Stated.{all_stated, ArePlain}
 use Rattle.anti_lang.specs.Faults.{block_fault, variable_fault}
-use Rattle.anti_lang.specs.Parsing.{lines_read, body_or, body_parsed, parsed_or}
+use Rattle.anti_lang.specs.inner.Parses.{lines_read}
+use Rattle.anti_lang.specs.Parsing.{body_or, parsed_or}
 use Rattle.anti_lang.specs.declared.line.Line as code
 use Rattle.anti_lang.specs.declared.statement.Statement.{Statement}
 use Rattle.anti_lang.specs.declared.fault.LangFault.{LangFault}

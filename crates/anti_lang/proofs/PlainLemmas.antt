@@ -2,14 +2,14 @@
 use Rattle.std.proofs.Common.{◌≡◌, ℕ, ◌∙◌, sym, ap, refl, List, [], ◌∷◌, ◌++◌, map}
 use Rattle.anti_ids.specs.List.{Listed}
 use Rattle.anti_lang.specs.Program as program
-use Rattle.anti_lang.specs.Program.{Step, Block, Then}
-use Rattle.anti_lang.specs.Program.{End}
+use Rattle.anti_lang.specs.Program.{Step, Block, Then, End}
 use Rattle.anti_lang.specs.declared.statement.Statement.{Statement}
 use Rattle.anti_lang.specs.declared.statement.Statement.TheFolds.{fold-roll-Statement}
 use Rattle.anti_lang.specs.declared.statement.Statement.TheOpen as open_statement
 use Rattle.anti_lang.specs.declared.statement.Statement.TheVariants as statements
 use Rattle.anti_lang.specs.Bodies.{step_in, step_of, block_of, statement_of, body_of}
-use Rattle.anti_lang.specs.Lines.{Line, Does, OpenRepeat, OpenIf, Close, line_of}
+use Rattle.anti_lang.specs.Lines.{Line, Does, OpenRepeat, OpenIf, Close}
+use Rattle.anti_lang.specs.Parses.{line_of}
 use Rattle.anti_lang.specs.Stated.{stated, all_stated, ArePlain}
 use Rattle.anti_lang.specs.declared.line.Line as code
 

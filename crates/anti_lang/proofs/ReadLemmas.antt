@@ -1,9 +1,11 @@
 -- What lines are read as, from the first line on.
 use Rattle.std.proofs.Common.{◌≡◌, ℕ, suc, ◌+◌, ◌<◌, ◌∙◌, sym, ap, refl, List, [], ◌∷◌, ◌++◌, append_assoc, map, length, get_or, drop, drop-cons, add-one}
 use Rattle.std.specs.Prelude.{Option, Some, None, option_map, Result, Ok, Err}
-use Rattle.anti_ids.specs.List.{Listed, plain, pushed}
+use Rattle.anti_ids.specs.List.{Listed, plain}
+use Rattle.anti_ids.specs.ListCalls.{pushed}
 use Rattle.anti_lang.specs.Words.{words}
-use Rattle.anti_lang.specs.Lines.{Line, line_of, read_line}
+use Rattle.anti_lang.specs.Lines.{Line, read_line}
+use Rattle.anti_lang.specs.Parses.{line_of}
 use Rattle.anti_lang.specs.Parsing.{and_line, read_or, lines_from}
 use Rattle.anti_lang.specs.declared.line.Line as code
 

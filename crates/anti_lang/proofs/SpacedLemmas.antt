@@ -1,10 +1,9 @@
 -- The words of a line are found again where they stand with one space between.
 use Rattle.std.proofs.Common.{◌≡◌, ℕ, ◌≤◌, List, [], ◌∷◌, Bool, true, false, not, ◌&&◌, Option, Some, None, nat_eq, nat_lt, nat_le, length, refl, ap, subst, arith}
-use Rattle.std.specs.Prelude.{decimal}
+use Rattle.std.specs.Prelude.{decimal, codes}
 use Rattle.std.specs.Char.{is_ascii_digit}
 use Rattle.std.specs.List.{list_all, All}
 use Rattle.std.specs.Str.{is_utf8, bytes_eq}
-use Rattle.std.specs.Prelude.{codes}
 use Rattle.std.proofs.lemmas.Bool.Decides.{nat_tests}
 use Rattle.std.proofs.lemmas.Bool.{lt-ltb}
 use Rattle.std.proofs.lemmas.List.Elements.{All-nil, All-cons}
@@ -13,11 +12,11 @@ use Rattle.anti_ids.specs.Names.{is_name_byte, is_plain_byte, is_name, is_plain}
 use Rattle.anti_ids.specs.declared.limits.TheConstants.{LONGEST_VALUE, MOST_TURNS}
 use Rattle.anti_ids.proofs.Decimals.{digits_of_decimal}
 use Rattle.anti_lang.specs.Texts.{is_variable, is_literal, is_literal_byte, has_dollar}
-use Rattle.anti_lang.specs.Vocabulary.{key_text, value_text, key_fits, value_fits}
+use Rattle.anti_lang.specs.Printing.{key_text, value_text, spelling, held_words, spaced}
+use Rattle.anti_lang.specs.Vocabulary.{key_fits, value_fits}
 use Rattle.anti_lang.specs.Program.{Write, Append, Remove, Transfer, Barrier, DryRun, Read, Scan, Poll, Call, Send, Reply, Nack, Root, Stop, Repeat, IfAbsent}
-use Rattle.anti_lang.specs.Lines.{Line, Does, OpenRepeat, OpenIf, Close, spelling, fits, held_words, held_fits}
+use Rattle.anti_lang.specs.Lines.{Line, Does, OpenRepeat, OpenIf, Close, fits, held_fits}
 use Rattle.anti_lang.specs.Words.{words}
-use Rattle.anti_lang.specs.Parsing.{spaced}
 use Rattle.anti_lang.specs.declared.statement.KeyWord.{KeyWord}
 use Rattle.anti_lang.specs.declared.statement.KeyWord.TheVariants as keys
 use Rattle.anti_lang.specs.declared.statement.ValueWord.{ValueWord}

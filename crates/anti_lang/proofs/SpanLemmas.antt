@@ -4,8 +4,7 @@ use Rattle.std.specs.Prelude.{Bool, true, false, ◌||◌, find, None}
 use Rattle.std.proofs.lemmas.Bool.{ltb-false}
 use Rattle.std.proofs.lemmas.List.{append-nil}
 use Rattle.std.proofs.Math.Nat.{mul-zero}
-use Rattle.anti_lang.specs.Program.{Step, Block, Then, Root, Stop, Repeat, IfAbsent}
-use Rattle.anti_lang.specs.Program.{End}
+use Rattle.anti_lang.specs.Program.{Step, Block, Then, Root, Stop, Repeat, IfAbsent, End}
 use Rattle.anti_lang.specs.Lines.{Line, Does, OpenRepeat, OpenIf, Close}
 use Rattle.anti_lang.specs.Blocks.{step_lines, lines_of}
 use Rattle.anti_lang.specs.Spans.{spans_in, spans_of}

@@ -10,7 +10,8 @@ use Rattle.anti_ids.specs.Names.{is_name_byte, is_plain_byte, is_name, is_plain}
 use Rattle.anti_lang.specs.Texts.{is_variable, is_literal, is_literal_byte, has_dollar}
 use Rattle.anti_ids.specs.declared.limits.TheConstants.{LONGEST_VALUE, MOST_TURNS}
 use Rattle.anti_ids.proofs.Decimals.{decimal_back, decimal_again}
-use Rattle.anti_lang.specs.Vocabulary.{key_text, value_text, key_fits, value_fits, key_behind, value_behind, key_of, value_of, count_of}
+use Rattle.anti_lang.specs.Printing.{key_text, value_text}
+use Rattle.anti_lang.specs.Vocabulary.{key_fits, value_fits, key_behind, value_behind, key_of, value_of, count_of}
 use Rattle.anti_lang.specs.declared.statement.KeyWord.{KeyWord}
 use Rattle.anti_lang.specs.declared.statement.KeyWord.TheVariants as keys
 use Rattle.anti_lang.specs.declared.statement.ValueWord.{ValueWord}

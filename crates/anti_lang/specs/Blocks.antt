@@ -1,7 +1,6 @@
 -- The body that lines state, and the lines of a body.
 use Rattle.std.specs.Prelude.{List, [], ◌∷◌, ◌++◌}
-use Rattle.anti_lang.specs.Program.{Step, Block, Then, Repeat, IfAbsent}
-use Rattle.anti_lang.specs.Program.{End}
+use Rattle.anti_lang.specs.Program.{Step, Block, Then, Repeat, IfAbsent, End}
 use Rattle.anti_lang.specs.Lines.{Line, Does, OpenRepeat, OpenIf, Close}
 
 abbrev mutual

@@ -12,11 +12,6 @@ abbrev pub block_from : List Step → Block
 block_from [] = End
 block_from (first ∷ rest) = Then first (block_from rest)
 
--- a block as a list
-abbrev pub list_of : Block → List Step
-list_of End = []
-list_of (Then first rest) = first ∷ list_of rest
-
 -- one statement, where the blocks in it are plain data already
 abbrev pub step_in : Statement-F Step → Step
 step_in (open_statement.Write store key value variable untracked) = program.Write store key value variable untracked

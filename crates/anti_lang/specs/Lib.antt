@@ -4,6 +4,7 @@ pub mod Keywords
 pub mod Vocabulary
 pub mod Program
 pub mod Bodies
+pub mod Steps
 pub mod Lines
 pub mod Stated
 pub mod Held
@@ -12,5 +13,7 @@ pub mod Faults
 pub mod Turns
 pub mod Turned
 pub mod Parsing
+pub mod Printing
+pub mod Parses
 pub mod Spans
 pub mod inner

@@ -1,5 +1,5 @@
 -- The lines of the language: how each is spelled, what may stand in it, and which line words state.
-use Rattle.std.specs.Prelude.{ℕ, codes, decimal, List, [], ◌∷◌, Bool, true, false, not, ◌&&◌, nat_le, Option, Some, None, option_map}
+use Rattle.std.specs.Prelude.{ℕ, codes, List, [], ◌∷◌, Bool, true, false, not, ◌&&◌, nat_le, Option, Some, None, option_map}
 use Rattle.std.specs.Bool.{then_some}
 use Rattle.std.specs.Option.{option_and_then}
 use Rattle.std.specs.Str.{bytes_eq}
@@ -7,13 +7,10 @@ use Rattle.anti_ids.specs.Names.{is_name, is_plain}
 use Rattle.anti_ids.specs.declared.limits.TheConstants.{MOST_TURNS}
 use Rattle.anti_lang.specs.Texts.{is_variable}
 use Rattle.anti_lang.specs.Keywords.{keyword_of}
-use Rattle.anti_lang.specs.Vocabulary.{key_text, value_text, key_fits, value_fits, key_of, value_of, count_of}
+use Rattle.anti_lang.specs.Vocabulary.{key_fits, value_fits, key_of, value_of, count_of}
 use Rattle.anti_lang.specs.Program.{Step, Write, Append, Remove, Transfer, Barrier, DryRun, Read, Scan, Poll, Call, Send, Reply, Nack, Root, Stop, Repeat, IfAbsent}
-use Rattle.anti_lang.specs.Bodies.{statement_of}
 use Rattle.anti_lang.specs.declared.keyword.Keyword.{Keyword}
 use Rattle.anti_lang.specs.declared.keyword.Keyword.TheVariants as keywords
-use Rattle.anti_lang.specs.declared.line.Line as code
-use Rattle.anti_lang.specs.declared.line.Line.TheVariants as lines
 
 -- A line: a statement that opens no block, the opening of a block, or an `end`.
 pub data Line : Type 0 where
@@ -21,48 +18,6 @@ pub data Line : Type 0 where
   OpenRepeat : (count : ℕ) → Line
   OpenIf : (variable : List ℕ) → Line
   Close : Line
-
--- the line of the code for a line
-abbrev pub line_of : Line → code.Line
-line_of (Does statement) = lines.Does (statement_of statement)
-line_of (OpenRepeat count) = lines.Repeat count
-line_of (OpenIf variable) = lines.IfAbsent variable
-line_of Close = lines.End
-
--- the words by which a write sets its variable
-abbrev pub held_words : Option (List ℕ) → Bool → List (List ℕ)
-held_words None untracked = []
-held_words (Some variable) false = codes "as" ∷ variable ∷ []
-held_words (Some variable) true = codes "as" ∷ variable ∷ codes "untracked" ∷ []
-
--- the words of a statement; of one with a block those of the line that opens it
-abbrev pub statement_words : Step → List (List ℕ)
-statement_words (Write store key value variable untracked) =
-    codes "write" ∷ store ∷ key_text key ∷ value_text value ∷ held_words variable untracked
-statement_words (Append variable) = codes "append" ∷ variable ∷ []
-statement_words (Remove variable) = codes "remove" ∷ variable ∷ []
-statement_words (Transfer variable) = codes "transfer" ∷ variable ∷ []
-statement_words Barrier = codes "barrier" ∷ []
-statement_words DryRun = codes "dryrun" ∷ []
-statement_words (Read store key variable) = codes "read" ∷ store ∷ key_text key ∷ codes "as" ∷ variable ∷ []
-statement_words (Scan store prefix variable) = codes "scan" ∷ store ∷ prefix ∷ codes "as" ∷ variable ∷ []
-statement_words (Poll store key variable) = codes "poll" ∷ store ∷ key_text key ∷ codes "as" ∷ variable ∷ []
-statement_words (Call service handler value variable) =
-    codes "call" ∷ service ∷ handler ∷ value_text value ∷ codes "as" ∷ variable ∷ []
-statement_words (Send service handler value) = codes "send" ∷ service ∷ handler ∷ value_text value ∷ []
-statement_words (Reply value) = codes "reply" ∷ value_text value ∷ []
-statement_words Nack = codes "nack" ∷ []
-statement_words Root = codes "root" ∷ []
-statement_words Stop = codes "stop" ∷ []
-statement_words (Repeat count block) = codes "repeat" ∷ decimal count ∷ []
-statement_words (IfAbsent variable block) = codes "if" ∷ variable ∷ codes "absent" ∷ []
-
--- The words of a line, as they are printed.
-abbrev pub spelling : Line → List (List ℕ)
-spelling (Does statement) = statement_words statement
-spelling (OpenRepeat count) = codes "repeat" ∷ decimal count ∷ []
-spelling (OpenIf variable) = codes "if" ∷ variable ∷ codes "absent" ∷ []
-spelling Close = codes "end" ∷ []
 
 -- Whether a statement has no block.
 abbrev pub opens_none : Step → Bool
@@ -176,10 +131,6 @@ form_of keywords.End words = no_word_form Close words
 abbrev pub fitting : Option Line → Option Line
 fitting None = None
 fitting (Some line) = then_some (fits line) line
-
--- the same as a line of the code
-abbrev pub read_as : Option Line → Option code.Line
-read_as line = option_map line_of (fitting line)
 
 -- The line that words state: that of the form of the first of them, where it keeps to the forms of the language.
 unfoldable pub read_line : List (List ℕ) → Option Line

@@ -1,26 +1,14 @@
--- The body that lines of bytes state, and the lines of bytes of a body.
-use Rattle.std.specs.Prelude.{ℕ, List, [], ◌∷◌, ◌++◌, Option, Some, None, Result, Ok, Err, map, ◌+◌}
-use Rattle.anti_ids.specs.Ascii.{space}
-use Rattle.anti_ids.specs.List.{Listed, plain}
+-- The body that lines of bytes state.
+use Rattle.std.specs.Prelude.{ℕ, List, [], ◌∷◌, Option, Some, None, Result, Ok, Err, ◌+◌}
 use Rattle.anti_lang.specs.Words.{words}
 use Rattle.anti_lang.specs.Program.{Block, End}
-use Rattle.anti_lang.specs.Bodies.{body_of}
-use Rattle.anti_lang.specs.Lines.{Line, read_line, spelling, line_of}
-use Rattle.anti_lang.specs.declared.line.Line as code
-use Rattle.anti_lang.specs.Blocks.{up, lines_of}
+use Rattle.anti_lang.specs.Lines.{Line, read_line}
+use Rattle.anti_lang.specs.Blocks.{up}
 use Rattle.anti_lang.specs.Faults.{block_fault, variable_fault}
-use Rattle.anti_lang.specs.declared.statement.Statement.{Statement}
 use Rattle.anti_lang.specs.declared.fault.LangCode.{LangCode}
 use Rattle.anti_lang.specs.declared.fault.LangCode.TheVariants as codes
 use Rattle.anti_lang.specs.declared.fault.LangFault.{LangFault}
 use Rattle.anti_lang.specs.declared.fault.LangFault.TheVariants as faults
-
-abbrev pub LineTexts : Type 0
-LineTexts = List (List ℕ)
-
--- the texts of some lines of the code
-abbrev pub texts_of : Listed (Listed ℕ) → List (List ℕ)
-texts_of lines = map (λ line. line.items) lines.items
 
 -- What lines may be read as: all of them, or the first that states nothing, counted from the one behind so many.
 abbrev pub and_line : Line → Result (List Line) ℕ → Result (List Line) ℕ
@@ -37,11 +25,6 @@ lines_from before (text ∷ texts) = read_or (before + 1) (read_line (words text
 
 abbrev pub fault_at : LangCode → ℕ → LangFault
 fault_at code number = faults.Line number code
-
--- lines as the code has them, or the fault of the first that states nothing
-abbrev pub lines_read : Result (List Line) ℕ → Result (Listed code.Line) LangFault
-lines_read (Ok lines) = Ok (plain (map line_of lines))
-lines_read (Err number) = Err (fault_at codes.Unknown number)
 
 -- the block, where the lines are those of one body
 abbrev pub one_block : List Block → Block
@@ -60,22 +43,3 @@ parsed_or (Ok lines) = body_or lines (block_fault lines) (variable_fault lines)
 -- The body that lines state, or their first fault: first of all lines the unknown ones, then the blocks, then the variables.
 abbrev pub parsed : List (List ℕ) → Result Block LangFault
 parsed texts = parsed_or (lines_from 0 texts)
-
--- a body as the code has it, or why there is none
-abbrev pub body_parsed : Result Block LangFault → Result (Listed Statement) LangFault
-body_parsed (Ok block) = Ok (body_of block)
-body_parsed (Err fault) = Err fault
-
--- words with one space between
-abbrev pub spaced : List (List ℕ) → List ℕ
-spaced [] = []
-spaced (word ∷ []) = word
-spaced (word ∷ next ∷ rest) = word ++ space ∷ spaced (next ∷ rest)
-
--- the texts of lines, each with one space between its words
-abbrev pub all_spelled : List Line → List (List ℕ)
-all_spelled lines = map (λ line. spaced (spelling line)) lines
-
--- The lines of a body.
-abbrev pub printed : Block → List (List ℕ)
-printed block = all_spelled (lines_of block)

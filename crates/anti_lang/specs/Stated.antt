@@ -1,7 +1,8 @@
 -- The lines of the code as plain data.
 use Rattle.std.specs.Prelude.{◌≡◌, List, map, reverse}
 use Rattle.anti_lang.specs.Bodies.{step_of}
-use Rattle.anti_lang.specs.Lines.{Line, Does, OpenRepeat, OpenIf, Close, line_of}
+use Rattle.anti_lang.specs.Lines.{Line, Does, OpenRepeat, OpenIf, Close}
+use Rattle.anti_lang.specs.Parses.{line_of}
 use Rattle.anti_lang.specs.declared.line.Line as code
 use Rattle.anti_lang.specs.declared.line.Line.TheVariants as lines
 

@@ -1,4 +1,4 @@
--- The words behind a keyword: how a key and a value are spelled, and what a word is as a key, a value or a count.
+-- The words behind a keyword: what may stand as a key or a value, and what a word is as a key, a value or a count.
 use Rattle.std.specs.Prelude.{ℕ, codes, List, [], ◌∷◌, Bool, true, ◌==◌, Option, if◌then◌else◌}
 use Rattle.std.specs.Str.{bytes_eq}
 use Rattle.anti_ids.specs.Ascii.{dollar}
@@ -9,16 +9,6 @@ use Rattle.anti_lang.specs.declared.statement.KeyWord.{KeyWord}
 use Rattle.anti_lang.specs.declared.statement.KeyWord.TheVariants as keys
 use Rattle.anti_lang.specs.declared.statement.ValueWord.{ValueWord}
 use Rattle.anti_lang.specs.declared.statement.ValueWord.TheVariants as values
-
-abbrev pub key_text : KeyWord → List ℕ
-key_text keys.Input = codes "$in"
-key_text (keys.Of variable) = dollar ∷ variable
-key_text (keys.Plain name) = name
-
-abbrev pub value_text : ValueWord → List ℕ
-value_text values.Input = codes "$in"
-value_text (values.Of variable) = dollar ∷ variable
-value_text (values.Literal value) = value
 
 -- whether a key may stand in a line; which names may stand there themselves, the first argument says
 abbrev pub key_fits : (List ℕ → Bool) → KeyWord → Bool

@@ -4,7 +4,7 @@ ghost use Rattle.anti_lang.specs.Program.{Step, Repeat, IfAbsent};
 ghost use Rattle.anti_lang.specs.Bodies.{statement_of, body_of};
 ghost use Rattle.anti_lang.specs.Blocks.{behind, wrap, ended, with_line, up};
 ghost use Rattle.anti_lang.specs.Stated.{StatedLine, all_stated, ArePlain};
-ghost use Rattle.anti_lang.specs.Lines.{line_of};
+ghost use Rattle.anti_lang.specs.Parses.{line_of};
 ghost use Rattle.anti_lang.specs.Turned.{OpenBlocks, Hold, innermost, others};
 ghost use Rattle.anti_lang.specs.Parsing.{one_block};
 

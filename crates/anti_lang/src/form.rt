@@ -1,9 +1,10 @@
 // The forms of lines: each is read by the words behind its keyword, and written.
 ghost use Rattle.std.specs.Prelude.{◌≡◌, [], ◌∷◌, Some, IfOk, map, option_map, codes, decimal};
 ghost use Rattle.anti_lang.specs.Program.{Append, Remove, Transfer, Read, Scan, Poll, Call, Send, Reply};
-ghost use Rattle.anti_lang.specs.Vocabulary.{key_text, value_text, key_of, value_of, count_of};
-ghost use Rattle.anti_lang.specs.Lines.{Does, OpenRepeat, read_as, joined, one_word_form, no_word_form, read_form, scan_form, poll_form, call_form, send_form, if_form, statement_words};
-ghost use Rattle.anti_lang.specs.Parsing.{spaced};
+ghost use Rattle.anti_lang.specs.Printing.{key_text, value_text, statement_words, spaced};
+ghost use Rattle.anti_lang.specs.Vocabulary.{key_of, value_of, count_of};
+ghost use Rattle.anti_lang.specs.Lines.{Does, OpenRepeat, joined, one_word_form, no_word_form, read_form, scan_form, poll_form, call_form, send_form, if_form};
+ghost use Rattle.anti_lang.specs.inner.Parses.{read_as};
 
 use crate::line::Line;
 use crate::name::plain_name;

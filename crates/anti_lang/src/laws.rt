@@ -1,8 +1,8 @@
 // Laws of the language. The functions do nothing: what they say is in their contracts.
 ghost use Rattle.std.specs.Prelude.{◌≡◌, ℕ, List, true, Some};
 ghost use Rattle.anti_lang.specs.Words.{words};
-ghost use Rattle.anti_lang.specs.Lines.{Line, spelling, fits, read_line};
-ghost use Rattle.anti_lang.specs.Parsing.{spaced};
+ghost use Rattle.anti_lang.specs.Lines.{Line, fits, read_line};
+ghost use Rattle.anti_lang.specs.Printing.{spelling, spaced};
 
 /// Words state a line exactly where they are its spelling and it keeps to the forms. So each line has one spelling, and the line
 /// that is printed of it, with one space between the words, is read as it again.

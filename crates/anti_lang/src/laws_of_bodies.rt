@@ -4,7 +4,8 @@ ghost use Rattle.anti_lang.specs.Program.{Block};
 ghost use Rattle.anti_lang.specs.Bodies.{block_of, body_of};
 ghost use Rattle.anti_lang.specs.Blocks.{lines_of};
 ghost use Rattle.anti_lang.specs.Spans.{spans_of};
-ghost use Rattle.anti_lang.specs.Parsing.{lines_from, parsed, printed};
+ghost use Rattle.anti_lang.specs.Parsing.{lines_from, parsed};
+ghost use Rattle.anti_lang.specs.Printing.{printed};
 
 /// The lines that state a body are those of the body; it begins no more spans than it has lines; its printed lines state it too; and
 /// the body of the code that stands for it stands for nothing else.

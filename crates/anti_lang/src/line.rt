@@ -1,6 +1,8 @@
 ghost use Rattle.std.specs.Prelude.{◌≡◌, IfOk, map, option_map};
 ghost use Rattle.anti_lang.specs.Words.{words};
-ghost use Rattle.anti_lang.specs.Lines.{line_of, form_of, read_as, read_line};
+ghost use Rattle.anti_lang.specs.Parses.{line_of};
+ghost use Rattle.anti_lang.specs.Lines.{form_of, read_line};
+ghost use Rattle.anti_lang.specs.inner.Parses.{read_as};
 
 use crate::form::{
     append_form, call_form, if_form, lone_form, poll_form, read_form, remove_form, repeat_form,

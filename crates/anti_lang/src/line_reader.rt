@@ -1,6 +1,7 @@
 ghost use Rattle.std.specs.Prelude.{◌≡◌, ◌≤◌, IfOk, length, map};
 ghost use Rattle.anti_ids.specs.Answers.{AnswersBut};
-ghost use Rattle.anti_lang.specs.Parsing.{lines_from, lines_read};
+ghost use Rattle.anti_lang.specs.Parsing.{lines_from};
+ghost use Rattle.anti_lang.specs.inner.Parses.{lines_read};
 ghost use Rattle.anti_lang.specs.declared.fault.LangFault.TheVariants as faults;
 
 use crate::fault::{LangCode, LangFault};

@@ -2,7 +2,8 @@ ghost use Rattle.std.specs.Prelude.{◌≡◌, ◌≤◌, length, map};
 ghost use Rattle.anti_ids.specs.Answers.{AnswersBut};
 ghost use Rattle.anti_lang.specs.Stated.{all_stated, ArePlain};
 ghost use Rattle.anti_lang.specs.Faults.{block_fault, variable_fault};
-ghost use Rattle.anti_lang.specs.Parsing.{body_or, body_parsed, parsed, texts_of};
+ghost use Rattle.anti_lang.specs.Parsing.{body_or, parsed};
+ghost use Rattle.anti_lang.specs.Parses.{body_parsed, texts_of};
 ghost use Rattle.anti_lang.specs.declared.fault.LangFault.TheVariants as faults;
 
 use crate::block_faults::block_fault;

@@ -1,8 +1,9 @@
 ghost use Rattle.std.specs.Prelude.{◌≡◌, [], ◌++◌, ◌∷◌, map, false, IfOk, OnOk, codes};
 ghost use Rattle.anti_lang.specs.Program.{Block};
 ghost use Rattle.anti_lang.specs.Bodies.{block_from, block_of, body_of, step_of};
-ghost use Rattle.anti_lang.specs.Lines.{statement_words};
-ghost use Rattle.anti_lang.specs.Parsing.{LineTexts, parsed, printed, spaced, texts_of};
+ghost use Rattle.anti_lang.specs.Printing.{statement_words, LineTexts, printed, spaced};
+ghost use Rattle.anti_lang.specs.Parsing.{parsed};
+ghost use Rattle.anti_lang.specs.Parses.{texts_of};
 ghost use Rattle.anti_lang.specs.inner.Named.{names_object};
 
 use crate::form::{

@@ -1,6 +1,6 @@
 ghost use Rattle.std.specs.Prelude.{◌≡◌, IfOk, map};
 ghost use Rattle.anti_lang.specs.Words.{words};
-ghost use Rattle.anti_lang.specs.Parsing.{spaced};
+ghost use Rattle.anti_lang.specs.Printing.{spaced};
 
 use anti_ids::{Bytes, NoMemory};
 use std::alloc::Global;

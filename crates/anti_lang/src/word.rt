@@ -5,7 +5,8 @@ ghost use Rattle.std.specs.List.{list_all};
 ghost use Rattle.anti_ids.specs.Ascii.{dollar};
 ghost use Rattle.anti_ids.specs.Names.{is_name, is_plain};
 ghost use Rattle.anti_lang.specs.Texts.{is_variable, is_literal, is_literal_byte, has_dollar};
-ghost use Rattle.anti_lang.specs.Vocabulary.{key_text, value_text, key_of, key_behind, key_fits, value_of, value_behind, value_fits, count_of};
+ghost use Rattle.anti_lang.specs.Printing.{key_text, value_text};
+ghost use Rattle.anti_lang.specs.Vocabulary.{key_of, key_behind, key_fits, value_of, value_behind, value_fits, count_of};
 
 use crate::name::{any_name, plain_name};
 use crate::statement::{KeyWord, ValueWord};

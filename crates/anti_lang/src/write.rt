@@ -2,8 +2,9 @@
 ghost use Rattle.std.specs.Prelude.{◌≡◌, [], ◌∷◌, Some, IfOk, map, option_map};
 ghost use Rattle.std.specs.Bool.{then_some};
 ghost use Rattle.anti_lang.specs.Held.{held_view};
-ghost use Rattle.anti_lang.specs.Lines.{held_fits, held_of, written, read_as, write_form, statement_words};
-ghost use Rattle.anti_lang.specs.Parsing.{spaced};
+ghost use Rattle.anti_lang.specs.Lines.{held_fits, held_of, written, write_form};
+ghost use Rattle.anti_lang.specs.inner.Parses.{read_as};
+ghost use Rattle.anti_lang.specs.Printing.{statement_words, spaced};
 ghost use Rattle.anti_lang.specs.Program.{Write};
 
 use crate::line::Line;

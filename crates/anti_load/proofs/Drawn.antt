@@ -3,7 +3,8 @@ use Rattle.std.proofs.Common.{◌≡◌, ℕ, zero, suc, ◌+◌, ◌-◌, ◌<�
 use Rattle.rand_core.specs.Steps.{first_words}
 use Rattle.rand_pcg.specs.Lcg.{Lcg}
 use Rattle.rand_pcg.specs.Pcg.{pcg32}
-use Rattle.anti_ids.specs.List.{Listed, plain, pushed}
+use Rattle.anti_ids.specs.List.{Listed, plain}
+use Rattle.anti_ids.specs.ListCalls.{pushed}
 use Rattle.anti_app.specs.declared.app.RequestDef.{RequestDef}
 use Rattle.anti_load.specs.Load.{request_of}
 

@@ -1,6 +1,7 @@
 ghost use Rattle.std.specs.Prelude.{◌≡◌, ◌≤◌, [], ◌∷◌, length, map, IfOk, IsOk};
 ghost use Rattle.anti_ids.specs.List.{plain};
-ghost use Rattle.anti_lang.specs.Parsing.{parsed, texts_of};
+ghost use Rattle.anti_lang.specs.Parsing.{parsed};
+ghost use Rattle.anti_lang.specs.Parses.{texts_of};
 ghost use Rattle.anti_app.specs.Parts.{body_in};
 ghost use Rattle.anti_load.specs.Load.{poster, reader, service};
 

@@ -1,7 +1,8 @@
 -- What an object stands for after a call, and after one for which there was no memory.
 use Rattle.std.proofs.Common.{◌≡◌, List, [], ◌∷◌, ◌++◌, sym, subst}
 use Rattle.anti_kind.specs.declared.entry.Entry.{Entry}
-use Rattle.anti_kind.specs.Objects.{Start, IsStart, IsLegal, Follows}
+use Rattle.anti_kind.specs.Objects.{Start, IsLegal, Follows}
+use Rattle.anti_kind.specs.Starts.{IsStart}
 use Rattle.anti_kind.proofs.Histories.{legal_more}
 use Rattle.anti_object.specs.declared.object.Object.{Object}
 use Rattle.anti_object.specs.Standing.{object_start, ObjectAt, ObjectStands}

@@ -4,7 +4,8 @@ use Rattle.std.specs.Prelude.{IsTrue, Option, None, Some, option_map, slice_get}
 use Rattle.std.proofs.lemmas.Bool.{eq-eqb, cond-true}
 use Rattle.std.proofs.lemmas.Option.{slice_get-get_or, slice_get_past}
 use Rattle.std.specs.Option.{option_and_then}
-use Rattle.anti_ids.specs.List.{Listed, plain, pushed, reserved}
+use Rattle.anti_ids.specs.List.{Listed, plain}
+use Rattle.anti_ids.specs.ListCalls.{pushed, reserved}
 use Rattle.anti_kind.specs.declared.message.Message.{Message}
 use Rattle.anti_kind.specs.Objects.{Start}
 use Rattle.anti_inbox.specs.declared.inbox.Inbox.{Inbox}

@@ -14,8 +14,9 @@ use Rattle.anti_kind.specs.declared.store_kind.Sub.{Sub}
 use Rattle.anti_ids.specs.Names.{is_plain}
 use Rattle.anti_kind.specs.declared.store_kind.StoreKind.{StoreKind}
 use Rattle.anti_kind.proofs.FactLaws.{keyed_or_pulled, tries_fit}
-use Rattle.anti_kind.specs.Store.{store_of, has_keys, is_pulled, is_queue}
-use Rattle.anti_kind.specs.Objects.{Start, store, IsStart, IsStore}
+use Rattle.anti_kind.specs.Store.{store_of, has_keys, is_queue}
+use Rattle.anti_kind.specs.Starts.{is_pulled, IsStart, IsStore}
+use Rattle.anti_kind.specs.Objects.{Start, store}
 use Rattle.anti_kind.specs.Fulls.{ShowsStay}
 use Rattle.anti_kind.proofs.Fullness.{shown_stays}
 use Rattle.anti_app.specs.declared.app.App.{App}

@@ -2,8 +2,10 @@
 use Rattle.std.specs.Prelude.{◌≡◌, ℕ, List, [], Some}
 use Rattle.anti_kind.specs.declared.call.Call.{Call}
 use Rattle.anti_kind.specs.declared.entry.Entry.{Entry}
-use Rattle.anti_kind.specs.Objects.{Start, StandsFor}
+use Rattle.anti_kind.specs.Objects.{Start}
+use Rattle.anti_kind.specs.Machines.{StandsFor}
 use Rattle.anti_kind.specs.Objects as objects
+use Rattle.anti_kind.specs.Machines as kind_machines
 use Rattle.anti_kv.specs.KvStates as kv
 use Rattle.anti_table.specs.TableStates as tables
 use Rattle.anti_blob.specs.BlobStates as blobs
@@ -42,7 +44,7 @@ ObjectAt o h = StandsFor (object_start o) (ObjectStands o) h
 
 -- after some history for which the object stands the call is ready and fits
 abbrev pub MayMake : Object → Call → Type 0
-MayMake o c = objects.MayMake (object_start o) (ObjectStands o) c
+MayMake o c = kind_machines.MayMake (object_start o) (ObjectStands o) c
 
 -- the object with a number, on which nothing has happened yet
 pub record IsNew (app : App) (number : ℕ) (o : Object) : Type 0 where

@@ -2,7 +2,7 @@ ghost use Rattle.std.specs.Prelude.{◌≡◌, ◌++◌, ◌∷◌, [], None, So
 ghost use Rattle.anti_ids.specs.List.{plain};
 ghost use Rattle.anti_app.specs.Sound.{is_sound};
 ghost use Rattle.anti_object.specs.Starts.{message_of, message_to, requests_to, start_of};
-ghost use Rattle.anti_kind.specs.Objects.{IsStart};
+ghost use Rattle.anti_kind.specs.Starts.{IsStart};
 ghost use Rattle.anti_kind.specs.Store.{has_keys};
 ghost use Rattle.anti_object.specs.Standing.{IsNew, IsNewStore, start_with};
 

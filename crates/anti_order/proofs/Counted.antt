@@ -17,12 +17,14 @@ use Rattle.law_causal.specs.Reads.{is_at, reads_of}
 use Rattle.law_causal.specs.Words.{reads}
 use Rattle.anti_past.specs.Losses.{LosesFirst, mark_of}
 use Rattle.anti_past.specs.Pasts.{ArePastsOf}
-use Rattle.anti_past.specs.Spans.{AreReadsBySpan, AreSpansOf}
+use Rattle.anti_past.specs.Told.{AreReadsBySpan}
+use Rattle.anti_past.specs.Spans.{AreSpansOf}
 use Rattle.anti_past.specs.declared.before_reads.Past.{Past}
 use Rattle.anti_past.specs.declared.span_reads.ReadsOfSpan.{ReadsOfSpan}
 use Rattle.law_serial.specs.Order.{order_of}
 use Rattle.anti_order.specs.Answers.{AreAnswersOf, AreMarksOf, IsAnswer, mark_at}
-use Rattle.anti_order.specs.Counts.{AreCountsOf, how_many, is_lossy, is_ordered, is_unguarded}
+use Rattle.anti_order.specs.Tallies.{AreCountsOf}
+use Rattle.anti_order.specs.Counts.{how_many, is_lossy, is_ordered, is_unguarded}
 use Rattle.anti_order.specs.declared.answer.OrderAnswer.{OrderAnswer}
 use Rattle.anti_order.specs.declared.answer.OrderAnswer.TheVariants.{Lossy, Unguarded, Order}
 use Rattle.anti_order.specs.declared.answer.SpanAnswer.{SpanAnswer}

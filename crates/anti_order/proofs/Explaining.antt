@@ -4,8 +4,8 @@ use Rattle.anti_kind.specs.declared.entry.Entry.{Entry}
 use Rattle.anti_app.specs.declared.app.App.{App}
 use Rattle.law_causal.specs.Carried.{IsLossless}
 use Rattle.law_serial.specs.Order.{order_of}
-use Rattle.law_serial.specs.Serial.{OrdersAreSerial}
-use Rattle.anti_order.specs.Answers.{ChainsAreExplained}
+use Rattle.law_serial.specs.Chains.{OrdersAreSerial}
+use Rattle.anti_order.specs.Chains.{ChainsAreExplained}
 use Rattle.anti_order.specs.declared.answer.OrderAnswer.TheVariants.{Lossy, Unguarded, Order}
 
 pub chains_are_explained : (app : App) (trace : List Entry) → (IsLossless app trace → OrdersAreSerial app trace) → ChainsAreExplained app trace

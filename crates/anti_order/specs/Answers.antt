@@ -9,7 +9,7 @@ use Rattle.law_causal.specs.Reads.{reads_of}
 use Rattle.anti_past.specs.Losses.{LosesFirst, mark_of}
 use Rattle.anti_past.specs.Spans.{AreSpansOf}
 use Rattle.law_serial.specs.Order.{order_of}
-use Rattle.law_serial.specs.Serial.{IsChain, IsSerial, IsSettledRead}
+use Rattle.law_serial.specs.Serial.{IsSerial, IsSettledRead}
 use Rattle.anti_order.specs.declared.answer.OrderAnswer.{OrderAnswer}
 use Rattle.anti_order.specs.declared.answer.OrderAnswer.TheVariants.{Lossy, Unguarded, Order}
 use Rattle.anti_order.specs.declared.answer.SpanAnswer.{SpanAnswer}
@@ -56,11 +56,7 @@ abbrev pub IsExplained : List Entry → List ℕ → OrderAnswer → Type 0
 IsExplained trace reads (Order marks) = Explains trace reads marks.items
 IsExplained trace reads answer = Unit {0}
 
--- Each order that is answered explains its reads: where each of these is causally before the next, and so for each span.
-abbrev pub ChainsAreExplained : App → List Entry → Type 0
-ChainsAreExplained app trace =
-    (reads : List ℕ) → IsChain trace reads → (answer : OrderAnswer) → IsAnswer app trace reads answer → IsExplained trace reads answer
-
+-- Each order that is answered for the reads of a span explains them.
 abbrev pub SpansAreExplained : App → List Entry → Type 0
 SpansAreExplained app trace =
     (birth : Birth) (span : ℕ) (answer : OrderAnswer) → IsAnswer app trace (reads_of trace birth span) answer

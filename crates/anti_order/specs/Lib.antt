@@ -1,3 +1,5 @@
 pub mod Answers
+pub mod Chains
 pub mod Counts
+pub mod Tallies
 pub mod inner

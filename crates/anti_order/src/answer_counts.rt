@@ -1,8 +1,8 @@
 ghost use Rattle.std.specs.Prelude.{◌≡◌, ◌<◌, length, count_by, All, IfOk, IsTrue};
 ghost use Rattle.anti_app.specs.Sound.{is_sound};
 ghost use Rattle.anti_trace.specs.Legal.{IsLegalTrace};
-ghost use Rattle.anti_past.specs.Spans.{AreReadsBySpan};
-ghost use Rattle.anti_order.specs.Counts.{AreCountsOf};
+ghost use Rattle.anti_past.specs.Told.{AreReadsBySpan};
+ghost use Rattle.anti_order.specs.Tallies.{AreCountsOf};
 ghost use Rattle.anti_order.specs.inner.Grounds.{has_unsettled};
 
 use crate::grounds::first_unsettled;

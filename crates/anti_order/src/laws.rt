@@ -4,7 +4,8 @@ ghost use Rattle.anti_kind.specs.declared.entry.Entry.{Entry};
 ghost use Rattle.anti_app.specs.declared.app.App.{App};
 ghost use Rattle.anti_app.specs.Sound.{is_sound};
 ghost use Rattle.anti_trace.specs.Legal.{IsLegalTrace};
-ghost use Rattle.anti_order.specs.Answers.{ChainsAreExplained, SpansAreExplained};
+ghost use Rattle.anti_order.specs.Chains.{ChainsAreExplained};
+ghost use Rattle.anti_order.specs.Answers.{SpansAreExplained};
 
 use law_serial::{orders_are_serial, reads_of_a_span_are_a_chain};
 

@@ -1,5 +1,5 @@
 ghost use Rattle.std.specs.Prelude.{ℕ, ◌≡◌, List, All, IfOk, OnOk, IsTrue, true};
-ghost use Rattle.anti_ids.specs.List.{pushed};
+ghost use Rattle.anti_ids.specs.ListCalls.{pushed};
 ghost use Rattle.anti_app.specs.declared.app.App.{App};
 ghost use Rattle.anti_app.specs.Sound.{is_sound};
 ghost use Rattle.law_causal.specs.Reads.{is_at, is_read_of, reads_of};

@@ -16,7 +16,8 @@ use Rattle.std.proofs.lemmas.Map.Made.{is_some-lookup}
 use Rattle.std.proofs.lemmas.Map.Views.{All-found, Contains-from_any, list_any-from_Contains}
 use Rattle.anti_kind.specs.declared.entry.Entry.{Entry}
 use Rattle.law_causal.specs.Reads.{is_at, reads_of}
-use Rattle.anti_past.specs.Spans.{AreReadsBySpan, AreSpansOf, IsBefore, has_read}
+use Rattle.anti_past.specs.Told.{AreReadsBySpan}
+use Rattle.anti_past.specs.Spans.{AreSpansOf, IsBefore, has_read}
 use Rattle.anti_past.specs.declared.span_keys.SpanKey.{SpanKey}
 use Rattle.anti_past.specs.declared.span_reads.ReadsOfSpan.{ReadsOfSpan}
 use Rattle.anti_past.specs.declared.span_reads.Span.{Span}

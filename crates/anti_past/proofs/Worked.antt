@@ -35,7 +35,8 @@ use Rattle.law_causal.specs.Words.{brings, hands_all}
 use Rattle.law_causal.specs.Causal.{Earlier}
 use Rattle.law_causal.specs.Carried.{Brought, carried_at}
 use Rattle.law_causal.specs.Reads.{reads_of}
-use Rattle.anti_past.specs.Losses.{IsFirstLoss, Loses}
+use Rattle.anti_past.specs.Told.{IsFirstLoss}
+use Rattle.anti_past.specs.Losses.{Loses}
 use Rattle.anti_past.specs.Spans.{IsBefore, has_read}
 use Rattle.anti_past.specs.declared.span_reads.Span.{Span}
 

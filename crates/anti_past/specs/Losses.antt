@@ -1,12 +1,12 @@
 -- Where a trace loses an id first.
-use Rattle.std.specs.Prelude.{ℕ, ◌≡◌, ◌<◌, true, false, List, Option, None, Some, slice_get}
+use Rattle.std.specs.Prelude.{ℕ, ◌≡◌, ◌<◌, true, false, List, Some, slice_get}
 use Rattle.anti_ids.specs.Ids.{has_id}
 use Rattle.anti_ids.specs.declared.id.WriteId.{WriteId}
 use Rattle.anti_kind.specs.declared.entry.Entry.{Entry}
 use Rattle.anti_app.specs.declared.app.App.{App}
 use Rattle.anti_trace.specs.declared.mark.Mark.{Mark}
 use Rattle.law_causal.specs.Words.{hands_all}
-use Rattle.law_causal.specs.Carried.{Brought, IsLossless, carried_at}
+use Rattle.law_causal.specs.Carried.{Brought, carried_at}
 
 -- At the entry e, at place j, which is a write, a read, a look or a post, its process does not carry an id that came to the span before.
 pub record Loses (app : App) (trace : List Entry) (j : ℕ) (e : Entry) : Type 0 where
@@ -26,8 +26,3 @@ pub record LosesFirst (app : App) (trace : List Entry) (mark : Mark) : Type 0 wh
   pub marked : mark_of entry ≡ mark
   pub loses : Loses app trace place entry
   pub first : (i : ℕ) (a : Entry) → i < place → slice_get trace i ≡ Some a → Loses app trace i a → ⊥
-
--- the first entry that loses an id, or that there is none
-abbrev pub IsFirstLoss : App → List Entry → Option Mark → Type 0
-IsFirstLoss app trace None = IsLossless app trace
-IsFirstLoss app trace (Some mark) = LosesFirst app trace mark

@@ -1,9 +1,8 @@
 -- The spans of a trace in which something was read.
-use Rattle.std.specs.Prelude.{◌≡◌, ◌↔◌, ◌<◌, ◌⊎◌, Bool, true, List, map, All, Contains, AllPairs}
+use Rattle.std.specs.Prelude.{◌≡◌, ◌↔◌, ◌<◌, ◌⊎◌, Bool, true, List, Contains, AllPairs}
 use Rattle.std.specs.List.{list_any}
 use Rattle.anti_kind.specs.declared.entry.Entry.{Entry}
-use Rattle.law_causal.specs.Reads.{is_read_of, reads_of}
-use Rattle.anti_past.specs.declared.span_reads.ReadsOfSpan.{ReadsOfSpan}
+use Rattle.law_causal.specs.Reads.{is_read_of}
 use Rattle.anti_past.specs.declared.span_reads.Span.{Span}
 
 abbrev pub has_read : List Entry → Span → Bool
@@ -19,8 +18,3 @@ IsBefore a b =
 pub record AreSpansOf (trace : List Entry) (spans : List Span) : Type 0 where
   pub ascending : AllPairs IsBefore spans
   pub just : (s : Span) → Contains spans s ↔ (has_read trace s ≡ true)
-
--- the same spans, each with the places of its reads
-pub record AreReadsBySpan (trace : List Entry) (listed : List ReadsOfSpan) : Type 0 where
-  pub spans : AreSpansOf trace (map (λ s. s.span) listed)
-  pub reads : All (λ s. s.reads.items ≡ reads_of trace s.span.birth s.span.span) listed

@@ -1,7 +1,7 @@
 ghost use Rattle.std.specs.Prelude.{IfOk, IsTrue};
 ghost use Rattle.anti_app.specs.Sound.{is_sound};
 ghost use Rattle.anti_trace.specs.Legal.{IsLegalTrace};
-ghost use Rattle.anti_past.specs.Losses.{IsFirstLoss};
+ghost use Rattle.anti_past.specs.Told.{IsFirstLoss};
 
 use crate::course::Course;
 use anti_app::App;

@@ -1,5 +1,6 @@
 ghost use Rattle.std.specs.Prelude.{◌≡◌, [], ◌∷◌, cond, length, Some, IfOk, OnOk};
-ghost use Rattle.anti_past.specs.Spans.{AreReadsBySpan, AreSpansOf};
+ghost use Rattle.anti_past.specs.Told.{AreReadsBySpan};
+ghost use Rattle.anti_past.specs.Spans.{AreSpansOf};
 ghost use Rattle.anti_past.specs.declared.span_keys.SpanKey.{SpanKey};
 ghost use Rattle.anti_past.specs.inner.Keys.{is_read_in, same_key};
 ghost use Rattle.anti_past.specs.inner.Reading.{AreNoted, noted_for, with_place};

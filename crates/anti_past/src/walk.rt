@@ -1,6 +1,6 @@
 ghost use Rattle.std.specs.Prelude.{◌<◌, length, IfOk, IsTrue};
 ghost use Rattle.anti_app.specs.Sound.{is_sound};
-ghost use Rattle.anti_trace.specs.Traces.{Entries};
+ghost use Rattle.anti_trace.specs.Histories.{Entries};
 ghost use Rattle.anti_trace.specs.Legal.{IsLegalTrace};
 ghost use Rattle.anti_past.specs.inner.Walking.{HasCome, IsStep};
 

@@ -4,7 +4,7 @@ use Rattle.anti_lang.specs.Bodies.{block_from, step_of}
 use Rattle.anti_lang.specs.Blocks.{step_lines, lines_of}
 use Rattle.anti_lang.specs.Program.{Block, Then}
 use Rattle.anti_lang.specs.declared.statement.Statement.{Statement}
-use Rattle.anti_app.specs.Objects.{steps_of}
+use Rattle.anti_lang.specs.Steps.{steps_of}
 use Rattle.anti_place.specs.declared.doubt.Doubt.{Doubt}
 use Rattle.anti_place.specs.declared.fault.Fault.{Fault}
 use Rattle.anti_place.specs.declared.flow.Flow.{Flow}

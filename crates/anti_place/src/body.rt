@@ -1,10 +1,9 @@
 ghost use Rattle.std.specs.Prelude.{◌≡◌, ◌+◌, ◌^◌, ◌<◌, ◌||◌, false, length};
 ghost use Rattle.anti_lang.specs.Blocks.{lines_of};
 ghost use Rattle.anti_lang.specs.Bodies.{block_from, step_of};
-ghost use Rattle.anti_app.specs.Objects.{steps_of};
+ghost use Rattle.anti_lang.specs.Steps.{steps_of};
 ghost use Rattle.anti_place.specs.Paths.{first_fault, height};
-ghost use Rattle.anti_place.specs.inner.Joined.{by_rows, fault_at, fault_here, fault_in, fault_of};
-ghost use Rattle.anti_place.specs.inner.Joined.{left, reads_in, reads_of, through, through_block};
+ghost use Rattle.anti_place.specs.inner.Joined.{by_rows, fault_at, fault_here, fault_in, fault_of, left, reads_in, reads_of, through, through_block};
 
 use crate::doubt::Doubt;
 use crate::fault::{Fault, at_line, earlier, turned_fault};

@@ -1,7 +1,6 @@
 ghost use Rattle.std.specs.Prelude.{◌≡◌};
 ghost use Rattle.anti_lang.specs.Bodies.{step_of};
-ghost use Rattle.anti_place.specs.inner.Joined.{does, fails, forbidden, goes_on, if_same, settles};
-ghost use Rattle.anti_place.specs.inner.Joined.{transfers, wants_settled, wants_transferred};
+ghost use Rattle.anti_place.specs.inner.Joined.{does, fails, forbidden, goes_on, if_same, settles, transfers, wants_settled, wants_transferred};
 
 use crate::flow::Flow;
 use crate::reason::Reason;

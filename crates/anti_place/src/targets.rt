@@ -3,7 +3,7 @@ ghost use Rattle.std.specs.List.{list_any};
 ghost use Rattle.anti_lang.specs.Blocks.{lines_of, step_lines};
 ghost use Rattle.anti_lang.specs.Bodies.{block_from, step_of};
 ghost use Rattle.anti_lang.specs.Lines.{Does};
-ghost use Rattle.anti_app.specs.Objects.{steps_of};
+ghost use Rattle.anti_lang.specs.Steps.{steps_of};
 ghost use Rattle.anti_app.specs.Running.{CanRun};
 ghost use Rattle.anti_place.specs.Placements.{calls_it, is_called, is_handler, is_named, sends_it, some_line};
 ghost use Rattle.anti_place.specs.inner.Posted.{is_started, posts_it, some_of};

@@ -25,9 +25,10 @@ use Rattle.anti_app.specs.Objects.{inbox_number, object_count}
 use Rattle.anti_kind.specs.declared.asking.Asking.{Asking}
 use Rattle.anti_app.specs.declared.app.SubDef.{SubDef}
 use Rattle.anti_app.specs.Subs.{position_on}
-use Rattle.anti_play.specs.Schedule.{asking_at, asked_by, bearing, carrying, clock_of, pulling, made_at, chosen, offers, first_made, after_turns, finished, IsComplete}
+use Rattle.anti_play.specs.Schedule.{asking_at, asked_by, bearing, carrying, clock_of, pulling, made_at, chosen, offers, first_made, after_turns, finished}
+use Rattle.anti_play.specs.Over.{IsComplete}
 use Rattle.anti_trace.specs.Legal.{IsLegalTrace, bears, carries}
-use Rattle.anti_trace.specs.Traces.{GoesOn}
+use Rattle.anti_trace.specs.Histories.{GoesOn}
 use Rattle.anti_trace.specs.inner.Living.{Gets}
 use Rattle.anti_trace.proofs.Followed.{goes_on as histories_go_on}
 use Rattle.anti_play.specs.inner.Standing.{IsAsked}

@@ -19,7 +19,8 @@ use Rattle.anti_trace.specs.Traces.{entries_on, entries_by, put, same_actor}
 use Rattle.anti_proc.specs.declared.process.Process.{Process}
 use Rattle.anti_proc.specs.declared.run.Advance.{Advance}
 use Rattle.anti_trace.proofs.OfLegal.{unborn_of_legal}
-use Rattle.anti_proc.specs.Trees.{Tree, Want, Make, Over, Asks, Ends, IsAskedAt, ask_of, want_of, branch}
+use Rattle.anti_proc.specs.Trees.{Tree, Want, Make, Over, Asks, Ends, ask_of, want_of, branch}
+use Rattle.anti_proc.specs.Asked.{IsAskedAt}
 use Rattle.anti_proc.specs.Births.{birth_at}
 use Rattle.anti_proc.specs.Meaning.{process_after}
 use Rattle.anti_proc.specs.inner.Standing as standing

@@ -6,7 +6,8 @@ use Rattle.anti_ids.specs.declared.limits.TheConstants.{MOST_UNITS}
 use Rattle.anti_kind.specs.declared.asking.Asking.{Asking}
 use Rattle.anti_kind.specs.declared.call.Call.{Call}
 use Rattle.anti_kind.specs.declared.entry.Entry.{Entry}
-use Rattle.anti_kind.specs.Objects.{Start, ready, fits, held, need, owed, IsLegal, IsStart}
+use Rattle.anti_kind.specs.Objects.{Start, ready, fits, held, need, owed, IsLegal}
+use Rattle.anti_kind.specs.Starts.{IsStart}
 use Rattle.anti_kind.proofs.Bounds.{within_units}
 use Rattle.anti_app.specs.declared.app.App.{App}
 use Rattle.anti_object.specs.Starts.{start_of}

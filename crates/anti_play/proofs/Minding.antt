@@ -9,7 +9,8 @@ use Rattle.anti_kind.specs.declared.actor.Birth.{Birth}
 use Rattle.anti_kind.specs.declared.asking.Asking.{Asking}
 use Rattle.anti_kind.specs.declared.awaited.Awaited.{Awaited}
 use Rattle.anti_kind.specs.declared.entry.Entry.{Entry}
-use Rattle.anti_kind.specs.Objects.{Start, IsLegal, fits, last_stamp, next_ship, ready}
+use Rattle.anti_kind.specs.Objects.{Start, IsLegal, fits, last_stamp, ready}
+use Rattle.anti_kind.specs.Shipments.{next_ship}
 use Rattle.anti_kind.specs.Waiting.{ShowsWhole, brought, reaches, waits}
 use Rattle.anti_kind.proofs.Deliveries.{slice_get_left}
 use Rattle.anti_kind.proofs.Fullness.{full_stays}

@@ -9,7 +9,7 @@ use Rattle.anti_kind.specs.declared.asking.Asking.{Asking}
 use Rattle.anti_kind.specs.declared.call.Call.{Call}
 use Rattle.anti_kind.specs.declared.entry.Entry.{Entry}
 use Rattle.anti_kind.specs.Objects.{Start, Follows, ready, fits, last_stamp}
-use Rattle.anti_kind.specs.Ports.{named}
+use Rattle.anti_kind.specs.Entries.{named}
 use Rattle.anti_kind.proofs.Histories.{below_last}
 use Rattle.anti_app.specs.declared.app.App.{App}
 use Rattle.anti_app.specs.Sound.{is_sound}

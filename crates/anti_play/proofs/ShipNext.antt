@@ -10,8 +10,9 @@ use Rattle.anti_kind.specs.declared.call.Call.TheVariants as calls
 use Rattle.anti_kind.specs.declared.row.Row.{Row}
 use Rattle.anti_kind.specs.declared.store_kind.StoreKind.{StoreKind}
 use Rattle.anti_kind.specs.declared.entry.Entry.{Entry}
-use Rattle.anti_kind.specs.Objects.{Start, store, fits, next_ship}
-use Rattle.anti_kind.specs.Store.{Store, store_of, can_ship, shipment, shipments, next_shipment}
+use Rattle.anti_kind.specs.Objects.{Start, store, fits}
+use Rattle.anti_kind.specs.Shipments.{next_ship, shipment, shipments, next_shipment}
+use Rattle.anti_kind.specs.Store.{Store, store_of, can_ship}
 use Rattle.anti_kind.specs.Stored.{parts, rows}
 use Rattle.anti_app.specs.declared.app.App.{App}
 use Rattle.anti_app.specs.declared.app.Choice.{Choice}

@@ -8,7 +8,7 @@ use Rattle.anti_kind.specs.declared.awaited.Brought.{Brought}
 use Rattle.anti_kind.specs.declared.call.Call.{Call}
 use Rattle.anti_kind.specs.declared.call.Call.TheVariants as calls
 use Rattle.anti_kind.specs.declared.entry.Entry.{Entry}
-use Rattle.anti_kind.specs.Objects.{next_ship}
+use Rattle.anti_kind.specs.Shipments.{next_ship}
 use Rattle.anti_kind.specs.Records.{Record}
 use Rattle.anti_kind.specs.Waiting.{brought}
 use Rattle.anti_app.specs.declared.app.App.{App}

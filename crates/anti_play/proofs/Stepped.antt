@@ -4,7 +4,7 @@ use Rattle.std.specs.Prelude.{All, None, Some, IsTrue}
 use Rattle.anti_kind.specs.declared.asking.Asking.{Asking}
 use Rattle.anti_kind.specs.declared.entry.Entry.{Entry}
 use Rattle.anti_kind.specs.Objects.{Start, Follows}
-use Rattle.anti_kind.specs.Ports.{named}
+use Rattle.anti_kind.specs.Entries.{named}
 use Rattle.anti_app.specs.declared.app.App.{App}
 use Rattle.anti_app.specs.Sound.{is_sound}
 use Rattle.anti_object.proofs.Starts.{start_known, start_there}

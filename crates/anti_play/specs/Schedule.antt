@@ -1,5 +1,5 @@
 -- The run that an application's choices make: each makes one entry or none, but `finish` makes all that can still be made.
-use Rattle.std.specs.Prelude.{ℕ, ◌≡◌, ◌+◌, ◌*◌, max, suc, zero, ◌&&◌, List, [], ◌∷◌, ◌++◌, length, map, flat_map, All, Option, None, Some, slice_get, option_map, option_and_then, unwrap_or, if◌then◌else◌}
+use Rattle.std.specs.Prelude.{ℕ, ◌+◌, ◌*◌, max, suc, zero, ◌&&◌, List, [], ◌∷◌, ◌++◌, length, map, flat_map, Option, None, Some, slice_get, option_map, option_and_then, unwrap_or, if◌then◌else◌}
 use Rattle.std.specs.List.{range_with_len}
 use Rattle.std.specs.Option.{option_or, option_map_or}
 use Rattle.anti_ids.specs.declared.limits.TheConstants.{MOST_UNITS}
@@ -14,7 +14,7 @@ use Rattle.anti_kind.specs.declared.call.Call.{Call}
 use Rattle.anti_kind.specs.declared.call.Call.TheVariants as calls
 use Rattle.anti_kind.specs.declared.entry.Entry.{Entry}
 use Rattle.anti_kind.specs.Objects.{Start, store, inbox, ready, due, fits, last_stamp}
-use Rattle.anti_kind.specs.Ports.{entry_of}
+use Rattle.anti_kind.specs.Entries.{entry_of}
 use Rattle.anti_app.specs.declared.app.App.{App}
 use Rattle.anti_app.specs.declared.app.SubDef.{SubDef}
 use Rattle.anti_app.specs.declared.app.Choice.{Choice}
@@ -154,10 +154,6 @@ after_turns (suc more) app trace = option_map_or (λ e. after_turns more app (pu
 -- Each turn adds an entry, and no object has more entries than units. So that many turns are enough.
 unfoldable pub finished : App → List Entry → List Entry
 finished app trace = after_turns (object_count app * MOST_UNITS) app trace
-
--- nothing is left to make
-abbrev pub IsComplete : App → List Entry → Type 0
-IsComplete app trace = All (λ choice. chosen app trace choice ≡ None) (offers app trace)
 
 -- The run of all choices: what each makes is put into the trace at its place, and one that makes nothing is a wait. The choice
 -- `finish` is never a wait.

@@ -1,5 +1,5 @@
 ghost use Rattle.std.specs.Prelude.{◌≡◌, ℕ, ◌<◌, length, vec_len, true, false, Some, Ok, OnOk, OnErr, IfSome, IsTrue};
-ghost use Rattle.anti_trace.specs.Traces.{Entries};
+ghost use Rattle.anti_trace.specs.Histories.{Entries};
 ghost use Rattle.anti_app.specs.Objects.{object_count};
 ghost use Rattle.anti_app.specs.declared.app.App.{App};
 ghost use Rattle.anti_app.specs.Sound.{is_sound};
@@ -7,7 +7,8 @@ ghost use Rattle.std.specs.BTreeSet.{keys};
 ghost use Rattle.anti_kind.specs.declared.asking.Asking.{Asking};
 ghost use Rattle.anti_trace.specs.Legal.{bears};
 ghost use Rattle.anti_agenda.specs.Agendas.{IsAwake};
-ghost use Rattle.anti_play.specs.Schedule.{IsComplete, bearing, finished, first_made};
+ghost use Rattle.anti_play.specs.Over.{IsComplete};
+ghost use Rattle.anti_play.specs.Schedule.{bearing, finished, first_made};
 ghost use Rattle.anti_play.specs.inner.Attending.{Attends, CallWaits, IsAttended, IsRoute, Turned, asked_by_offer, entry_by_offer, region_at, with_entry};
 ghost use Rattle.anti_play.specs.inner.Finishing.{WentOn};
 ghost use Rattle.anti_play.specs.inner.Standing.{IsSoundWorld, IsWorldOf, WorldStands};

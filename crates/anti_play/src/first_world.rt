@@ -2,7 +2,7 @@ ghost use Rattle.std.specs.Prelude.{◌≡◌, ◌++◌, ◌∷◌, [], IfOk, On
 ghost use Rattle.anti_app.specs.Sound.{is_sound};
 ghost use Rattle.anti_app.specs.Objects.{object_count};
 ghost use Rattle.anti_play.specs.inner.Standing.{WorldStands};
-ghost use Rattle.anti_kind.specs.Objects.{StandsFor};
+ghost use Rattle.anti_kind.specs.Machines.{StandsFor};
 ghost use Rattle.anti_object.specs.Standing.{ObjectAt};
 ghost use Rattle.anti_play.specs.inner.Closing.{AreFirst};
 

@@ -6,10 +6,10 @@ ghost use Rattle.anti_app.specs.declared.app.SubDef.{SubDef};
 ghost use Rattle.anti_app.specs.declared.app.Choice.TheVariants.{Pull, Repull};
 ghost use Rattle.anti_app.specs.Sound.{is_sound};
 ghost use Rattle.anti_trace.specs.Legal.{IsLegalTrace};
-ghost use Rattle.anti_play.specs.Schedule.{IsComplete, chosen, finished};
+ghost use Rattle.anti_play.specs.Over.{IsComplete, IsOver};
+ghost use Rattle.anti_play.specs.Schedule.{chosen, finished};
 ghost use Rattle.anti_play.specs.Pulls.{StartsHandlerOf};
-ghost use Rattle.anti_play.specs.Over.{IsOver};
-ghost use Rattle.anti_trace.specs.Traces.{Entries, GoesOn};
+ghost use Rattle.anti_trace.specs.Histories.{Entries, GoesOn};
 
 /// What `finish` makes of a legal trace of a sound application is a legal trace, in which the history of each object goes on from what it
 /// was, and after which nothing is left to make. This means that no process can go on, no message waits to be taken or can be pulled, and no

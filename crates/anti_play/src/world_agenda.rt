@@ -1,6 +1,6 @@
 ghost use Rattle.std.specs.Prelude.{◌<◌, vec_len, IfOk, OnOk, IsTrue};
-ghost use Rattle.anti_trace.specs.Traces.{Entries};
-ghost use Rattle.anti_app.specs.Objects.{IsStore};
+ghost use Rattle.anti_trace.specs.Histories.{Entries};
+ghost use Rattle.anti_app.specs.Numbers.{IsStore};
 ghost use Rattle.anti_app.specs.declared.app.App.{App};
 ghost use Rattle.anti_app.specs.Sound.{is_sound};
 ghost use Rattle.anti_play.specs.inner.Attending.{Attends, IsGo, IsGoAt, IsPull, IsRouteOf, IsShip, IsTake, Wakes, WakesAll};

@@ -1,7 +1,7 @@
 ghost use Rattle.std.specs.Prelude.{◌≡◌, map, IfOk, IsTrue};
 ghost use Rattle.anti_app.specs.declared.app.App.{App};
 ghost use Rattle.anti_app.specs.Sound.{is_sound};
-ghost use Rattle.anti_trace.specs.Traces.{Entries};
+ghost use Rattle.anti_trace.specs.Histories.{Entries};
 ghost use Rattle.anti_trace.specs.Ends.{ends_of};
 ghost use Rattle.anti_play.specs.inner.Standing.{IsSoundWorld, WorldIsAfter, WorldStands};
 ghost use Rattle.anti_play.specs.inner.Closing.{histories_of};

@@ -12,7 +12,8 @@ use Rattle.anti_lang.specs.Program.{Block}
 use Rattle.anti_app.specs.declared.app.App.{App}
 use Rattle.anti_proc.specs.declared.end.BodyEnd.{BodyEnd}
 use Rattle.anti_proc.specs.declared.task.Task.{Task}
-use Rattle.anti_proc.specs.Brought.{CarriesWhatCame, brought_by, came, came_first, made}
+use Rattle.anti_proc.specs.Brought.{CarriesWhatCame, brought_by, came_first, made}
+use Rattle.anti_proc.specs.Came.{came}
 use Rattle.anti_proc.specs.Local.{Setting}
 use Rattle.anti_proc.specs.Meaning.{begun, setting_of, tree_of}
 use Rattle.anti_proc.specs.Tasks.{task_of}

@@ -5,7 +5,8 @@ use Rattle.std.specs.Prelude.{◌-◌, Option, None, Some, option_map, slice_get
 use Rattle.std.proofs.lemmas.Grind.{common_steps}
 use Rattle.std.proofs.lemmas.Option.{get_or_from_slice_get, slice_get-map, slice_get_within}
 use Rattle.anti_ids.specs.List.{Listed}
-use Rattle.anti_lang.specs.Bodies.{list_of, step_in, step_of}
+use Rattle.anti_lang.specs.Steps.{list_of, steps_of}
+use Rattle.anti_lang.specs.Bodies.{step_in, step_of}
 use Rattle.anti_lang.specs.Program.{Step}
 use Rattle.anti_lang.specs.declared.statement.Statement.{Statement}
 use Rattle.anti_lang.specs.declared.statement.Statement.TheFolds.{fold-roll-Statement}
@@ -14,7 +15,6 @@ use Rattle.anti_lang.specs.declared.statement.Statement.TheVariants as statement
 use Rattle.anti_proc.specs.declared.cursor.Frame.{Frame}
 use Rattle.anti_proc.specs.declared.cursor.Cursor.{Cursor}
 use Rattle.anti_app.proofs.Blocks.{list_again}
-use Rattle.anti_app.specs.Objects.{steps_of}
 use Rattle.anti_proc.specs.inner.Cursors.{again, block_in, inner_in, innermost, last_opened, left_at, left_in, left_round, opened, turns_round}
 
 -- ---- the code's blocks

@@ -20,7 +20,8 @@ use Rattle.anti_proc.specs.declared.variables.Binding.{Binding}
 use Rattle.anti_proc.specs.declared.variables.Binding.TheVariants.{Wrote, Saw, Heard}
 use Rattle.anti_proc.specs.declared.end.BodyEnd.{BodyEnd}
 use Rattle.anti_proc.specs.declared.end.BodyEnd.TheVariants.{BadKey, Depth, Fine, LineageFull}
-use Rattle.anti_proc.specs.Barriers.{AllLookInARow, BeginsItsLooks, is_look, next_look}
+use Rattle.anti_proc.specs.Barriers.{AllLookInARow, BeginsItsLooks, next_look}
+use Rattle.anti_proc.specs.Looks.{is_look}
 use Rattle.anti_proc.specs.Local.{Setting, Local, any_name, first_local, held, is_absent, key_of, new_span, removed, rooted, set, set_or, text_of}
 use Rattle.anti_proc.specs.Meaning.{Go, after_post, after_read, after_reply, after_write, answer, asks, begun, block_tree, carry, if_deep, kind_of, leave, leave_by, look_at, looks, message, planned, post_call, read_call, setting_of, step_tree, tree_of, turns, with_key, write_call, wrote}
 use Rattle.anti_proc.specs.Trees.{Tree, Ends, ask_of}

@@ -33,7 +33,7 @@ use Rattle.anti_proc.specs.declared.variables.Binding.TheVariants.{Wrote, Saw, H
 use Rattle.anti_proc.specs.declared.variables.Variable.{Variable}
 use Rattle.anti_proc.specs.declared.end.BodyEnd.{BodyEnd}
 use Rattle.anti_proc.specs.declared.end.BodyEnd.TheVariants.{BadKey, Depth, Fine, LineageFull}
-use Rattle.anti_proc.specs.Brought.{came}
+use Rattle.anti_proc.specs.Came.{came}
 use Rattle.anti_proc.specs.Calls.{LooksWhereItMay}
 use Rattle.anti_proc.specs.Local.{Setting, Local, any_name, first_local, held, held_ids, held_in, held_text, ids_in, is_absent, key_of, new_span, removed, rooted, rows_ids, set, set_or, text_of, with_held}
 use Rattle.anti_proc.specs.Meaning.{Go, add, after_post, after_read, after_reply, after_write, begun, block_tree, carry, hear_call, if_deep, kind_of, leave, leave_by, look_at, looks, message, planned, post_call, read_call, stated_in, step_tree, turns, with_key, write_call, wrote}

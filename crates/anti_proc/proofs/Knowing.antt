@@ -20,16 +20,19 @@ use Rattle.anti_app.specs.declared.app.StoreDef.{StoreDef}
 use Rattle.anti_app.specs.declared.app.SubDef.{SubDef}
 use Rattle.anti_app.specs.declared.objects.ObjectAt.{ObjectAt}
 use Rattle.anti_app.specs.declared.objects.ObjectAt.TheVariants.{Store, Inbox}
-use Rattle.anti_app.specs.Objects.{IsInbox, IsStore, has_handler, inbox_at, object_at, service_at, store_names}
+use Rattle.anti_app.specs.Numbers.{IsInbox, IsStore, service_at}
+use Rattle.anti_app.specs.Objects.{has_handler, inbox_at, object_at, store_names}
 use Rattle.anti_app.specs.Subs.{sub_on}
 use Rattle.anti_proc.specs.declared.task.Role.{Role}
 use Rattle.anti_proc.specs.declared.task.Task.{Task}
 use Rattle.anti_proc.specs.Calls.{IsOfProcess}
-use Rattle.anti_proc.specs.Foreign.{has_stores, is_foreign, stated_lineage}
+use Rattle.anti_proc.specs.Stated.{has_stores, stated_lineage}
+use Rattle.anti_proc.specs.Foreign.{is_foreign}
 use Rattle.anti_proc.specs.Known.{AllKnown, AreIdsOf, IsCallAt, IsMessageTo, IsReplyAt, IsRowOf}
 use Rattle.anti_proc.specs.Local.{row_ids}
 use Rattle.anti_proc.specs.Tasks.{is_for, role_at, role_at_inbox, role_at_store, role_in, role_of, role_on, role_pulled, role_taken, task_for, task_of, task_with}
-use Rattle.anti_proc.specs.Trees.{Tree, Asks, Ends, IsAskedAt, Make, want_of}
+use Rattle.anti_proc.specs.Trees.{Tree, Asks, Ends, Make, want_of}
+use Rattle.anti_proc.specs.Asked.{IsAskedAt}
 pub use Rattle.anti_proc.proofs.KnownCalls.{process_known, tree_known}
 
 -- ---- known messages and replies are not foreign

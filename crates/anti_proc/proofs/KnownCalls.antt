@@ -25,15 +25,17 @@ use Rattle.anti_app.specs.declared.app.App.{App}
 use Rattle.anti_app.specs.declared.app.StoreDef.{StoreDef}
 use Rattle.anti_app.specs.Sound.{is_sound}
 use Rattle.anti_app.proofs.SoundLemmas.{SoundApp, app_known}
-use Rattle.anti_proc.specs.Brought.{came}
+use Rattle.anti_proc.specs.Came.{came}
 use Rattle.anti_proc.specs.Calls.{IsOfProcess}
 use Rattle.anti_proc.specs.declared.task.Task.{Task}
-use Rattle.anti_proc.specs.Foreign.{has_baggage, read_well}
+use Rattle.anti_proc.specs.Foreign.{has_baggage}
+use Rattle.anti_proc.specs.Stated.{read_well}
 use Rattle.anti_proc.specs.Known.{AllKnown, IsEntryOf, AreIdsOf, IsCallAt, IsOverApp, IsReplyAt, IsRowOf}
 use Rattle.anti_proc.specs.Local.{id_at, row_ids, rows_ids}
 use Rattle.anti_proc.specs.Meaning.{begun, setting_of, tree_of, process_after, reply_of}
 use Rattle.anti_proc.specs.Tasks.{fitting, task_of}
-use Rattle.anti_app.specs.Objects.{IsStore, store_names}
+use Rattle.anti_app.specs.Numbers.{IsStore}
+use Rattle.anti_app.specs.Objects.{store_names}
 use Rattle.anti_proc.specs.Trees.{Tree, Asks, Ends, Ask, after}
 use Rattle.anti_proc.proofs.Keeping.{Good, IsMade, Keeps, begun_good}
 use Rattle.anti_proc.proofs.Lineages.{Written, all_fit, each_append, first_stated, none_lineage, stated_over, written_at}

@@ -3,7 +3,8 @@ use Rattle.std.proofs.Common.{◌≡◌, ℕ, ◌≤◌, Bool, true, false, cond
 use Rattle.std.specs.Prelude.{Option, Some, None, Result, Ok, Err, length, nat_lt, unwrap_or, if◌then◌else◌}
 use Rattle.std.proofs.lemmas.Bool.Decides.{nat_tests}
 use Rattle.anti_ids.specs.Each.{Each}
-use Rattle.anti_ids.specs.Ids.{IsLineage, with_ids}
+use Rattle.anti_ids.specs.Invariants.{IsLineage}
+use Rattle.anti_ids.specs.Ids.{with_ids}
 use Rattle.anti_ids.specs.declared.limits.TheConstants.{MOST_IDS}
 use Rattle.anti_ids.specs.declared.id.WriteId.{WriteId}
 use Rattle.anti_ids.proofs.IdLemmas.{lineage_with_ids, lineage_without}
@@ -22,8 +23,9 @@ use Rattle.anti_baggage.proofs.TextLaws.{is_its_text}
 use Rattle.anti_app.specs.declared.app.App.{App}
 use Rattle.anti_proc.specs.declared.end.BodyEnd.{BodyEnd}
 use Rattle.anti_proc.specs.declared.task.Task.{Task}
-use Rattle.anti_proc.specs.Brought.{CarriesLineages, HasLineages, came}
-use Rattle.anti_proc.specs.Foreign.{read_well, stated_lineage}
+use Rattle.anti_proc.specs.Brought.{CarriesLineages, HasLineages}
+use Rattle.anti_proc.specs.Came.{came}
+use Rattle.anti_proc.specs.Stated.{read_well, stated_lineage}
 use Rattle.anti_proc.specs.Known.{IsOverApp}
 use Rattle.anti_proc.specs.Local.{Setting, id_at, row_ids, rows_ids}
 use Rattle.anti_proc.specs.Meaning.{begun, setting_of, stated_in, tree_of}

@@ -10,7 +10,8 @@ use Rattle.anti_proc.specs.Barriers.{LooksOnceAt, AsksFor, GoesOver}
 use Rattle.anti_proc.specs.Local.{Setting, Local}
 use Rattle.anti_proc.specs.Meaning.{Go, looks, planned}
 use Rattle.anti_app.specs.Objects.{stores_here}
-use Rattle.anti_proc.specs.Trees.{Make, after, next_of}
+use Rattle.anti_proc.specs.Trees.{Make, after}
+use Rattle.anti_proc.specs.Asked.{next_of}
 use Rattle.anti_proc.proofs.Plans.{among_here, its_look, one_look, asked_of}
 
 -- after so many replies it makes the look of that number

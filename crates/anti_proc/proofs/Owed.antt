@@ -6,7 +6,8 @@ use Rattle.anti_kind.specs.declared.entry.Entry.{Entry}
 use Rattle.anti_kind.specs.declared.message.MessageKind.{MessageKind}
 use Rattle.anti_kind.specs.declared.message.MessageKind.TheVariants as kinds
 use Rattle.anti_app.specs.declared.app.App.{App}
-use Rattle.anti_app.specs.Objects.{IsStore, has_handler, is_queue_at, service_at}
+use Rattle.anti_app.specs.Numbers.{IsStore, service_at}
+use Rattle.anti_app.specs.Objects.{has_handler, is_queue_at}
 use Rattle.anti_proc.specs.declared.task.Duty.TheVariants as duties
 use Rattle.anti_proc.specs.declared.task.Task.{Task}
 use Rattle.anti_proc.specs.Tasks.{duty_to, task_of}

@@ -7,8 +7,9 @@ use Rattle.anti_kind.specs.declared.call.Call.TheVariants as calls
 use Rattle.anti_kind.specs.declared.entry.Entry.{Entry}
 use Rattle.anti_app.specs.declared.app.App.{App}
 use Rattle.anti_app.specs.declared.app.ServiceDef.{ServiceDef}
-use Rattle.anti_app.specs.Objects.{IsInbox, IsStore, service_at}
-use Rattle.anti_app.specs.Sound.{has_named, is_sound}
+use Rattle.anti_app.specs.Numbers.{IsInbox, IsStore, service_at}
+use Rattle.anti_app.specs.Objects.{has_named}
+use Rattle.anti_app.specs.Sound.{is_sound}
 use Rattle.anti_app.proofs.SoundLemmas.{app_known}
 use Rattle.anti_proc.specs.Calls.{AllOfProcess, IsMadeOn, IsOfProcess, LooksWhereItMay}
 use Rattle.anti_proc.specs.Meaning.{begun, setting_of, tree_of}

@@ -1,7 +1,8 @@
 -- What is left to run goes on as its parts do.
 use Rattle.std.proofs.Common.{◌≡◌, ℕ, zero, suc, ◌+◌, ◌*◌, List, [], ◌∷◌, ◌++◌, refl, sym, ap, ◌∙◌, arith}
 use Rattle.std.proofs.Math.Path.{fun_ext}
-use Rattle.anti_lang.specs.Bodies.{block_from, list_of}
+use Rattle.anti_lang.specs.Bodies.{block_from}
+use Rattle.anti_lang.specs.Steps.{list_of}
 use Rattle.anti_lang.specs.Program.{Step, Block, End, Then}
 use Rattle.anti_lang.specs.Spans.{spans_of}
 use Rattle.anti_proc.specs.Local.{Setting, Local}

@@ -19,9 +19,10 @@ use Rattle.anti_app.specs.declared.app.HandlerDef.{HandlerDef}
 use Rattle.anti_app.specs.declared.app.ServiceDef.{ServiceDef}
 use Rattle.anti_app.specs.declared.app.StoreDef.{StoreDef}
 use Rattle.anti_kind.specs.Store.{has_keys, is_scanned, is_topic}
-use Rattle.anti_app.specs.Sound.{fits_services, fits_stores, has_named, is_near, is_served, is_stored, serves}
+use Rattle.anti_app.specs.Sound.{fits_services, fits_stores, is_near, is_served, is_stored, serves}
+use Rattle.anti_app.specs.Objects.{has_named, body_among, body_in, body_of, has_handler, inbox_of, service_among, store_among, store_names, store_number}
 use Rattle.anti_app.proofs.SoundLemmas.{SoundApp, SoundBody, SoundHandler, SoundService, SoundStore}
-use Rattle.anti_app.specs.Objects.{IsStore, body_among, body_in, body_of, has_handler, inbox_of, service_among, service_at, store_among, store_names, store_number}
+use Rattle.anti_app.specs.Numbers.{IsStore, service_at}
 use Rattle.anti_proc.proofs.Keeping.{BlockFits, StepFits, plain_is_name}
 use Rattle.anti_app.proofs.Runnable.{found_in}
 

@@ -1,6 +1,7 @@
 -- A handler goes on from statement to statement.
 use Rattle.std.proofs.Common.{◌≡◌, ℕ, ◌+◌, ◌*◌, ◌<◌, ◌≤◌, List, ◌∷◌, ◌++◌, None, refl, sym, ap, ◌∙◌, subst, true, arith}
-use Rattle.anti_lang.specs.Bodies.{block_from, list_of}
+use Rattle.anti_lang.specs.Bodies.{block_from}
+use Rattle.anti_lang.specs.Steps.{list_of}
 use Rattle.anti_lang.specs.Program.{Block, Step}
 use Rattle.anti_lang.specs.Spans.{spans_in, spans_of}
 use Rattle.anti_app.specs.declared.app.App.{App}

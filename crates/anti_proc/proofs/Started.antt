@@ -18,13 +18,14 @@ use Rattle.anti_app.specs.declared.app.App.{App}
 use Rattle.anti_app.specs.declared.app.SubDef.{SubDef}
 use Rattle.anti_app.specs.declared.objects.ObjectAt.{ObjectAt}
 use Rattle.anti_app.specs.declared.objects.ObjectAt.TheVariants.{Store, Inbox}
-use Rattle.anti_app.specs.Objects.{IsInbox, IsStore, body_of, inbox_at, service_at}
+use Rattle.anti_app.specs.Numbers.{IsInbox, IsStore, service_at}
+use Rattle.anti_app.specs.Objects.{body_of, inbox_at}
 use Rattle.anti_app.specs.Subs.{sub_on}
 use Rattle.anti_proc.specs.declared.end.BodyEnd.{BodyEnd}
 use Rattle.anti_proc.specs.declared.end.BodyEnd.TheVariants.{Fine, LineageFull}
 use Rattle.anti_proc.specs.declared.task.Role.{Role}
 use Rattle.anti_proc.specs.declared.task.Task.{Task}
-use Rattle.anti_proc.specs.Foreign.{has_stores, stated_lineage}
+use Rattle.anti_proc.specs.Stated.{has_stores, stated_lineage}
 use Rattle.anti_proc.specs.Local.{row_ids}
 use Rattle.anti_proc.specs.Meaning.{begun, setting_of, task_tree, tree_of}
 use Rattle.anti_proc.specs.Tasks.{is_for, role_at, role_at_inbox, role_at_store, role_in, role_on, task_for, task_of, task_with}

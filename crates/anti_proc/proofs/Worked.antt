@@ -34,12 +34,14 @@ use Rattle.anti_proc.specs.declared.task.Task.{Task}
 use Rattle.anti_proc.specs.declared.end.BodyEnd.TheVariants as body_ends
 use Rattle.anti_proc.specs.declared.end.End.TheVariants.{Fine, Depth, BadKey, LineageFull}
 use Rattle.anti_proc.specs.Brought.{brought, made}
-use Rattle.anti_proc.specs.Foreign.{is_foreign, stated_lineage}
+use Rattle.anti_proc.specs.Foreign.{is_foreign}
+use Rattle.anti_proc.specs.Stated.{stated_lineage}
 use Rattle.anti_proc.specs.Local.{Setting, first_local, row_ids}
 use Rattle.anti_proc.specs.Meaning.{begun, body_tree, hear_call, setting_of, tree_of}
 use Rattle.anti_proc.specs.Tasks.{fitting, role_in, role_on, task_of, task_with}
 use Rattle.anti_app.specs.Objects.{stores_here}
-use Rattle.anti_proc.specs.Trees.{Want, Make, Over, Ends, next_of}
+use Rattle.anti_proc.specs.Trees.{Want, Make, Over, Ends}
+use Rattle.anti_proc.specs.Asked.{next_of}
 
 abbrev key : List ℕ
 key = codes "k"

@@ -1,5 +1,5 @@
 -- The looks of a barrier: which they are, how one follows another, and when it is answered.
-use Rattle.std.specs.Prelude.{◌≡◌, ℕ, ◌==◌, ◌&&◌, Bool, true, false, Some, is_some, List, [], ◌∷◌, length, filter, slice_get, if◌then◌else◌}
+use Rattle.std.specs.Prelude.{◌≡◌, ℕ, ◌==◌, ◌&&◌, Bool, Some, is_some, List, [], ◌∷◌, length, filter, slice_get, if◌then◌else◌}
 use Rattle.std.specs.List.{list_any}
 use Rattle.anti_ids.specs.Ids.{has_id, ids_of}
 use Rattle.anti_ids.specs.declared.id.WriteId.{WriteId}
@@ -11,7 +11,9 @@ use Rattle.anti_shim.specs.Plans.{with_look}
 use Rattle.anti_proc.specs.Local.{Setting, Local}
 use Rattle.anti_proc.specs.Meaning.{Go, planned}
 use Rattle.anti_app.specs.Objects.{is_store_here}
-use Rattle.anti_proc.specs.Trees.{Tree, Ask, Asks, Ends, Make, after, ask_of, next_of}
+use Rattle.anti_proc.specs.Trees.{Tree, Ask, Asks, Ends, Make, after, ask_of}
+use Rattle.anti_proc.specs.Asked.{next_of}
+use Rattle.anti_proc.specs.Looks.{is_look}
 
 -- those of these looks that are made at a store
 abbrev pub made_at : ℕ → List PlannedLook → List PlannedLook
@@ -44,11 +46,6 @@ BeginsItsLooks s l dry tree =
     (go : Go) (look : PlannedLook) (later : List PlannedLook) → planned s l ≡ look ∷ later
     → ask_of (tree go)
     ≡ Some (record { object = look.store; span = l.span; call = calls.Look s.region look.ids dry; carried = l.carried; left = Some later })
-
--- whether a call is a look
-abbrev pub is_look : Call → Bool
-is_look (calls.Look region ids dry) = true
-is_look _ = false
 
 -- a look of the same region, as dry, for other ids
 abbrev pub looking_for : List WriteId → Call → Call

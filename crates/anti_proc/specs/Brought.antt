@@ -2,28 +2,16 @@
 use Rattle.std.specs.Prelude.{ℕ, ◌≡◌, ◌==◌, true, List, [], ◌∷◌, ◌++◌, Some, unwrap_or, if◌then◌else◌}
 use Rattle.std.specs.Option.{option_map_or}
 use Rattle.anti_ids.specs.Each.{Each}
-use Rattle.anti_ids.specs.Ids.{IsLineage, has_id}
+use Rattle.anti_ids.specs.Invariants.{IsLineage}
+use Rattle.anti_ids.specs.Ids.{has_id}
 use Rattle.anti_ids.specs.declared.id.WriteId.{WriteId}
-use Rattle.anti_kind.specs.declared.call.Call.{Call}
-use Rattle.anti_kind.specs.declared.call.Call.TheVariants as calls
 use Rattle.anti_kind.specs.declared.entry.Entry.{Entry}
 use Rattle.anti_kind.specs.declared.call.Reply.{Reply}
 use Rattle.anti_kind.specs.declared.call.Reply.TheVariants as replies
 use Rattle.anti_app.specs.declared.app.App.{App}
-use Rattle.anti_proc.specs.Local.{id_at, rows_ids}
-use Rattle.anti_proc.specs.Meaning.{stated_in}
 use Rattle.anti_proc.specs.Tasks.{task_of}
 use Rattle.anti_proc.specs.Trees.{Tree, Ask, Asks, Ends, after, ask_of}
-
--- The ids that an answered call brings: a write its id, a read the ids of its rows and the lineages that are stored beside them, a reply its
--- lineage.
-abbrev pub came : App → ℕ → Call → Reply → List WriteId
-came app object (calls.Write key value lineage) (replies.Written written version) = id_at object written version
-came app object (calls.Read region key) (replies.Shown rows) = rows_ids object rows.items
-came app object (calls.Scan region prefix) (replies.Shown rows) = rows_ids object rows.items
-came app object (calls.Poll region key) (replies.Shown rows) = rows_ids object rows.items
-came app object (calls.TakeReply number) (replies.Got got m) = stated_in app m
-came app object call reply = []
+use Rattle.anti_proc.specs.Came.{came}
 
 -- the ids that came to a process with its message or its row
 abbrev pub came_first : App → Entry → List WriteId

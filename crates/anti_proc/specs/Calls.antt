@@ -5,7 +5,8 @@ use Rattle.anti_kind.specs.declared.call.Call.{Call}
 use Rattle.anti_kind.specs.declared.call.Call.TheVariants as calls
 use Rattle.anti_kind.specs.declared.call.Reply.{Reply}
 use Rattle.anti_app.specs.declared.app.App.{App}
-use Rattle.anti_app.specs.Objects.{IsInbox, IsStore, is_store_here}
+use Rattle.anti_app.specs.Numbers.{IsInbox, IsStore}
+use Rattle.anti_app.specs.Objects.{is_store_here}
 use Rattle.anti_proc.specs.Trees.{Tree, Asks, Ends}
 
 -- A write, a read, a scan, a poll, a look, an ack or a nack is made at a store that is there, a post or the taking of a reply at an inbox

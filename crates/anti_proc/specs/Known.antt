@@ -16,7 +16,8 @@ use Rattle.anti_ids.specs.declared.limits.TheConstants.{MOST_DEPTH}
 use Rattle.anti_proc.specs.Calls.{IsOfProcess}
 use Rattle.anti_proc.specs.Foreign.{has_baggage}
 use Rattle.anti_proc.specs.Local.{id_at}
-use Rattle.anti_app.specs.Objects.{store_names, service_at, has_handler}
+use Rattle.anti_app.specs.Objects.{store_names, has_handler}
+use Rattle.anti_app.specs.Numbers.{service_at}
 use Rattle.anti_proc.specs.Trees.{Tree, Asks, Ends}
 
 -- ids over the stores of the application

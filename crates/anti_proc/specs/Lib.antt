@@ -1,12 +1,16 @@
 pub mod Barriers
+pub mod Looks
 pub mod Births
 pub mod Brought
+pub mod Came
 pub mod Calls
 pub mod Carrying
 pub mod Foreign
+pub mod Stated
 pub mod Known
 pub mod Local
 pub mod Meaning
 pub mod Tasks
 pub mod Trees
+pub mod Asked
 pub mod inner

@@ -29,7 +29,7 @@ use Rattle.anti_proc.specs.declared.end.BodyEnd.{BodyEnd}
 use Rattle.anti_proc.specs.declared.end.BodyEnd.TheVariants.{Fine, Depth, BadKey, LineageFull}
 use Rattle.anti_proc.specs.Local.{Setting, Local, first_local, new_span, rooted, held, set, set_or, held_ids, removed, is_absent, text_of, any_name, key_of}
 use Rattle.anti_app.specs.Objects.{store_number, store_names, inbox_of, body_of, stores_here}
-use Rattle.anti_proc.specs.Foreign.{stated_lineage}
+use Rattle.anti_proc.specs.Stated.{stated_lineage}
 use Rattle.anti_proc.specs.Tasks.{task_of}
 use Rattle.anti_proc.specs.Trees.{Tree, Ask, Asks, Ends, after}
 

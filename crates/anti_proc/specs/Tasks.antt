@@ -22,7 +22,7 @@ use Rattle.anti_proc.specs.declared.task.Duty.{Duty}
 use Rattle.anti_proc.specs.declared.task.Duty.TheVariants as duties
 use Rattle.anti_proc.specs.declared.task.Role.{Role}
 use Rattle.anti_proc.specs.declared.task.Task.{Task}
-use Rattle.anti_proc.specs.Foreign.{has_stores, stated_lineage}
+use Rattle.anti_proc.specs.Stated.{has_stores, stated_lineage}
 use Rattle.anti_proc.specs.Local.{row_ids}
 
 -- ---- which handler

@@ -1,5 +1,5 @@
 -- Everything that a process may do, as a tree: a call, and what follows on each reply to it; or its end.
-use Rattle.std.specs.Prelude.{ℕ, ◌≡◌, Option, Some, None, List, [], ◌∷◌}
+use Rattle.std.specs.Prelude.{ℕ, Option, Some, None, List, [], ◌∷◌}
 use Rattle.anti_ids.specs.declared.id.WriteId.{WriteId}
 use Rattle.anti_kind.specs.declared.call.Call.{Call}
 use Rattle.anti_kind.specs.declared.call.Reply.{Reply}
@@ -52,17 +52,3 @@ pub data Want : Type 0 where
 abbrev pub want_of : Tree → Want
 want_of (Asks ask go) = Make ask.object ask.span ask.call
 want_of (Ends end) = Over (end_as end)
-
--- the next call after these replies, or the end
-abbrev pub next_of : Tree → List Reply → Want
-next_of tree replies = want_of (after tree replies)
-
--- the end, where there is no further call
-abbrev pub end_of : Tree → Option End
-end_of (Asks ask go) = None
-end_of (Ends end) = Some (end_as end)
-
--- the next call is one at this object
-abbrev pub IsAskedAt : ℕ → Tree → Type 0
-IsAskedAt object (Asks ask go) = ask.object ≡ object
-IsAskedAt object (Ends end) = ⊥

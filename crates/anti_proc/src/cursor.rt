@@ -1,6 +1,6 @@
 ghost use Rattle.std.specs.Prelude.{◌≡◌, OnOk, option_map, slice_get};
-ghost use Rattle.anti_lang.specs.Bodies.{list_of, step_of};
-ghost use Rattle.anti_app.specs.Objects.{steps_of};
+ghost use Rattle.anti_lang.specs.Steps.{list_of, steps_of};
+ghost use Rattle.anti_lang.specs.Bodies.{step_of};
 ghost use Rattle.anti_proc.specs.inner.Cursors.{Enters, IsLine, IsStart, Turns, block_in, innermost, opened};
 
 use anti_ids::{Copies, List, NoMemory};

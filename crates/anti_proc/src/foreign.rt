@@ -1,7 +1,8 @@
 ghost use Rattle.std.specs.Prelude.{◌≡◌, [], Some, None, true, false, Err, IfOk, OnOk};
 ghost use Rattle.std.specs.List.{list_all};
 ghost use Rattle.anti_app.specs.Running.{CanRun};
-ghost use Rattle.anti_proc.specs.Foreign.{has_stores, is_foreign, stated_lineage};
+ghost use Rattle.anti_proc.specs.Stated.{has_stores, stated_lineage};
+ghost use Rattle.anti_proc.specs.Foreign.{is_foreign};
 ghost use Rattle.anti_proc.specs.inner.Statements.{came_by};
 
 use crate::end::ProcFault;

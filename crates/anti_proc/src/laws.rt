@@ -1,5 +1,5 @@
 ghost use Rattle.std.specs.Prelude.{ℕ, ◌≡◌, Some, List, true, false, IsTrue};
-ghost use Rattle.anti_ids.specs.Ids.{IsLineage};
+ghost use Rattle.anti_ids.specs.Invariants.{IsLineage};
 ghost use Rattle.anti_ids.specs.declared.id.WriteId.{WriteId};
 ghost use Rattle.anti_kind.specs.declared.entry.Entry.{Entry};
 ghost use Rattle.anti_app.specs.Objects.{region_of};

@@ -5,7 +5,8 @@ ghost use Rattle.anti_proc.specs.Births.{birth_at};
 ghost use Rattle.anti_proc.specs.Foreign.{is_foreign};
 ghost use Rattle.anti_proc.specs.Meaning.{tree_of};
 ghost use Rattle.anti_proc.specs.Tasks.{role_of, task_of};
-ghost use Rattle.anti_proc.specs.Trees.{IsAskedAt, Make, ask_of, branch, end_of, want_of};
+ghost use Rattle.anti_proc.specs.Asked.{IsAskedAt, end_of};
+ghost use Rattle.anti_proc.specs.Trees.{Make, ask_of, branch, want_of};
 ghost use Rattle.anti_proc.specs.inner.Running.{IsAdvanceOf, IsRunOf};
 ghost use Rattle.anti_proc.specs.inner.Standing.{HasRoom, advanced, birth_of, clock_of, full_by, full_of, its_role, process_of};
 

@@ -13,7 +13,8 @@ use Rattle.anti_kind.specs.declared.store_kind.Sub.{Sub}
 use Rattle.anti_kind.specs.declared.store_kind.StoreKind.{StoreKind}
 use Rattle.anti_kind.specs.declared.store_kind.StoreKind.TheVariants.{Queue}
 use Rattle.anti_kind.specs.Stored.{rows, row_of, is_shipped, is_whole, is_in}
-use Rattle.anti_kind.specs.Store.{Store, queue_store, is_queue, is_topic, pulls, is_acked, is_out, is_free, next_of, pulled_next, next}
+use Rattle.anti_kind.specs.Store.{Store, is_queue, is_topic, pulls, is_acked, is_out, is_free, next_of, pulled_next, next}
+use Rattle.anti_kind.specs.Starts.{queue_store}
 use Rattle.anti_kind.specs.Cells.{is_row_in}
 use Rattle.anti_kind.specs.Objects.{store, IsLegal}
 use Rattle.anti_kind.proofs.Finding.{filter_contains}

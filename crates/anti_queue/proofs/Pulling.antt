@@ -11,7 +11,8 @@ use Rattle.anti_kind.specs.declared.row.Row.{Row}
 use Rattle.anti_kind.specs.declared.store_kind.Sub.{Sub}
 use Rattle.anti_kind.specs.Stored.{rows, row_of, is_whole, is_in}
 use Rattle.anti_kind.specs.Store.{Store, is_pull, is_out, is_acked, is_free, pulls, next, is_there, or_absent, store_ready, store_due, owed_shipments, outs}
-use Rattle.anti_kind.specs.Objects.{held, Follows, IsLegal, StandsFor, MayMake}
+use Rattle.anti_kind.specs.Objects.{held, Follows, IsLegal}
+use Rattle.anti_kind.specs.Machines.{StandsFor, MayMake}
 use Rattle.anti_kind.proofs.Handed.{Found, find_found, is_there_some, next_found, free_not_out, settles_by, outs_other, outs_pull, outs_ack, outs_nack, outs_settle, out_within}
 use Rattle.anti_kind.proofs.Rows.{is_write, is_shipping, or_false, rows_other, shipped_other, version_at}
 use Rattle.anti_kind.proofs.Shipped.{ready_ship, version_within}

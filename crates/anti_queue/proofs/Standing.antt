@@ -2,8 +2,10 @@
 use Rattle.std.proofs.Common.{◌≡◌, ℕ, ◌<◌, ◌≤◌, false, List, [], ◌∷◌, ◌++◌, length, get_or, refl, sym, ap, subst, ◌∙◌, arith}
 use Rattle.anti_kind.specs.declared.entry.Entry.{Entry}
 use Rattle.anti_kind.specs.Stored.{rows, is_shipped}
-use Rattle.anti_kind.specs.Store.{Store, queue_store, is_pull}
-use Rattle.anti_kind.specs.Objects.{Follows, StandsFor}
+use Rattle.anti_kind.specs.Store.{Store, is_pull}
+use Rattle.anti_kind.specs.Starts.{queue_store}
+use Rattle.anti_kind.specs.Objects.{Follows}
+use Rattle.anti_kind.specs.Machines.{StandsFor}
 use Rattle.anti_kind.proofs.Handed.{settles_by, outs_other}
 use Rattle.anti_kind.proofs.Histories.{legal_more}
 use Rattle.anti_kind.proofs.Rows.{is_write, is_shipping, rows_other, shipped_other}

@@ -8,7 +8,8 @@ use Rattle.anti_kind.specs.declared.entry.Entry.{Entry}
 use Rattle.anti_kind.specs.declared.row.Row.{Row}
 use Rattle.anti_kind.specs.Stored.{rows, is_in}
 use Rattle.anti_kind.specs.Store.{Store, is_pull}
-use Rattle.anti_kind.specs.Objects.{Follows, StandsFor}
+use Rattle.anti_kind.specs.Objects.{Follows}
+use Rattle.anti_kind.specs.Machines.{StandsFor}
 use Rattle.anti_kind.proofs.Handed.{settles_by, outs_write}
 use Rattle.anti_kind.proofs.Rows.{is_shipping, new_row, rows_write, shipped_other}
 use Rattle.anti_kind.proofs.Shipped.{never_shipped}

@@ -5,8 +5,10 @@ use Rattle.std.specs.Vec.{vec_len, vec_capacity}
 use Rattle.anti_kind.specs.declared.call.Call.{Call}
 use Rattle.anti_kind.specs.declared.call.Call.TheVariants.{Again, Look}
 use Rattle.anti_kind.specs.declared.entry.Entry.{Entry}
-use Rattle.anti_kind.specs.Store.{Store, queue_store}
-use Rattle.anti_kind.specs.Objects.{Start, store, Follows, StandsFor, MayMake}
+use Rattle.anti_kind.specs.Store.{Store}
+use Rattle.anti_kind.specs.Starts.{queue_store}
+use Rattle.anti_kind.specs.Objects.{Start, store, Follows}
+use Rattle.anti_kind.specs.Machines.{StandsFor, MayMake}
 use Rattle.anti_replicas.specs.Channels.{count_at, HasChannel, Counts}
 use Rattle.anti_replicas.specs.Stores.{number_of, regions_of}
 use Rattle.anti_replicas.specs.inner.Standing.{Stands}

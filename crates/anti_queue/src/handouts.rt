@@ -3,7 +3,8 @@ ghost use Rattle.anti_kind.specs.declared.call.Call.TheVariants.{Ship, Pull, Ack
 ghost use Rattle.anti_kind.specs.declared.entry.Entry.{Entry};
 ghost use Rattle.anti_kind.specs.Stored.{rows, row_of};
 ghost use Rattle.anti_kind.specs.Store.{Store, next};
-ghost use Rattle.anti_kind.specs.Objects.{Follows, StandsFor};
+ghost use Rattle.anti_kind.specs.Objects.{Follows};
+ghost use Rattle.anti_kind.specs.Machines.{StandsFor};
 ghost use Rattle.anti_replicas.specs.Stores.{At};
 ghost use Rattle.anti_queue.specs.inner.Marks.{AreMessages, can_go_out};
 ghost use Rattle.anti_queue.specs.inner.Lists.{subs_of, HaveSpare, AreSorted};

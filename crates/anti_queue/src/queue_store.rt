@@ -1,5 +1,5 @@
 ghost use Rattle.std.specs.Prelude.{◌≡◌, [], IfOk};
-ghost use Rattle.anti_kind.specs.Objects.{IsStart};
+ghost use Rattle.anti_kind.specs.Starts.{IsStart};
 ghost use Rattle.anti_queue.specs.QueueStarts.{queue_start};
 
 use crate::message_states::MessageStates;

@@ -12,8 +12,9 @@ use Rattle.anti_kind.specs.declared.entry.Entry.{Entry}
 use Rattle.anti_kind.specs.declared.row.Row.{Row}
 use Rattle.anti_kind.specs.declared.store_kind.StoreKind.{StoreKind}
 use Rattle.anti_kind.proofs.FactLaws.{one_is_whole}
-use Rattle.anti_kind.specs.Stored.{rows, row_of, is_shipped, parts_of, parts, is_whole, shows_of, upto_of}
-use Rattle.anti_kind.specs.Store.{Store, absent, has_part, is_replica, is_table, is_next, is_written, can_ship, shipment, shipments, next_shipment}
+use Rattle.anti_kind.specs.Stored.{rows, row_of, is_shipped, parts_of, parts, is_whole, shows_of}
+use Rattle.anti_kind.specs.Shipments.{upto_of, shipment, shipments, next_shipment}
+use Rattle.anti_kind.specs.Store.{Store, absent, has_part, is_replica, is_table, is_next, is_written, can_ship}
 use Rattle.anti_kind.specs.Objects.{store, IsLegal}
 use Rattle.anti_kind.proofs.Rows.{version_at, row_of_at}
 use Rattle.anti_kind.proofs.Showing.{greatest_least}

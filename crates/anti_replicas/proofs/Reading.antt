@@ -9,7 +9,8 @@ use Rattle.std.proofs.lemmas.List.{get_or-map, length-map}
 use Rattle.std.proofs.lemmas.Option.{get_or_from_slice_get, slice_get_within}
 use Rattle.anti_ids.specs.Each.{Each}
 use Rattle.anti_ids.specs.declared.id.WriteId.{WriteId}
-use Rattle.anti_ids.specs.Ids.{id_cmp, placed, with_id, IsAscending}
+use Rattle.anti_ids.specs.Ids.{id_cmp, placed, with_id}
+use Rattle.anti_ids.specs.Invariants.{IsAscending}
 use Rattle.anti_ids.proofs.IdLemmas.{id_total, with_id-last, ascending_filter}
 use Rattle.anti_kind.specs.declared.entry.Entry.{Entry}
 use Rattle.anti_kind.specs.declared.row.Row.{Row}

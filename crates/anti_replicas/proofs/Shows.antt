@@ -14,7 +14,8 @@ use Rattle.anti_kind.specs.declared.entry.Entry.{Entry}
 use Rattle.anti_kind.specs.declared.row.Row.{Row}
 use Rattle.anti_kind.specs.declared.store_kind.StoreKind.{StoreKind}
 use Rattle.anti_kind.proofs.FactLaws.{has_parts}
-use Rattle.anti_kind.specs.Stored.{rows, is_shipped, parts_of, parts, is_whole, greatest, shows_of, upto_of}
+use Rattle.anti_kind.specs.Stored.{rows, is_shipped, parts_of, parts, is_whole, greatest, shows_of}
+use Rattle.anti_kind.specs.Shipments.{upto_of}
 use Rattle.anti_kind.specs.Store.{Store}
 use Rattle.anti_kind.specs.Objects.{store, Follows, IsLegal}
 use Rattle.anti_kind.proofs.Rows.{is_write, is_shipping, new_row, rows_write, rows_other, shipped_other, shipped_ship, version_at, or_false}

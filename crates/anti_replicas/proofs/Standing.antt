@@ -12,7 +12,8 @@ use Rattle.anti_kind.specs.declared.call.Call.TheVariants.{Write, Ship}
 use Rattle.anti_kind.specs.declared.entry.Entry.{Entry}
 use Rattle.anti_kind.specs.declared.row.Row.{Row}
 use Rattle.anti_kind.specs.declared.store_kind.StoreKind.{StoreKind}
-use Rattle.anti_kind.specs.Stored.{rows, is_shipped, parts_of, is_whole, shows_of, upto_of}
+use Rattle.anti_kind.specs.Stored.{rows, is_shipped, parts_of, is_whole, shows_of}
+use Rattle.anti_kind.specs.Shipments.{upto_of}
 use Rattle.anti_kind.specs.Store.{Store, absent, key_for, store_due, owed_shipments, owed_messages}
 use Rattle.anti_kind.specs.Objects.{store, Follows, IsLegal, weight, held}
 use Rattle.anti_kind.proofs.Histories.{held_more, legal_more}

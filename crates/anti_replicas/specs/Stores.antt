@@ -6,7 +6,8 @@ use Rattle.anti_kind.specs.declared.call.Call.TheVariants.{Write, Look, Ship, Ag
 use Rattle.anti_kind.specs.declared.entry.Entry.{Entry}
 use Rattle.anti_kind.specs.declared.store_kind.StoreKind.{StoreKind}
 use Rattle.anti_kind.specs.Store.{Store, has_keys, store_of}
-use Rattle.anti_kind.specs.Objects.{store, StandsFor, MayMake}
+use Rattle.anti_kind.specs.Objects.{store}
+use Rattle.anti_kind.specs.Machines.{StandsFor, MayMake}
 use Rattle.anti_replicas.specs.declared.replicas.Replicas.{Replicas}
 use Rattle.anti_replicas.specs.inner.Standing.{Stands}
 

@@ -1,7 +1,8 @@
 ghost use Rattle.std.specs.Prelude.{◌≡◌, ℕ, true, List, [], ◌∷◌, ◌++◌, IfOk, IsOk, OnErr, OnOk};
 ghost use Rattle.anti_kind.specs.declared.entry.Entry.{Entry};
 ghost use Rattle.anti_kind.specs.declared.store_kind.StoreKind.{StoreKind};
-ghost use Rattle.anti_kind.specs.Objects.{store, Follows, IsShip};
+ghost use Rattle.anti_kind.specs.Objects.{store, Follows};
+ghost use Rattle.anti_kind.specs.Shipments.{IsShip};
 ghost use Rattle.anti_kind.specs.Store.{Store, has_keys, is_scanned, store_due, store_ready};
 
 use crate::replicas::Replicas;

@@ -4,7 +4,7 @@ ghost use Rattle.anti_ids.specs.declared.id.WriteId.{WriteId};
 ghost use Rattle.anti_ids.specs.Ids.{with_id};
 ghost use Rattle.anti_kind.specs.declared.call.Reply.TheVariants.{Missing};
 ghost use Rattle.anti_kind.specs.declared.entry.Entry.{Entry};
-ghost use Rattle.anti_kind.specs.Stored.{upto_of};
+ghost use Rattle.anti_kind.specs.Shipments.{upto_of};
 ghost use Rattle.anti_kind.specs.Store.{Store, is_visible, is_written, missing, unwritten, can_look};
 
 use crate::replicas::Replicas;

@@ -2,7 +2,8 @@ ghost use Rattle.std.specs.Prelude.{◌≡◌, ℕ, true, List, [], ◌∷◌, �
 ghost use Rattle.anti_kind.specs.declared.entry.Entry.{Entry};
 ghost use Rattle.anti_kind.specs.declared.store_kind.StoreKind.{StoreKind};
 ghost use Rattle.anti_kind.specs.declared.store_kind.Sub.{Sub};
-ghost use Rattle.anti_kind.specs.Objects.{store, weight, Follows, IsShip};
+ghost use Rattle.anti_kind.specs.Objects.{store, weight, Follows};
+ghost use Rattle.anti_kind.specs.Shipments.{IsShip};
 ghost use Rattle.anti_kind.specs.Store.{Store, store_of, store_due, store_ready};
 ghost use Rattle.anti_kind.specs.Waiting.{waits};
 

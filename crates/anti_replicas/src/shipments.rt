@@ -2,8 +2,9 @@ ghost use Rattle.std.specs.Prelude.{◌≡◌, ◌+◌, ◌<◌, ◌≤◌, not,
 ghost use Rattle.std.specs.List.{prefix_len};
 ghost use Rattle.anti_kind.specs.declared.call.Call.TheVariants.{Ship};
 ghost use Rattle.anti_kind.specs.declared.entry.Entry.{Entry};
-ghost use Rattle.anti_kind.specs.Stored.{rows, row_of, is_shipped, upto_of};
-ghost use Rattle.anti_kind.specs.Store.{Store, is_table, has_part, is_next, can_ship, next_shipment};
+ghost use Rattle.anti_kind.specs.Stored.{rows, row_of, is_shipped};
+ghost use Rattle.anti_kind.specs.Shipments.{upto_of, next_shipment};
+ghost use Rattle.anti_kind.specs.Store.{Store, is_table, has_part, is_next, can_ship};
 ghost use Rattle.anti_kind.specs.Objects.{store, Follows};
 ghost use Rattle.anti_replicas.specs.inner.Marks.{has_all};
 

@@ -2,14 +2,15 @@
 use Rattle.std.proofs.Common.{◌≡◌, ℕ, List, length, refl}
 use Rattle.anti_kind.specs.declared.entry.Entry.{Entry}
 use Rattle.anti_app.specs.declared.app.App.{App}
-use Rattle.anti_proc.specs.Barriers.{is_look}
+use Rattle.anti_proc.specs.Looks.{is_look}
 use Rattle.anti_trace.specs.declared.ends.ProcessEnd.{ProcessEnd}
 use Rattle.anti_trace.specs.Ends.{ends_of}
 use Rattle.law_causal.specs.Words.{reads}
-use Rattle.anti_order.specs.Counts.{AreCountsOf}
+use Rattle.anti_order.specs.Tallies.{AreCountsOf}
 use Rattle.anti_order.specs.declared.answer_counts.AnswerCounts.{AnswerCounts}
 use Rattle.anti_report.specs.Report.{Told}
-use Rattle.anti_report.specs.RunCounts.{calls_counted, ends_counted, is_fine, is_ship, is_write, AreRunCountsOf, run_counts}
+use Rattle.anti_report.specs.RunCounts.{calls_counted, ends_counted, is_fine, is_ship, is_write, run_counts}
+use Rattle.anti_report.specs.Tallies.{AreRunCountsOf}
 use Rattle.anti_report.specs.declared.run_counts.RunCounts.{RunCounts}
 
 -- the counts of a run with these entries, ends and answers

@@ -1,16 +1,15 @@
 -- How many entries, processes and spans of each kind a run has.
-use Rattle.std.specs.Prelude.{ℕ, ◌≡◌, Bool, true, false, List, length, count_by, Option, Some}
+use Rattle.std.specs.Prelude.{ℕ, Bool, true, false, List, length, count_by, Option, Some}
 use Rattle.anti_kind.specs.declared.call.Call.{Call}
 use Rattle.anti_kind.specs.declared.call.Call.TheVariants.{Write, Ship}
 use Rattle.anti_kind.specs.declared.entry.Entry.{Entry}
-use Rattle.anti_app.specs.declared.app.App.{App}
-use Rattle.anti_proc.specs.Barriers.{is_look}
+use Rattle.anti_proc.specs.Looks.{is_look}
 use Rattle.anti_proc.specs.declared.end.End.{End}
 use Rattle.anti_proc.specs.declared.end.End.TheVariants.{Fine}
 use Rattle.anti_trace.specs.declared.ends.ProcessEnd.{ProcessEnd}
 use Rattle.law_causal.specs.Words.{reads}
 use Rattle.anti_order.specs.Counts.{how_many, is_lossy, is_ordered, is_unguarded}
-use Rattle.anti_report.specs.Report.{IsTold, Told}
+use Rattle.anti_report.specs.Report.{Told}
 use Rattle.anti_report.specs.declared.run_counts.RunCounts.{RunCounts}
 
 abbrev pub is_write : Call → Bool
@@ -48,9 +47,3 @@ run_counts t = record {
     lossy = how_many is_lossy t.spans;
   };
 }
-
--- these are the counts of what is to be told of the run
-pub record AreRunCountsOf (app : App) (trace : List Entry) (waiting : List ℕ) (counts : RunCounts) : Type 0 where
-  pub told : Told
-  pub tells : IsTold app trace waiting told
-  pub counted : counts ≡ run_counts told

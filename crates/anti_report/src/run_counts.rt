@@ -1,10 +1,11 @@
 ghost use Rattle.std.specs.Prelude.{◌≡◌, ℕ, List, IfOk, IsTrue};
 ghost use Rattle.anti_app.specs.Sound.{is_sound};
-ghost use Rattle.anti_proc.specs.Barriers.{is_look};
+ghost use Rattle.anti_proc.specs.Looks.{is_look};
 ghost use Rattle.anti_trace.specs.Ends.{ends_of};
 ghost use Rattle.anti_trace.specs.Legal.{IsLegalTrace};
 ghost use Rattle.law_causal.specs.Words.{reads};
-ghost use Rattle.anti_report.specs.RunCounts.{calls_counted, ends_counted, is_fine, is_ship, is_write, AreRunCountsOf};
+ghost use Rattle.anti_report.specs.RunCounts.{calls_counted, ends_counted, is_fine, is_ship, is_write};
+ghost use Rattle.anti_report.specs.Tallies.{AreRunCountsOf};
 
 use anti_app::App;
 use anti_ids::NoMemory;

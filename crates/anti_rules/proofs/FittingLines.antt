@@ -17,8 +17,7 @@ use Rattle.anti_lang.specs.declared.statement.Statement.TheVariants as statement
 use Rattle.anti_lang.proofs.PlainLemmas.{step_repeat, step_if}
 use Rattle.anti_lang.proofs.ReadLemmas.{here_first}
 use Rattle.anti_rules.specs.Trees.{text_at}
-use Rattle.anti_rules.specs.Statements.{line_fits}
-use Rattle.anti_rules.specs.inner.Parses.{service_bodies, body_fits, bodies_fit, service_fits, step_fits}
+use Rattle.anti_rules.specs.inner.Parses.{line_fits, service_bodies, body_fits, bodies_fit, service_fits, step_fits}
 use Rattle.anti_rules.specs.declared.rule.Rule.{Rule}
 use Rattle.anti_rules.specs.declared.rule.Rule.TheVariants.{StatementStores, StatementHandlers}
 

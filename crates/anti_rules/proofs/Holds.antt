@@ -1,11 +1,10 @@
 -- What is known of a document without a breach.
 use Rattle.std.proofs.Common.{◌≡◌, ℕ, ◌+◌, List, [], ◌∷◌, ◌++◌, Bool, true, false, not, ◌&&◌, ◌||◌, length, map, Option, Some, None, is_some, Result, Ok, Err, refl, ap, sym, ◌∙◌, if◌then◌else◌, codes, nat_le}
 use Rattle.std.specs.List.{list_all, list_any}
-use Rattle.std.specs.Option.{option_or, option_map_or}
+use Rattle.std.specs.Option.{option_or, option_map_or, option_and_then}
 use Rattle.std.proofs.lemmas.Bool.{and_parts}
 use Rattle.std.proofs.lemmas.List.Folds.{list_all-append}
 use Rattle.std.proofs.Math.Dec.{leb-zero}
-use Rattle.std.specs.Option.{option_and_then}
 use Rattle.toml.specs.Data.{Data, Members, get_member, as_array}
 use Rattle.anti_ids.specs.Names.{is_plain}
 use Rattle.anti_rules.specs.Keys.{keys_of, all_fit, has_count, elements_of}

@@ -19,10 +19,10 @@ use Rattle.anti_lang.specs.declared.statement.Statement.{Statement}
 use Rattle.anti_lang.proofs.BodyLaws.{lines_stated}
 use Rattle.anti_lang.proofs.PlainLemmas.{block_again}
 use Rattle.anti_rules.specs.Trees.{text_of, text_at, things_at, things_in, services_in}
-use Rattle.anti_rules.specs.Statements.{next, body_in, body_fault, fault_of, line_with, first_line, bad_line, line_fits, store_fits, handler_exists}
+use Rattle.anti_rules.specs.Statements.{next, body_in, body_fault, fault_of, line_with, first_line, bad_line, store_fits, handler_exists}
+use Rattle.anti_rules.specs.inner.Parses.{line_fits, if_parsed, body_stated, body_parses, handler_body, service_parses, service_bodies, all_parse, all_bodies, parsed_bodies, body_fits, bodies_fit, service_fits, services_fit, is_shown}
 use Rattle.anti_rules.specs.Rules.{table_line, rule_line}
 use Rattle.anti_rules.specs.Walk.{placed, passed, first_from, first_at, first_handler, first_place}
-use Rattle.anti_rules.specs.inner.Parses.{if_parsed, body_stated, body_parses, handler_body, service_parses, service_bodies, all_parse, all_bodies, parsed_bodies, body_fits, bodies_fit, service_fits, services_fit, is_shown}
 use Rattle.anti_rules.specs.declared.rule.Rule.{Rule}
 use Rattle.anti_rules.specs.declared.rule.Rule.TheVariants.{Statements, Blocks, Variables, StatementStores, StatementHandlers}
 use Rattle.anti_rules.specs.declared.place.Part.{Part}

@@ -1,7 +1,8 @@
 -- A test of a line that is read, and of the line of the code.
 use Rattle.std.proofs.Common.{◌≡◌, Bool, true, Option, Some, None, option_map, ap, ◌∙◌}
 use Rattle.std.specs.Option.{option_map_or}
-use Rattle.anti_lang.specs.Lines.{Line, line_of}
+use Rattle.anti_lang.specs.Lines.{Line}
+use Rattle.anti_lang.specs.Parses.{line_of}
 use Rattle.anti_lang.specs.Stated.{stated}
 use Rattle.anti_lang.specs.declared.line.Line as code
 use Rattle.anti_lang.proofs.PlainLemmas.{line_again}

@@ -8,9 +8,6 @@ use Rattle.anti_ids.specs.declared.limits.TheConstants.{GREATEST_SEED, MOST_CHOI
 use Rattle.anti_rules.specs.Trees.{names, elements}
 use Rattle.anti_rules.specs.declared.table_keys.KeyKind.{KeyKind}
 use Rattle.anti_rules.specs.declared.table_keys.KeyKind.TheVariants.{Text, Number, Texts, Things}
-use Rattle.anti_rules.specs.declared.table_keys.TableKey as code
-use Rattle.anti_rules.specs.declared.rule.Rule.{Rule}
-use Rattle.anti_rules.specs.declared.rule.Rule.TheVariants.{Typed, Counted, Ranged}
 use Rattle.anti_rules.specs.declared.place.Part.{Part}
 use Rattle.anti_rules.specs.declared.place.Part.TheVariants.{Top, Region, Store, Service, Handler, Sub, Request, Choice}
 
@@ -19,10 +16,6 @@ pub record TableKey : Type 0 where
   pub name : List ℕ
   pub kind : KeyKind
   pub is_needed : Bool
-
--- The key that a key of the code is.
-abbrev pub key_view : code.TableKey → TableKey
-key_view key = record { name = key.name.now; kind = key.kind; is_needed = key.is_needed }
 
 abbrev pub needed : List ℕ → KeyKind → TableKey
 needed name kind = record { name = name; kind = kind; is_needed = true }
@@ -104,13 +97,6 @@ has_count _ d = true
 abbrev pub has_range : KeyKind → Data → Bool
 has_range (Number least most) d = option_map_or (λ number. int_le least number && int_le number most) (as_integer d) true
 has_range _ d = true
-
--- The test that a rule makes of what stands at a key.
-abbrev pub fits : Rule → KeyKind → Data → Bool
-fits Typed kind d = has_type kind d
-fits Counted kind d = has_count kind d
-fits Ranged kind d = has_range kind d
-fits _ kind d = true
 
 -- Whether a name is that of a key.
 abbrev pub is_key : List TableKey → List ℕ → Bool

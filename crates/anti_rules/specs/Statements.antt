@@ -11,8 +11,6 @@ use Rattle.anti_lang.specs.declared.fault.LangCode.{LangCode}
 use Rattle.anti_lang.specs.declared.fault.LangCode.TheVariants.{Unknown, Block as BadBlock, Variable}
 use Rattle.anti_lang.specs.declared.fault.LangFault.{LangFault}
 use Rattle.anti_lang.specs.declared.fault.LangFault.TheVariants as faults
-use Rattle.anti_rules.specs.declared.rule.Rule.{Rule}
-use Rattle.anti_rules.specs.declared.rule.Rule.TheVariants as rules
 use Rattle.anti_kind.specs.declared.store_kind.Facts.{Facts}
 use Rattle.anti_rules.specs.StoreFacts.{facts_at}
 use Rattle.anti_rules.specs.Trees.{text_of, things_in, is_among, is_named, named, stores_in, services_in}
@@ -76,9 +74,3 @@ abbrev pub handler_exists : Members → Line → Bool
 handler_exists doc (Does (Call service handler value variable)) = has_handler doc service handler
 handler_exists doc (Does (Send service handler value)) = has_handler doc service handler
 handler_exists doc _ = true
-
--- The test that a rule makes of each line of a body.
-abbrev pub line_fits : Rule → Members → List ℕ → Line → Bool
-line_fits rules.StatementStores doc home line = store_fits doc home line
-line_fits rules.StatementHandlers doc home line = handler_exists doc line
-line_fits _ doc home line = true

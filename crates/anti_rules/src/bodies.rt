@@ -1,6 +1,7 @@
 ghost use Rattle.std.specs.Prelude.{◌≡◌, ◌≤◌, length, map, IfOk};
 ghost use Rattle.toml.specs.View.{view, table_view};
-ghost use Rattle.anti_lang.specs.Parsing.{parsed, texts_of};
+ghost use Rattle.anti_lang.specs.Parsing.{parsed};
+ghost use Rattle.anti_lang.specs.Parses.{texts_of};
 ghost use Rattle.anti_rules.specs.inner.Parses.{if_parsed, body_stated, bodies_stated, parsed_bodies, all_bodies, bodies_fit, services_fit};
 
 use crate::body::{body_in, texts_in};

@@ -4,9 +4,11 @@ ghost use Rattle.toml.specs.View.{view, table_view};
 ghost use Rattle.anti_lang.specs.Words.{words};
 ghost use Rattle.anti_lang.specs.Lines.{read_line};
 ghost use Rattle.anti_lang.specs.Stated.{stated};
-ghost use Rattle.anti_lang.specs.Parsing.{parsed, texts_of};
+ghost use Rattle.anti_lang.specs.Parsing.{parsed};
+ghost use Rattle.anti_lang.specs.Parses.{texts_of};
 ghost use Rattle.anti_rules.specs.Trees.{text_of};
-ghost use Rattle.anti_rules.specs.Statements.{next, body_in, fault_of, body_fault, first_line, bad_line, line_fits};
+ghost use Rattle.anti_rules.specs.Statements.{next, body_in, fault_of, body_fault, first_line, bad_line};
+ghost use Rattle.anti_rules.specs.inner.Parses.{line_fits};
 
 use crate::rule::Rule;
 use crate::statement::line_fits;

@@ -4,9 +4,11 @@ ghost use Rattle.toml.specs.View.{view, table_view};
 ghost use Rattle.anti_ids.specs.Names.{is_plain};
 ghost use Rattle.anti_rules.specs.StoreFacts.{facts_at};
 ghost use Rattle.anti_rules.specs.Trees.{text_of};
-ghost use Rattle.anti_rules.specs.Keys.{keys_of, fits, all_fit};
+ghost use Rattle.anti_rules.specs.Keys.{keys_of, all_fit};
+ghost use Rattle.anti_rules.specs.inner.Keys.{fits};
 ghost use Rattle.toml.specs.Data.{as_table};
-ghost use Rattle.anti_rules.specs.Statements.{line_with, body_fault, line_fits};
+ghost use Rattle.anti_rules.specs.Statements.{line_with, body_fault};
+ghost use Rattle.anti_rules.specs.inner.Parses.{line_fits};
 ghost use Rattle.anti_rules.specs.Rules.{wants, first_other, other_line, is_pulled, home_of, replicas_of, table_line, typed_line, shape_line, rule_line, rule_1, rule_2, rule_3, rule_4, rule_5, rule_6, rule_7, rule_8, rule_9, rule_10, rule_11, rule_12, rule_13, rule_14, rule_15, rule_16, rule_17, rule_18, rule_19, rule_20, rule_21, rule_22, rule_23, rule_24};
 
 use crate::body::{bad_line, body_fault, next};

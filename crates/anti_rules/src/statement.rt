@@ -3,8 +3,8 @@ ghost use Rattle.toml.specs.View.{view, table_view};
 ghost use Rattle.anti_lang.specs.Lines.{Does};
 ghost use Rattle.anti_lang.specs.Bodies.{step_of};
 ghost use Rattle.anti_lang.specs.Stated.{stated};
-ghost use Rattle.anti_rules.specs.Statements.{near_at, near, store_fits, has_handler, handler_exists, line_fits};
-ghost use Rattle.anti_rules.specs.inner.Parses.{body_fits};
+ghost use Rattle.anti_rules.specs.Statements.{near_at, near, store_fits, has_handler, handler_exists};
+ghost use Rattle.anti_rules.specs.inner.Parses.{line_fits, body_fits};
 
 use crate::rule::Rule;
 use crate::store_facts::facts_at;

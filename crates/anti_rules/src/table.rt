@@ -1,6 +1,7 @@
 ghost use Rattle.std.specs.Prelude.{◌≡◌, map};
 ghost use Rattle.toml.specs.View.{view, table_view};
-ghost use Rattle.anti_rules.specs.Keys.{key_view, is_key, are_listed, are_there, is_text, are_texts, elements_of, is_count, has_type, has_count, has_range, fits, all_fit};
+ghost use Rattle.anti_rules.specs.inner.Keys.{key_view, fits};
+ghost use Rattle.anti_rules.specs.Keys.{is_key, are_listed, are_there, is_text, are_texts, elements_of, is_count, has_type, has_count, has_range, all_fit};
 
 use crate::rule::Rule;
 use crate::table_keys::{KeyKind, TableKey};

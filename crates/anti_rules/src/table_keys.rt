@@ -1,5 +1,6 @@
 ghost use Rattle.std.specs.Prelude.{◌≡◌, map};
-ghost use Rattle.anti_rules.specs.Keys.{key_view, keys_of};
+ghost use Rattle.anti_rules.specs.inner.Keys.{key_view};
+ghost use Rattle.anti_rules.specs.Keys.{keys_of};
 
 use crate::place::Part;
 use anti_ids::{

@@ -6,7 +6,8 @@ use Rattle.anti_kind.specs.declared.entry.Entry.{Entry}
 use Rattle.anti_kind.specs.declared.port.Answer.{Answer}
 use Rattle.anti_kind.specs.declared.port.Answer.TheVariants.{Made, NotYet, Full, Spent, NoMemory}
 use Rattle.anti_kind.specs.Objects.{Start, IsLegal}
-use Rattle.anti_kind.specs.Ports.{View, entry_of, IsRefused, Answers, Answered}
+use Rattle.anti_kind.specs.Ports.{View, IsRefused, Answers, Answered}
+use Rattle.anti_kind.specs.Entries.{entry_of}
 use Rattle.anti_kind.proofs.Histories.{legal_front}
 use Rattle.anti_turn.specs.Lists.{IsFront}
 use Rattle.anti_turn.proofs.Fronts.{front_self, front_trans}

@@ -1,5 +1,5 @@
 ghost use Rattle.std.specs.Prelude.{◌≡◌, All, IfOk, IfErr};
-ghost use Rattle.anti_kind.specs.Objects.{IsShip};
+ghost use Rattle.anti_kind.specs.Shipments.{IsShip};
 ghost use Rattle.anti_kind.specs.Ports.{Answered};
 ghost use Rattle.anti_shared.specs.Passes.{GoesFrom, after_call, after_calls, start_of, view_of};
 ghost use Rattle.anti_shared.specs.inner.Offers.{answer_of};

@@ -1,5 +1,7 @@
 ghost use Rattle.std.specs.Prelude.{◌≡◌, [], false, IfOk, IfErr, OnErr};
-ghost use Rattle.anti_kind.specs.Objects.{IsLegal, IsShip, StandsFor, ready};
+ghost use Rattle.anti_kind.specs.Objects.{IsLegal, ready};
+ghost use Rattle.anti_kind.specs.Shipments.{IsShip};
+ghost use Rattle.anti_kind.specs.Machines.{StandsFor};
 ghost use Rattle.anti_kind.specs.Lones.{IsNumbered};
 ghost use Rattle.anti_kind.specs.Records.{Gives};
 ghost use Rattle.anti_shared.specs.inner.Keeping.{AreOf};

@@ -1,5 +1,5 @@
 ghost use Rattle.std.specs.Prelude.{◌≡◌, ℕ, is_some, true};
-ghost use Rattle.anti_kind.specs.Objects.{IsShip};
+ghost use Rattle.anti_kind.specs.Shipments.{IsShip};
 ghost use Rattle.anti_kind.specs.Ports.{Answered};
 ghost use Rattle.anti_shared.specs.Passes.{GoesFrom, port_start, port_view};
 

@@ -1,5 +1,5 @@
 ghost use Rattle.std.specs.Prelude.{◌≡◌, ◌-◌, ◌<◌, ◌↔◌, true, [], IfOk, IfErr, IsOk, IsTrue, OnErr, Some};
-ghost use Rattle.anti_kind.specs.Objects.{StandsFor};
+ghost use Rattle.anti_kind.specs.Machines.{StandsFor};
 ghost use Rattle.anti_kind.specs.Lones.{IsNumbered};
 ghost use Rattle.anti_shared.specs.Passes.{IsClosed, IsJoined, IsSplit, first_pass, with_count, with_room};
 

@@ -13,7 +13,8 @@ use Rattle.anti_kind.specs.declared.call.Reply.TheVariants.{Missing}
 use Rattle.anti_kind.specs.declared.port.Answer.{Answer}
 use Rattle.anti_kind.specs.declared.port.Answer.TheVariants as port
 use Rattle.anti_kind.specs.Objects.{Start}
-use Rattle.anti_kind.specs.Ports.{View, Answered, named}
+use Rattle.anti_kind.specs.Ports.{View, Answered}
+use Rattle.anti_kind.specs.Entries.{named}
 use Rattle.anti_shim.specs.declared.barrier_answer.BarrierAnswer.{BarrierAnswer}
 use Rattle.anti_shim.specs.declared.caller.Caller.{Caller}
 use Rattle.anti_shim.specs.declared.caller.Made.{Made}

@@ -6,7 +6,8 @@ use Rattle.std.proofs.lemmas.Bool.{or_cases}
 use Rattle.std.proofs.lemmas.List.{flat_map_more, get_or-take, get_or_default, length-take, take_more}
 use Rattle.std.proofs.lemmas.List.Elements.{All-contains, Contains-get_or}
 use Rattle.anti_ids.specs.declared.id.WriteId.{WriteId}
-use Rattle.anti_ids.specs.Ids.{IsAscending, has_id, ids_of, with_id, with_ids}
+use Rattle.anti_ids.specs.Invariants.{IsAscending}
+use Rattle.anti_ids.specs.Ids.{has_id, ids_of, with_id, with_ids}
 use Rattle.anti_ids.proofs.IdLemmas.{has_id-with_ids, among_ids_of, ascending_with_ids, length-with_ids-part}
 use Rattle.anti_kind.specs.declared.call.Call.TheVariants.{Look}
 use Rattle.anti_kind.specs.declared.call.Reply.{Reply}

@@ -16,7 +16,8 @@ use Rattle.anti_kind.specs.declared.port.Answer.{Answer}
 use Rattle.anti_kind.specs.declared.port.Answer.TheVariants as port
 use Rattle.anti_kind.specs.Store.{Store, is_replica, is_visible, is_written, missing, unwritten, can_look}
 use Rattle.anti_kind.specs.Objects.{Start, store, inbox, Follows}
-use Rattle.anti_kind.specs.Ports.{View, Answered, entry_of}
+use Rattle.anti_kind.specs.Ports.{View, Answered}
+use Rattle.anti_kind.specs.Entries.{entry_of}
 use Rattle.anti_shim.specs.declared.caller.Caller.{Caller}
 use Rattle.anti_shim.specs.declared.caller.Made.{Made}
 use Rattle.anti_shim.specs.declared.fault.ShimFault.{ShimFault}

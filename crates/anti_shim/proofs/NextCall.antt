@@ -11,7 +11,8 @@ use Rattle.anti_kind.specs.declared.port.Answer.{Answer}
 use Rattle.anti_kind.specs.declared.port.Answer.TheVariants as port
 use Rattle.anti_kind.specs.Inbox.{numbered}
 use Rattle.anti_kind.specs.Objects.{Start}
-use Rattle.anti_kind.specs.Ports.{View, Answered, IsMade, entry_of, named}
+use Rattle.anti_kind.specs.Ports.{View, Answered, IsMade}
+use Rattle.anti_kind.specs.Entries.{entry_of, named}
 use Rattle.anti_kind.proofs.Deliveries.{numbered_new}
 use Rattle.anti_shim.specs.declared.caller.Caller.{Caller}
 use Rattle.anti_shim.specs.declared.caller.Made.{Made}

@@ -3,7 +3,8 @@ use Rattle.std.proofs.Common.{◌≡◌, ℕ, ◌+◌, ◌-◌, ◌<◌, ◌++�
 use Rattle.std.proofs.lemmas.List.{drop_more}
 use Rattle.anti_ids.specs.declared.id.WriteId.{WriteId}
 use Rattle.anti_ids.specs.Ids.{ids_of}
-use Rattle.anti_ids.specs.List.{Listed, pushed}
+use Rattle.anti_ids.specs.List.{Listed}
+use Rattle.anti_ids.specs.ListCalls.{pushed}
 use Rattle.anti_shim.specs.declared.looks.PlannedLook.{PlannedLook}
 use Rattle.anti_shim.specs.Plans.{plan, with_look}
 

@@ -7,7 +7,8 @@ use Rattle.anti_kind.specs.declared.entry.Entry.{Entry}
 use Rattle.anti_kind.specs.Inbox.{numbered}
 use Rattle.anti_kind.specs.Store.{Store, is_replica}
 use Rattle.anti_kind.specs.Objects.{Start, store}
-use Rattle.anti_kind.specs.Ports.{View, named}
+use Rattle.anti_kind.specs.Ports.{View}
+use Rattle.anti_kind.specs.Entries.{named}
 use Rattle.anti_shim.specs.declared.caller.Caller.{Caller}
 use Rattle.anti_shim.specs.declared.looks.PlannedLook.{PlannedLook}
 use Rattle.anti_shim.specs.declared.sight.Sight.{Sight}

@@ -1,5 +1,6 @@
 ghost use Rattle.std.specs.Prelude.{◌≡◌, IfOk, OnOk};
-ghost use Rattle.anti_ids.specs.List.{plain, pushed};
+ghost use Rattle.anti_ids.specs.List.{plain};
+ghost use Rattle.anti_ids.specs.ListCalls.{pushed};
 ghost use Rattle.anti_shim.specs.Plans.{plan};
 
 use anti_ids::{Copies, Lineage, List, NoMemory};

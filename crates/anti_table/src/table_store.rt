@@ -1,5 +1,5 @@
 ghost use Rattle.std.specs.Prelude.{◌≡◌, [], IfOk};
-ghost use Rattle.anti_kind.specs.Objects.{IsStart};
+ghost use Rattle.anti_kind.specs.Starts.{IsStart};
 
 use anti_ids::NoMemory;
 use anti_kind::{Awaited, Call, Kind, Machine, Reply, StoreKind};

@@ -9,7 +9,8 @@ use Rattle.anti_kind.specs.declared.entry.Entry.{Entry}
 use Rattle.anti_kind.specs.declared.row.Row.{Row}
 use Rattle.anti_kind.specs.declared.store_kind.Sub.{Sub}
 use Rattle.anti_kind.specs.Stored.{wrote, rows, row_of, is_in}
-use Rattle.anti_kind.specs.Store.{Store, topic_store, absent, is_pull, is_pull_by, cursor, pulled_next, next, store_ready, store_due, cells}
+use Rattle.anti_kind.specs.Store.{Store, absent, is_pull, is_pull_by, cursor, pulled_next, next, store_ready, store_due, cells}
+use Rattle.anti_kind.specs.Starts.{topic_store}
 use Rattle.anti_kind.specs.Cells.{nth_version, last_pulled}
 use Rattle.anti_kind.specs.Objects.{Follows, weight}
 use Rattle.anti_kind.proofs.Cells.{cells_more, cells_other}

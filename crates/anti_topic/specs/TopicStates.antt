@@ -2,8 +2,10 @@
 use Rattle.std.specs.Prelude.{◌≡◌, ℕ, List, length}
 use Rattle.anti_kind.specs.declared.entry.Entry.{Entry}
 use Rattle.anti_kind.specs.declared.store_kind.Sub.{Sub}
-use Rattle.anti_kind.specs.Store.{Store, topic_store}
-use Rattle.anti_kind.specs.Objects.{Start, store, StandsFor}
+use Rattle.anti_kind.specs.Store.{Store}
+use Rattle.anti_kind.specs.Starts.{topic_store}
+use Rattle.anti_kind.specs.Objects.{Start, store}
+use Rattle.anti_kind.specs.Machines.{StandsFor}
 use Rattle.anti_replicas.specs.Channels.{Counts}
 use Rattle.anti_replicas.specs.Stores.{number_of, regions_of}
 use Rattle.anti_replicas.specs.inner.Standing.{Stands}

@@ -1,7 +1,8 @@
 ghost use Rattle.std.specs.Prelude.{◌≡◌, List, [], ◌∷◌, ◌++◌, OnOk, OnErr};
 ghost use Rattle.anti_kind.specs.declared.call.Call.TheVariants.{Write};
 ghost use Rattle.anti_kind.specs.declared.entry.Entry.{Entry};
-ghost use Rattle.anti_kind.specs.Objects.{Follows, MayMake};
+ghost use Rattle.anti_kind.specs.Objects.{Follows};
+ghost use Rattle.anti_kind.specs.Machines.{MayMake};
 
 use crate::topic_store::Topic;
 use anti_ids::{Lineage, Name, NoMemory, Value};

@@ -4,7 +4,8 @@ ghost use Rattle.anti_kind.specs.declared.call.Reply.TheVariants.{Pulled};
 ghost use Rattle.anti_kind.specs.declared.entry.Entry.{Entry};
 ghost use Rattle.anti_kind.specs.Stored.{row_of};
 ghost use Rattle.anti_kind.specs.Store.{next, was_pulled, is_there, or_absent};
-ghost use Rattle.anti_kind.specs.Objects.{Follows, MayMake};
+ghost use Rattle.anti_kind.specs.Objects.{Follows};
+ghost use Rattle.anti_kind.specs.Machines.{MayMake};
 
 use crate::pull_cursor::PullCursor;
 use crate::topic_store::Topic;

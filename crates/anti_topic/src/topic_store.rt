@@ -1,5 +1,5 @@
 ghost use Rattle.std.specs.Prelude.{◌≡◌, [], IfOk};
-ghost use Rattle.anti_kind.specs.Objects.{IsStart};
+ghost use Rattle.anti_kind.specs.Starts.{IsStart};
 
 use crate::pull_cursor::{PullCursor, new_cursors};
 use anti_ids::NoMemory;

@@ -17,7 +17,8 @@ use Rattle.anti_kind.specs.declared.entry.Entry.{Entry}
 use Rattle.anti_kind.specs.Objects.{last_stamp}
 use Rattle.anti_kind.proofs.Histories.{last_is}
 use Rattle.anti_app.specs.declared.app.App.{App}
-use Rattle.anti_trace.specs.Traces.{GoesOn, entries_on, entries_by, same_actor}
+use Rattle.anti_trace.specs.Histories.{GoesOn}
+use Rattle.anti_trace.specs.Traces.{entries_on, entries_by, same_actor}
 use Rattle.anti_trace.proofs.Puts.{same_actor_true, same_actor_itself}
 use Rattle.anti_proc.specs.inner.Running.{IsRunOf}
 use Rattle.anti_proc.specs.declared.process.Process.{Process}

@@ -22,7 +22,8 @@ use Rattle.anti_proc.specs.Births.{birth_at, births, is_birth}
 use Rattle.anti_proc.specs.Calls.{IsMadeOn}
 use Rattle.anti_proc.specs.Meaning.{process_after}
 use Rattle.anti_proc.specs.Tasks.{role_of}
-use Rattle.anti_proc.specs.Trees.{Tree, Asks, Ends, Want, Make, Over, ask_of, end_of, want_of}
+use Rattle.anti_proc.specs.Trees.{Tree, Asks, Ends, Want, Make, Over, ask_of, want_of}
+use Rattle.anti_proc.specs.Asked.{end_of}
 use Rattle.anti_proc.specs.inner.Standing.{birth_of, full_of, its_role, process_of}
 use Rattle.anti_proc.proofs.Knowing.{next_known}
 use Rattle.anti_trace.specs.Traces.{entries_by, entries_on, is_by, is_on}

@@ -27,7 +27,8 @@ use Rattle.anti_proc.specs.Trees.{Want, Make, Over, branch, want_of}
 use Rattle.anti_proc.specs.inner.Running.{IsAdvanceOf, IsRunOf}
 use Rattle.anti_proc.specs.inner.Standing as standing
 use Rattle.anti_proc.specs.inner.Standing.{birth_of, full_by, full_of, process_of}
-use Rattle.anti_trace.specs.Traces.{GoesOn, entries_by, entries_on, is_by}
+use Rattle.anti_trace.specs.Histories.{GoesOn}
+use Rattle.anti_trace.specs.Traces.{entries_by, entries_on, is_by}
 use Rattle.anti_trace.specs.Legal.{IsLegalTrace, IsLife, IsOfActor, bears}
 use Rattle.anti_trace.specs.declared.processes.AtObject.{AtObject}
 use Rattle.anti_trace.specs.inner.Living.{AreProcessesOf, Becomes, Changes, Gets, IsEnded, IsNewOf, IsNextBy, Lives, LivesOn, MakesRoom, TakesOver, WasFull, born_at, born_in, is_named}

@@ -43,7 +43,8 @@ use Rattle.anti_app.specs.declared.app.HandlerDef.{HandlerDef}
 use Rattle.anti_app.specs.declared.app.RequestDef.{RequestDef}
 use Rattle.anti_app.specs.declared.app.ServiceDef.{ServiceDef}
 use Rattle.anti_app.specs.declared.app.StoreDef.{StoreDef}
-use Rattle.anti_app.specs.Sound.{has_named, is_sound}
+use Rattle.anti_app.specs.Objects.{has_named, object_at}
+use Rattle.anti_app.specs.Sound.{is_sound}
 use Rattle.anti_app.specs.Subs.{subs_on}
 use Rattle.anti_object.specs.Starts.{start_at, start_of, store_start, inbox_start, message_of, message_to, requests_to, tries_of}
 use Rattle.anti_object.proofs.Starts.{start_sound}
@@ -51,7 +52,7 @@ use Rattle.anti_proc.specs.Known.{AreIdsOf, IsCallAt, IsMessageTo, IsOverApp, Is
 use Rattle.anti_proc.specs.Local.{id_at}
 use Rattle.anti_app.specs.declared.objects.ObjectAt.{ObjectAt}
 use Rattle.anti_app.specs.declared.objects.ObjectAt.TheVariants.{Store as AStore, Inbox as AnInbox}
-use Rattle.anti_app.specs.Objects.{IsStore, object_at, service_at}
+use Rattle.anti_app.specs.Numbers.{IsStore, service_at}
 use Rattle.anti_trace.proofs.Numbers.{inbox_is, store_is}
 
 -- ---- facts of each item of a list

@@ -4,7 +4,8 @@ use Rattle.std.specs.Prelude.{None, Some, nat_lt}
 use Rattle.std.proofs.lemmas.Bool.{ltb-false, ltb-true}
 use Rattle.anti_app.specs.declared.app.App.{App}
 use Rattle.anti_app.specs.declared.objects.ObjectAt.TheVariants.{Store, Inbox}
-use Rattle.anti_app.specs.Objects.{IsInbox, IsStore, inbox_at, is_store, object_at, service_at}
+use Rattle.anti_app.specs.Numbers.{IsInbox, IsStore, service_at}
+use Rattle.anti_app.specs.Objects.{inbox_at, is_store, object_at}
 
 module _ (app : App) (o : ℕ) where
   by_service : (n : ℕ) (within : Bool) → cond within (Some (Inbox (service_at app o))) None ≡ Some (Store n) → ⊥

@@ -14,7 +14,8 @@ use Rattle.anti_kind.specs.declared.message.MessageKind.TheVariants as kinds
 use Rattle.anti_kind.specs.declared.row.Row.{Row}
 use Rattle.anti_kind.specs.Fulls.{ShowsStay}
 use Rattle.anti_kind.specs.Inbox.{post_need, post_ready}
-use Rattle.anti_kind.specs.Objects.{Start, store, inbox, IsStart, Follows, IsLegal, fits, held, need, owed, ready}
+use Rattle.anti_kind.specs.Objects.{Start, store, inbox, Follows, IsLegal, fits, held, need, owed, ready}
+use Rattle.anti_kind.specs.Starts.{IsStart}
 use Rattle.anti_kind.specs.Store.{Store, can_look, is_replica, is_visible, is_written}
 use Rattle.anti_kind.specs.Stored.{rows}
 use Rattle.anti_kind.proofs.Bounds.{within_units}

@@ -22,7 +22,8 @@ use Rattle.anti_app.specs.declared.app.StoreDef.{StoreDef}
 use Rattle.anti_app.specs.declared.app.SubDef.{SubDef}
 use Rattle.anti_app.specs.declared.objects.ObjectAt.{ObjectAt}
 use Rattle.anti_app.specs.declared.objects.ObjectAt.TheVariants.{Store as AStore, Inbox as AnInbox}
-use Rattle.anti_app.specs.Objects.{IsInbox, IsStore, object_at}
+use Rattle.anti_app.specs.Numbers.{IsInbox, IsStore}
+use Rattle.anti_app.specs.Objects.{object_at}
 use Rattle.anti_app.specs.Sound.{is_sound}
 use Rattle.anti_app.specs.Subs.{sub_on, subs_on}
 use Rattle.anti_app.proofs.SubsOn.{sub_found}

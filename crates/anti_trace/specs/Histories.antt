@@ -1,8 +1,17 @@
--- The histories of objects, of which a trace is made.
-use Rattle.std.specs.Prelude.{◌<◌, ◌≡◌, List, All}
+-- The histories of objects, of which a trace is made and which go on as it does.
+use Rattle.std.specs.Prelude.{◌<◌, ◌≡◌, List, All, ℕ, ◌++◌}
 use Rattle.std.specs.List.{AllPairs, flat_map}
 use Rattle.anti_ids.specs.List.{Listed}
 use Rattle.anti_kind.specs.declared.entry.Entry.{Entry}
+use Rattle.anti_trace.specs.Traces.{entries_on}
+
+-- a trace or a history, by its entries
+abbrev pub Entries : Type 0
+Entries = List Entry
+
+-- the history of each object goes on from what it was
+abbrev pub GoesOn : List Entry → List Entry → Type 0
+GoesOn before after = (o : ℕ) → (rest : List Entry) × (entries_on o after ≡ entries_on o before ++ rest)
 
 -- a list of entries on one object, whose stamps ascend
 abbrev pub IsHistory : List Entry → Type 0

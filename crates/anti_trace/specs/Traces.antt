@@ -1,5 +1,5 @@
 -- A trace is a list of entries in the order of their stamps, and of their objects where two stamps are equal.
-use Rattle.std.specs.Prelude.{ℕ, ◌≡◌, ◌==◌, nat_lt, Bool, true, false, ◌&&◌, ◌||◌, cond, List, [], ◌∷◌, ◌++◌, IsTrue, All}
+use Rattle.std.specs.Prelude.{ℕ, ◌==◌, nat_lt, Bool, true, false, ◌&&◌, ◌||◌, cond, List, [], ◌∷◌, IsTrue, All}
 use Rattle.std.specs.List.{filter}
 use Rattle.anti_kind.specs.declared.actor.Actor.{Actor}
 use Rattle.anti_kind.specs.declared.actor.Actor.TheVariants.{Carrier, Process, Newborn}
@@ -40,11 +40,3 @@ IsTrace (e ∷ t) = All (λ d. IsTrue (comes_before e d)) t × IsTrace t
 abbrev pub put : Entry → List Entry → List Entry
 put e [] = e ∷ []
 put e (d ∷ t) = cond (comes_before d e) (d ∷ put e t) (e ∷ d ∷ t)
-
--- a trace or a history, by its entries
-abbrev pub Entries : Type 0
-Entries = List Entry
-
--- the history of each object goes on from what it was
-abbrev pub GoesOn : List Entry → List Entry → Type 0
-GoesOn before after = (o : ℕ) → (rest : List Entry) × (entries_on o after ≡ entries_on o before ++ rest)

@@ -3,7 +3,7 @@ ghost use Rattle.anti_app.specs.declared.app.App.{App};
 ghost use Rattle.anti_app.specs.Objects.{object_count};
 ghost use Rattle.anti_app.specs.Sound.{is_sound};
 ghost use Rattle.anti_trace.specs.Legal.{IsLegalTrace};
-ghost use Rattle.anti_trace.specs.Traces.{Entries};
+ghost use Rattle.anti_trace.specs.Histories.{Entries};
 ghost use Rattle.anti_trace.specs.inner.After.{AreAfter, AreBefore, AreBeforeSome, AreFirst};
 ghost use Rattle.anti_object.specs.Standing.{IsNew};
 
@@ -18,7 +18,8 @@ pub trait EndOfObjects {
     ghost use Rattle.std.specs.Prelude.{◌≡◌};
     ghost use Rattle.anti_app.specs.declared.app.App.{App};
     ghost use Rattle.anti_object.specs.Starts.{start_of};
-    ghost use Rattle.anti_trace.specs.Traces.{Entries, entries_on};
+    ghost use Rattle.anti_trace.specs.Histories.{Entries};
+    ghost use Rattle.anti_trace.specs.Traces.{entries_on};
     ghost use Rattle.anti_trace.specs.Ends.{is_full_after};
 
     ghost After: { Self → App → Entries → Type 0 };
@@ -88,7 +89,7 @@ impl ObjectsAfter {
 
 impl EndOfObjects for ObjectsAfter {
     ghost use Rattle.anti_app.specs.declared.app.App.{App};
-    ghost use Rattle.anti_trace.specs.Traces.{Entries};
+    ghost use Rattle.anti_trace.specs.Histories.{Entries};
     ghost use Rattle.anti_trace.specs.inner.After.{AreAfter};
 
     ghost After = { λ after app trace. AreAfter app trace after.objects.items };

@@ -1,7 +1,7 @@
 ghost use Rattle.std.specs.Prelude.{ℕ, ◌≡◌, ◌++◌, ◌∷◌, [], IsTrue, MatchResult, None, Some, option_map, position};
 ghost use Rattle.anti_app.specs.declared.app.App.{App};
 ghost use Rattle.anti_app.specs.Sound.{is_sound};
-ghost use Rattle.anti_trace.specs.Traces.{Entries};
+ghost use Rattle.anti_trace.specs.Histories.{Entries};
 ghost use Rattle.anti_trace.specs.Legal.{IsLegalTrace};
 ghost use Rattle.anti_trace.specs.inner.Living.{AreOfSome, AreProcessesOf, IsNextBy, IsNextOf, IsPlaceOf, Shows, born_at, is_named, lists};
 

@@ -10,7 +10,8 @@ use Rattle.anti_kind.specs.declared.entry.Entry.{Entry}
 use Rattle.anti_kind.specs.declared.row.Row.{Row}
 use Rattle.anti_app.specs.declared.app.App.{App}
 use Rattle.anti_proc.specs.Local.{id_at, row_ids, rows_ids}
-use Rattle.law_causal.specs.Words.{Letter, beside, brings, comes_with, hands_all, id_written, posts_in, reads, rows_in, shown, taken, taken_in, wrote}
+use Rattle.law_causal.specs.Words.{Letter, beside, brings, comes_with, hands_all, id_written, posts_in, reads, rows_in, shown, wrote}
+use Rattle.law_causal.specs.inner.Taken.{taken, taken_in}
 use Rattle.law_causal.proofs.Ids.{has_joined, in_either, joined_has}
 
 -- ---- the parts

@@ -4,9 +4,10 @@ use Rattle.anti_ids.specs.Ids.{has_id}
 use Rattle.anti_ids.specs.declared.id.WriteId.{WriteId}
 use Rattle.anti_kind.specs.declared.entry.Entry.{Entry}
 use Rattle.anti_app.specs.declared.app.App.{App}
-use Rattle.law_causal.specs.Words.{kept_with, reads, wrote}
+use Rattle.law_causal.specs.Pasts.{kept_with, CarriedIsCausal, CarriedWasWritten, InPast, WrittenBefore}
+use Rattle.law_causal.specs.Words.{reads, wrote}
 use Rattle.law_causal.specs.Causal.{Before}
-use Rattle.law_causal.specs.Carried.{Brought, CarriedIsCausal, CarriedWasWritten, InPast, IsLossless, WrittenBefore}
+use Rattle.law_causal.specs.Carried.{Brought, IsLossless}
 use Rattle.law_causal.proofs.Facts.{Facts}
 use Rattle.law_causal.proofs.Brings.{part_comes, of_write, reads_hand, writes_only}
 use Rattle.law_causal.proofs.Lists.{same_at}

@@ -22,8 +22,9 @@ use Rattle.anti_app.specs.Objects.{object_at}
 use Rattle.anti_app.specs.Subs.{sub_on}
 use Rattle.anti_proc.specs.declared.task.Role.{Role}
 use Rattle.anti_proc.specs.declared.task.Task.{Task}
-use Rattle.anti_proc.specs.Brought.{brought_by, came, came_first, made}
-use Rattle.anti_proc.specs.Foreign.{has_stores, stated_lineage}
+use Rattle.anti_proc.specs.Brought.{brought_by, came_first, made}
+use Rattle.anti_proc.specs.Came.{came}
+use Rattle.anti_proc.specs.Stated.{has_stores, stated_lineage}
 use Rattle.anti_proc.specs.Local.{row_ids}
 use Rattle.anti_proc.specs.Meaning.{reply_of, stated_in}
 use Rattle.anti_proc.specs.Tasks.{is_for, role_at, role_at_inbox, role_at_store, role_in, role_on, task_for, task_with}

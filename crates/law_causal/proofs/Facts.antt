@@ -7,7 +7,9 @@ use Rattle.anti_kind.specs.declared.entry.Entry.{Entry}
 use Rattle.anti_kind.specs.declared.row.Row.{Row}
 use Rattle.anti_app.specs.declared.app.App.{App}
 use Rattle.anti_proc.specs.Local.{id_at}
-use Rattle.law_causal.specs.Words.{wrote, rows_in, taken, kept_with, hands_all}
+use Rattle.law_causal.specs.Words.{wrote, rows_in, hands_all}
+use Rattle.law_causal.specs.inner.Taken.{taken}
+use Rattle.law_causal.specs.Pasts.{kept_with}
 use Rattle.law_causal.specs.Causal.{Delivers, is_process}
 use Rattle.law_causal.specs.Carried.{Brought, carried_at}
 

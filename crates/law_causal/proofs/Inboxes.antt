@@ -29,7 +29,8 @@ use Rattle.anti_object.specs.Starts.{start_of}
 use Rattle.anti_proc.specs.Meaning.{stated_in}
 use Rattle.anti_trace.specs.Legal.{IsLegalTrace}
 use Rattle.anti_trace.specs.Traces.{entries_on}
-use Rattle.law_causal.specs.Words.{Letter, asked, answered, hands_all, posts_in, taken, taken_in, takes_in}
+use Rattle.law_causal.specs.Words.{Letter, asked, answered, hands_all, posts_in, takes_in}
+use Rattle.law_causal.specs.inner.Taken.{taken, taken_in}
 use Rattle.law_causal.specs.Causal.{Delivers, is_process}
 use Rattle.law_causal.specs.Carried.{carried_at}
 use Rattle.law_causal.proofs.Facts.{LetterSource, Passes}

@@ -6,7 +6,8 @@ use Rattle.anti_ids.specs.declared.id.WriteId.{WriteId}
 use Rattle.anti_kind.specs.declared.entry.Entry.{Entry}
 use Rattle.anti_kind.specs.declared.row.Row.{Row}
 use Rattle.anti_app.specs.declared.app.App.{App}
-use Rattle.law_causal.specs.Words.{brings, kept_with, rows_in, wrote}
+use Rattle.law_causal.specs.Words.{brings, rows_in, wrote}
+use Rattle.law_causal.specs.Pasts.{kept_with}
 use Rattle.law_causal.specs.Causal.{Before, Delivers, Earlier, lineage, message, program, row, through}
 use Rattle.law_causal.specs.Carried.{Brought, IsLossless}
 use Rattle.law_causal.proofs.Facts.{Facts, RowSource}

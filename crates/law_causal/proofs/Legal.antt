@@ -5,7 +5,7 @@ use Rattle.anti_kind.specs.declared.entry.Entry.{Entry}
 use Rattle.anti_app.specs.declared.app.App.{App}
 use Rattle.anti_app.specs.Sound.{is_sound}
 use Rattle.anti_trace.specs.Legal.{IsLegalTrace}
-use Rattle.law_causal.specs.Carried.{KeptIsCarried}
+use Rattle.law_causal.specs.Pasts.{KeptIsCarried}
 use Rattle.law_causal.proofs.Facts.{Facts}
 use Rattle.law_causal.proofs.Inboxes as inboxes
 use Rattle.law_causal.proofs.Processes as processes

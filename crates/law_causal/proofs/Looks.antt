@@ -15,7 +15,8 @@ use Rattle.anti_shim.specs.Plans.{plan}
 use Rattle.anti_app.specs.declared.app.App.{App}
 use Rattle.anti_app.specs.Objects.{is_store_here, region_of, stores_here}
 use Rattle.anti_proc.specs.declared.task.Task.{Task}
-use Rattle.anti_proc.specs.Barriers.{AllLookInARow, is_asked, is_look, next_look}
+use Rattle.anti_proc.specs.Barriers.{AllLookInARow, is_asked, next_look}
+use Rattle.anti_proc.specs.Looks.{is_look}
 use Rattle.anti_proc.specs.Carrying.{HandsOn, IsMadeIn}
 use Rattle.anti_proc.specs.Meaning.{process_after, reply_of, tree_of}
 use Rattle.anti_proc.specs.Tasks.{task_of}

@@ -31,7 +31,7 @@ use Rattle.anti_proc.specs.declared.end.BodyEnd.TheVariants.{Fine}
 use Rattle.anti_proc.specs.Births.{birth_at}
 use Rattle.anti_proc.specs.Brought.{brought_by, came_first, made}
 use Rattle.anti_proc.specs.Carrying.{HandsOn, HandsOnWhatIsCarried, IsAtHome, IsMadeIn, OfEachCall}
-use Rattle.anti_proc.specs.Foreign.{read_well}
+use Rattle.anti_proc.specs.Stated.{read_well}
 use Rattle.anti_proc.specs.Known.{AllKnown, IsEntryOf, IsOverApp}
 use Rattle.anti_proc.specs.Meaning.{process_after, reply_of, stated_in, task_tree, tree_of}
 use Rattle.anti_proc.specs.Tasks.{role_at, task_for, task_of}

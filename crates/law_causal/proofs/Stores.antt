@@ -18,7 +18,8 @@ use Rattle.anti_kind.specs.declared.entry.Entry.{Entry}
 use Rattle.anti_kind.specs.declared.message.Message.{Message}
 use Rattle.anti_kind.specs.declared.row.Row.{Row}
 use Rattle.anti_kind.specs.Inbox.{inbox_ready}
-use Rattle.anti_kind.specs.Laws.{AreSourced, IsOfWrite, named_missing}
+use Rattle.anti_kind.specs.Laws.{AreSourced, IsOfWrite}
+use Rattle.anti_kind.specs.Replies.{named_missing}
 use Rattle.anti_kind.specs.Objects.{Start, store, inbox, Follows, IsLegal, ready}
 use Rattle.anti_kind.specs.Store.{Store, absent, can_look, is_replica, is_visible, is_written, key_for, store_due, store_ready}
 use Rattle.anti_kind.specs.Stored.{rows, stored, wrote as wrote_row}

@@ -16,7 +16,8 @@ use Rattle.anti_kind.specs.declared.message.MessageKind.TheVariants as kinds
 use Rattle.anti_kind.specs.declared.row.Row.{Row}
 use Rattle.anti_app.specs.declared.app.App.{App}
 use Rattle.anti_baggage.specs.Reading.{read_lineage}
-use Rattle.law_causal.specs.Words.{answered, asked, beside, brings, kept_with, posts_in, shown, wrote}
+use Rattle.law_causal.specs.Words.{answered, asked, beside, brings, posts_in, shown, wrote}
+use Rattle.law_causal.specs.Pasts.{kept_with}
 use Rattle.law_causal.specs.Causal.{Before, Earlier, lineage, message, program, row, through}
 use Rattle.law_causal.specs.Carried.{Brought}
 use Rattle.law_causal.specs.Settled.{found_in, is_visible_after, region_named}

@@ -19,7 +19,8 @@ use Rattle.anti_lang.proofs.PlainLemmas.{block_again}
 use Rattle.anti_app.specs.declared.app.App.{App}
 use Rattle.anti_app.specs.declared.app.ServiceDef.{ServiceDef}
 use Rattle.law_causal.specs.Causal.{Before, lineage, program, row, through}
-use Rattle.law_causal.specs.Carried.{InPast, carried_at}
+use Rattle.law_causal.specs.Pasts.{InPast}
+use Rattle.law_causal.specs.Carried.{carried_at}
 use Rattle.law_causal.specs.Reads.{reads_of}
 use Rattle.law_causal.specs.Settled.{AskedFor, left_at}
 use Rattle.law_causal.proofs.Ids.{id_for, not_none}

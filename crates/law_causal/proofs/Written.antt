@@ -16,7 +16,8 @@ use Rattle.anti_kind.specs.Store.{is_written}
 use Rattle.anti_kind.specs.Stored as stored
 use Rattle.anti_app.specs.declared.app.App.{App}
 use Rattle.anti_trace.specs.Traces.{entries_on, is_on}
-use Rattle.law_causal.specs.Words.{id_written, kept_with, wrote}
+use Rattle.law_causal.specs.Words.{id_written, wrote}
+use Rattle.law_causal.specs.Pasts.{kept_with}
 use Rattle.law_causal.specs.Carried.{Brought, carried_at}
 use Rattle.law_causal.proofs.Facts.{Facts}
 use Rattle.law_causal.proofs.Ids.{in_id_at}

@@ -1,5 +1,5 @@
 -- What came to the span of an entry before it, what its process carried into it, and what was lost.
-use Rattle.std.specs.Prelude.{ℕ, ◌≡◌, ◌↔◌, ◌⊎◌, true, List, [], Option, Some, slice_get, take}
+use Rattle.std.specs.Prelude.{ℕ, ◌≡◌, true, List, [], Option, Some, slice_get, take}
 use Rattle.std.specs.Option.{option_map_or}
 use Rattle.anti_ids.specs.Ids.{has_id}
 use Rattle.anti_ids.specs.declared.id.WriteId.{WriteId}
@@ -8,8 +8,8 @@ use Rattle.anti_app.specs.declared.app.App.{App}
 use Rattle.anti_proc.specs.Meaning.{process_after}
 use Rattle.anti_proc.specs.Trees.{Ask, ask_of}
 use Rattle.anti_trace.specs.Traces.{entries_by}
-use Rattle.law_causal.specs.Words.{wrote, brings, kept_with, reads, hands_all}
-use Rattle.law_causal.specs.Causal.{Earlier, Before}
+use Rattle.law_causal.specs.Words.{brings, hands_all}
+use Rattle.law_causal.specs.Causal.{Earlier}
 
 -- An id came to the span of the entry e, at place j, with an earlier entry of the span.
 pub record Brought (app : App) (trace : List Entry) (j : ℕ) (e : Entry) (w : WriteId) : Type 0 where
@@ -32,34 +32,3 @@ abbrev pub IsLossless : App → List Entry → Type 0
 IsLossless app trace =
     (j : ℕ) (e : Entry) → slice_get trace j ≡ Some e → hands_all e.call ≡ true
     → (w : WriteId) → Brought app trace j e w → has_id w (carried_at app trace j e) ≡ true
-
--- the past of a read: what is carried into it, and what comes with its rows
-abbrev pub InPast : App → List Entry → ℕ → Entry → WriteId → Type 0
-InPast app trace j e w = (has_id w (carried_at app trace j e) ≡ true) ⊎ (has_id w (brings app e) ≡ true)
-
--- What is known of a write at place i, and any entry at place j: where this is a read, the write is causally before it just where its id
--- is in the read's past; where this is a write, just where its id is in the lineage that is kept beside it.
-abbrev pub CarriedIsCausal : App → List Entry → Type 0
-CarriedIsCausal app trace =
-    (i : ℕ) (a : Entry) (w : WriteId) → slice_get trace i ≡ Some a → has_id w (wrote a) ≡ true
-    → (j : ℕ) (b : Entry) → slice_get trace j ≡ Some b
-    → (reads b.call ≡ true → Before trace i j ↔ InPast app trace j b w)
-    × ((v : WriteId) → has_id v (wrote b) ≡ true → Before trace i j ↔ (has_id w (kept_with b) ≡ true))
-
--- A write keeps beside it just what its process carries.
-abbrev pub KeptIsCarried : App → List Entry → Type 0
-KeptIsCarried app trace =
-    (j : ℕ) (e : Entry) (w : WriteId) → slice_get trace j ≡ Some e → has_id w (wrote e) ≡ true → kept_with e ≡ carried_at app trace j e
-
--- the entry at a place before j wrote the id, and is causally before what stands at j
-pub record WrittenBefore (trace : List Entry) (j : ℕ) (w : WriteId) : Type 0 where
-  pub place : ℕ
-  pub entry : Entry
-  pub there : slice_get trace place ≡ Some entry
-  pub wrote : has_id w (wrote entry) ≡ true
-  pub before : Before trace place j
-
--- Each id that a process carries was written before, and causally so. This holds where lineages lose writes too.
-abbrev pub CarriedWasWritten : App → List Entry → Type 0
-CarriedWasWritten app trace =
-    (j : ℕ) (e : Entry) → slice_get trace j ≡ Some e → (w : WriteId) → has_id w (carried_at app trace j e) ≡ true → WrittenBefore trace j w

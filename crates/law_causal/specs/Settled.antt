@@ -8,7 +8,7 @@ use Rattle.anti_kind.specs.declared.call.Call.TheVariants as calls
 use Rattle.anti_kind.specs.declared.call.Reply.{Reply}
 use Rattle.anti_kind.specs.declared.call.Reply.TheVariants as replies
 use Rattle.anti_kind.specs.declared.entry.Entry.{Entry}
-use Rattle.anti_kind.specs.Laws.{named_missing}
+use Rattle.anti_kind.specs.Replies.{named_missing}
 use Rattle.anti_kind.specs.Objects.{Start, store}
 use Rattle.anti_kind.specs.Store.{is_visible}
 use Rattle.anti_app.specs.declared.app.App.{App}

@@ -7,9 +7,8 @@ use Rattle.anti_kind.specs.declared.call.Reply.{Reply}
 use Rattle.anti_kind.specs.declared.call.Reply.TheVariants as replies
 use Rattle.anti_kind.specs.declared.entry.Entry.{Entry}
 use Rattle.anti_kind.specs.declared.row.Row.{Row}
-use Rattle.anti_kind.specs.Stored.{stored}
 use Rattle.anti_app.specs.declared.app.App.{App}
-use Rattle.anti_proc.specs.Brought.{came}
+use Rattle.anti_proc.specs.Came.{came}
 use Rattle.anti_proc.specs.Local.{id_at, row_ids}
 use Rattle.anti_proc.specs.Meaning.{stated_in}
 
@@ -20,10 +19,6 @@ id_written o call reply = []
 
 abbrev pub wrote : Entry → List WriteId
 wrote e = id_written e.object e.call e.reply
-
--- the lineage that is kept beside the write
-abbrev pub kept_with : Entry → List WriteId
-kept_with e = stored e.call e.reply
 
 -- the rows that a read showed, or a pull handed out
 abbrev pub rows_in : Call → Reply → List Row
@@ -46,15 +41,6 @@ shown e = ids_shown e.object (rows_in e.call e.reply)
 
 abbrev pub beside : Entry → List WriteId
 beside e = ids_beside (rows_in e.call e.reply)
-
--- the lineage of the message that is taken
-abbrev pub taken_in : App → Call → Reply → List WriteId
-taken_in app (calls.Take nth) (replies.Got number m) = stated_in app m
-taken_in app (calls.TakeReply to) (replies.Got number m) = stated_in app m
-taken_in app call reply = []
-
-abbrev pub taken : App → Entry → List WriteId
-taken app e = taken_in app e.call e.reply
 
 -- All ids that come with an answered call: of a write its own, of a row its own and its lineage, of a message its lineage.
 abbrev pub comes_with : App → ℕ → Call → Reply → List WriteId

@@ -4,7 +4,8 @@ ghost use Rattle.anti_kind.specs.declared.entry.Entry.{Entry};
 ghost use Rattle.anti_app.specs.declared.app.App.{App};
 ghost use Rattle.anti_app.specs.Sound.{is_sound};
 ghost use Rattle.anti_trace.specs.Legal.{IsLegalTrace};
-ghost use Rattle.law_causal.specs.Carried.{CarriedIsCausal, CarriedWasWritten, IsLossless, KeptIsCarried};
+ghost use Rattle.law_causal.specs.Pasts.{CarriedIsCausal, CarriedWasWritten, KeptIsCarried};
+ghost use Rattle.law_causal.specs.Carried.{IsLossless};
 ghost use Rattle.law_causal.specs.Settled.{BarriersFindAll, DryRunsName};
 
 /// In a legal trace of a sound application that loses no lineage, what is carried into a read, and what comes with its rows, is just what is

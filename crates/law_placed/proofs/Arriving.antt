@@ -19,7 +19,8 @@ use Rattle.anti_app.specs.declared.app.App.{App}
 use Rattle.anti_app.specs.declared.app.SubDef.{SubDef}
 use Rattle.anti_app.specs.declared.objects.ObjectAt.{ObjectAt}
 use Rattle.anti_app.specs.declared.objects.ObjectAt.TheVariants.{Store, Inbox}
-use Rattle.anti_app.specs.Objects.{handler_number, is_queue_at, object_at, service_at}
+use Rattle.anti_app.specs.Objects.{handler_number, is_queue_at, object_at}
+use Rattle.anti_app.specs.Numbers.{service_at}
 use Rattle.anti_app.specs.Sound.{is_sound}
 use Rattle.anti_app.specs.Subs.{number_on, sub_on}
 use Rattle.anti_place.specs.Placements.{is_called, is_named, sends_it, some_line}
@@ -27,7 +28,7 @@ use Rattle.anti_proc.specs.declared.task.Duty.TheVariants as duties
 use Rattle.anti_proc.specs.declared.task.Role.{Role}
 use Rattle.anti_proc.specs.declared.task.Task.{Task}
 use Rattle.anti_proc.specs.Brought.{came_first}
-use Rattle.anti_proc.specs.Foreign.{has_stores, stated_lineage}
+use Rattle.anti_proc.specs.Stated.{has_stores, stated_lineage}
 use Rattle.anti_proc.specs.Local.{row_ids}
 use Rattle.anti_proc.specs.Meaning.{reply_of, stated_in, tree_of}
 use Rattle.anti_proc.specs.Tasks.{duty_to, is_for, role_at, role_at_inbox, role_at_store, role_in, role_of, role_on, task_for, task_of, task_with}

@@ -23,7 +23,8 @@ use Rattle.anti_shim.specs.declared.looks.PlannedLook.{PlannedLook}
 use Rattle.anti_app.specs.declared.app.App.{App}
 use Rattle.anti_app.specs.declared.app.HandlerDef.{HandlerDef}
 use Rattle.anti_app.specs.declared.app.ServiceDef.{ServiceDef}
-use Rattle.anti_app.specs.Objects.{body_among, body_in, body_of, handler_number, inbox_of, service_among, service_at, store_number}
+use Rattle.anti_app.specs.Objects.{body_among, body_in, body_of, handler_number, inbox_of, service_among, store_number}
+use Rattle.anti_app.specs.Numbers.{service_at}
 use Rattle.anti_place.specs.Placements.{calls_it, is_called, is_handler, sends_it, some_line}
 use Rattle.anti_proc.specs.declared.end.BodyEnd.{BodyEnd}
 use Rattle.anti_proc.specs.declared.end.BodyEnd.TheVariants.{BadKey, Depth, Fine, LineageFull}

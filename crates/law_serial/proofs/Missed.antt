@@ -12,7 +12,8 @@ use Rattle.anti_kind.specs.declared.call.Reply.{Reply}
 use Rattle.anti_kind.specs.declared.call.Reply.TheVariants as replies
 use Rattle.anti_kind.specs.declared.entry.Entry.{Entry}
 use Rattle.anti_kind.specs.declared.row.Row.{Row}
-use Rattle.anti_kind.specs.Laws.{IsTogether, OwnIdsWritten, named_missing, shown, speaks_of}
+use Rattle.anti_kind.specs.Laws.{IsTogether, OwnIdsWritten}
+use Rattle.anti_kind.specs.Replies.{named_missing, shown, speaks_of}
 use Rattle.anti_kind.specs.Objects.{Follows, due, store}
 use Rattle.anti_kind.specs.Store.{Store, is_visible, is_written, key_for, store_due}
 use Rattle.anti_kind.specs.Stored.{rows, stored}
@@ -22,9 +23,11 @@ use Rattle.anti_app.specs.Objects.{is_store_here}
 use Rattle.anti_object.specs.Starts.{start_of}
 use Rattle.anti_trace.specs.Legal.{IsLegalTrace}
 use Rattle.anti_trace.specs.Traces.{entries_on}
-use Rattle.law_causal.specs.Words.{id_written, kept_with, reads, rows_in, taken, taken_in}
+use Rattle.law_causal.specs.Words.{id_written, reads, rows_in}
+use Rattle.law_causal.specs.Pasts.{kept_with, InPast}
+use Rattle.law_causal.specs.inner.Taken.{taken, taken_in}
 use Rattle.law_causal.specs.Causal.{Earlier}
-use Rattle.law_causal.specs.Carried.{InPast, IsLossless, carried_at}
+use Rattle.law_causal.specs.Carried.{IsLossless, carried_at}
 use Rattle.law_causal.specs.Settled.{IsSettled, Looked, found_in, is_visible_after, region_named}
 use Rattle.law_causal.proofs.Brings.{Part, of_lineage, of_message, of_row, of_write, part_of, writes_only}
 use Rattle.law_causal.proofs.Causes.{carried_is_causal}
@@ -35,7 +38,7 @@ use Rattle.law_causal.proofs.Objects.{follows_at}
 use Rattle.law_causal.proofs.Places.{seen_at}
 use Rattle.law_causal.proofs.Stores.{look_names, look_own, look_store, visible_after, visible_stays}
 use Rattle.law_causal.proofs.Written.{kept_is_written}
-use Rattle.law_serial.specs.Serial.{NothingMissed}
+use Rattle.law_serial.specs.Chains.{NothingMissed}
 use Rattle.law_serial.proofs.Readings.{IsReadOf, is_visible_there, read_of, rows_shown, shows_row_version, shows_version, version_there}
 
 -- ---- calls and replies

@@ -13,7 +13,8 @@ use Rattle.anti_app.specs.declared.app.App.{App}
 use Rattle.law_causal.specs.Words.{brings, reads, wrote}
 use Rattle.law_causal.specs.Reads.{is_at}
 use Rattle.law_causal.specs.Causal.{Before}
-use Rattle.law_causal.specs.Carried.{InPast, IsLossless, carried_at}
+use Rattle.law_causal.specs.Pasts.{InPast}
+use Rattle.law_causal.specs.Carried.{IsLossless, carried_at}
 use Rattle.law_causal.proofs.Causes.{carried_is_causal}
 use Rattle.law_causal.proofs.Facts.{Facts}
 use Rattle.law_causal.proofs.Ids.{in_either}

@@ -13,7 +13,8 @@ use Rattle.anti_kind.specs.declared.call.Reply.{Reply}
 use Rattle.anti_kind.specs.declared.call.Reply.TheVariants as replies
 use Rattle.anti_kind.specs.declared.entry.Entry.{Entry}
 use Rattle.anti_kind.specs.declared.row.Row.{Row}
-use Rattle.anti_kind.specs.Laws.{IsReading, IsRight, KeepsLaws, NamesOwn, ShowsWritten, is_read_at, shown, speaks_of}
+use Rattle.anti_kind.specs.Laws.{IsReading, IsRight, KeepsLaws, NamesOwn, ShowsWritten, is_read_at}
+use Rattle.anti_kind.specs.Replies.{shown, speaks_of}
 use Rattle.anti_kind.specs.Objects.{Start, Follows, IsLegal, due, inbox, ready, store}
 use Rattle.anti_kind.specs.Store.{Store, is_visible, shown_row}
 use Rattle.anti_kind.proofs.Finding.{find_found, none_passes}

@@ -9,7 +9,7 @@ use Rattle.anti_ids.specs.Ids.{has_id}
 use Rattle.anti_ids.specs.declared.id.WriteId.{WriteId}
 use Rattle.anti_kind.specs.declared.entry.Entry.{Entry}
 use Rattle.anti_kind.specs.declared.row.Row.{Row}
-use Rattle.anti_kind.specs.Laws.{shown, speaks_of}
+use Rattle.anti_kind.specs.Replies.{shown, speaks_of}
 use Rattle.anti_kind.proofs.Finding.{find_found}
 use Rattle.anti_kind.proofs.Showing.{bytes_same}
 use Rattle.anti_app.specs.declared.app.App.{App}
@@ -25,7 +25,8 @@ use Rattle.law_causal.proofs.Ids.{has_id_at}
 use Rattle.law_causal.proofs.Known.{forward}
 use Rattle.law_causal.proofs.Lists.{same_at}
 use Rattle.law_serial.specs.Order.{is_in_past, order_of, writes_at}
-use Rattle.law_serial.specs.Serial.{IsChain, IsGreatest, IsSerial, IsSettledRead, IsWrittenAmong, id_of, version_shown}
+use Rattle.law_serial.specs.Chains.{IsChain}
+use Rattle.law_serial.specs.Serial.{IsGreatest, IsSerial, IsSettledRead, IsWrittenAmong, id_of, version_shown}
 use Rattle.law_serial.proofs.Chains.{chain_pairs}
 use Rattle.law_serial.proofs.Listing.{is_listed, listed_is, listed_once}
 use Rattle.law_serial.proofs.Missed.{nothing_missed}

@@ -17,7 +17,8 @@ use Rattle.law_causal.specs.Reads.{is_at, places}
 use Rattle.law_causal.proofs.WorkedConcurrent.{app, read, read_x, reader_body, trace, write_u as entry_u, write_v as entry_v, write_x as entry_x}
 use Rattle.law_causal.proofs.WorkedForms.{carried_with}
 use Rattle.law_serial.specs.Order.{listing, order_of, writes_at}
-use Rattle.law_serial.specs.Serial.{IsChain, IsGreatest, IsSerial, IsWrittenAmong, id_of, version_shown}
+use Rattle.law_serial.specs.Chains.{IsChain}
+use Rattle.law_serial.specs.Serial.{IsGreatest, IsSerial, IsWrittenAmong, id_of, version_shown}
 
 -- the writes: of `x`, of `k` twice, and of the cell
 abbrev write_x : ℕ

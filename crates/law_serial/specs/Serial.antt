@@ -1,28 +1,21 @@
 -- What an order of all writes and some reads is worth: it respects the causal order, and explains what the reads show.
-use Rattle.std.specs.Prelude.{ℕ, ◌≡◌, ◌≢◌, ◌≤◌, ◌↔◌, ◌⊎◌, true, List, [], ◌∷◌, ◌++◌, Some, slice_get, bytes_eq, Contains, AllPairs}
+use Rattle.std.specs.Prelude.{ℕ, ◌≡◌, ◌≢◌, ◌≤◌, ◌↔◌, ◌⊎◌, true, List, ◌∷◌, ◌++◌, Some, slice_get, bytes_eq, Contains, AllPairs}
 use Rattle.std.specs.List.{find}
 use Rattle.std.specs.Option.{option_map_or}
 use Rattle.anti_ids.specs.Ids.{has_id}
 use Rattle.anti_ids.specs.declared.id.WriteId.{WriteId}
 use Rattle.anti_kind.specs.declared.call.Reply.{Reply}
 use Rattle.anti_kind.specs.declared.entry.Entry.{Entry}
-use Rattle.anti_kind.specs.Laws.{shown, speaks_of}
+use Rattle.anti_kind.specs.Replies.{shown, speaks_of}
 use Rattle.anti_app.specs.declared.app.App.{App}
 use Rattle.law_causal.specs.Words.{reads, wrote}
 use Rattle.law_causal.specs.Causal.{Before}
 use Rattle.law_causal.specs.Settled.{IsSettled}
-use Rattle.law_serial.specs.Order.{order_of, writes_at}
+use Rattle.law_serial.specs.Order.{writes_at}
 
 -- the version that a read shows of a key; 0, where it shows none
 abbrev pub version_shown : Reply → List ℕ → ℕ
 version_shown reply key = option_map_or (λ r. r.version) (find (λ r. bytes_eq r.key key) (shown reply)) 0
-
--- A settled read shows, of each key that it speaks of, no version below that of a write which is causally before it.
-abbrev pub NothingMissed : App → List Entry → Type 0
-NothingMissed app trace =
-    (j : ℕ) (b : Entry) → slice_get trace j ≡ Some b → reads b.call ≡ true → IsSettled app trace j b
-    → (i : ℕ) (a : Entry) (w : WriteId) → slice_get trace i ≡ Some a → has_id w (wrote a) ≡ true → Before trace i j
-    → w.store ≡ b.object → speaks_of w.key b.call ≡ true → w.version ≤ version_shown b.reply w.key
 
 -- the place is that of a settled read
 pub record IsSettledRead (app : App) (trace : List Entry) (r : ℕ) : Type 0 where
@@ -30,12 +23,6 @@ pub record IsSettledRead (app : App) (trace : List Entry) (r : ℕ) : Type 0 whe
   pub there : slice_get trace r ≡ Some entry
   pub read : reads entry.call ≡ true
   pub settled : IsSettled app trace r entry
-
--- each of these places is causally before the next
-abbrev pub IsChain : List Entry → List ℕ → Type 0
-IsChain trace [] = Unit {0}
-IsChain trace (x ∷ []) = Unit {0}
-IsChain trace (x ∷ y ∷ ys) = Before trace x y × IsChain trace (y ∷ ys)
 
 -- some of these places have the write of this id
 pub record IsWrittenAmong (trace : List Entry) (among : List ℕ) (w : WriteId) : Type 0 where
@@ -63,9 +50,3 @@ pub record IsSerial (trace : List Entry) (reads order : List ℕ) : Type 0 where
   pub explains : (before : List ℕ) (r : ℕ) (after : List ℕ) → order ≡ before ++ r ∷ after → Contains reads r
       → (e : Entry) → slice_get trace r ≡ Some e → (key : List ℕ) → speaks_of key e.call ≡ true
       → IsGreatest trace before e.object key (version_shown e.reply key)
-
--- The order of settled reads, of which each is causally before the next, is such an order.
-abbrev pub OrdersAreSerial : App → List Entry → Type 0
-OrdersAreSerial app trace =
-    (reads : List ℕ) → ((r : ℕ) → Contains reads r → IsSettledRead app trace r) → IsChain trace reads
-    → IsSerial trace reads (order_of app trace reads)

@@ -7,7 +7,7 @@ ghost use Rattle.anti_app.specs.Sound.{is_sound};
 ghost use Rattle.anti_trace.specs.Legal.{IsLegalTrace};
 ghost use Rattle.law_causal.specs.Carried.{IsLossless};
 ghost use Rattle.law_causal.specs.Reads.{reads_of};
-ghost use Rattle.law_serial.specs.Serial.{IsChain, NothingMissed, OrdersAreSerial};
+ghost use Rattle.law_serial.specs.Chains.{IsChain, NothingMissed, OrdersAreSerial};
 
 /// In a legal trace of a sound application that loses no lineage a settled read shows, of each key that it speaks of, no version below that
 /// of a write which is causally before it.

@@ -1,6 +1,7 @@
 ghost use Rattle.std.specs.Prelude.{◌≡◌, ℕ, ◌+◌, ◌<◌, ◌≤◌, ◌^◌, true, false, is_some, [], Some, IfErr, IfOk};
 ghost use Rattle.anti_kind.specs.Lones.{lone_start, lone_view};
-ghost use Rattle.anti_kind.specs.Objects.{IsStart, ready};
+ghost use Rattle.anti_kind.specs.Starts.{IsStart};
+ghost use Rattle.anti_kind.specs.Objects.{ready};
 ghost use Rattle.anti_kv.specs.KvStates.{its_start, kv_start};
 ghost use Rattle.sample_callers.specs.Shipments.{AreBrought, IsLeft, IsRefused};
 

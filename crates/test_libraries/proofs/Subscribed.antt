@@ -7,7 +7,7 @@ use Rattle.anti_ids.specs.declared.limits.TheConstants.{MOST_REGIONS}
 use Rattle.anti_kind.specs.declared.store_kind.Sub.{Sub}
 use Rattle.anti_kind.specs.declared.store_kind.StoreKind.{StoreKind}
 use Rattle.anti_kind.specs.declared.store_kind.StoreKind.TheVariants.{Queue, Topic}
-use Rattle.anti_kind.specs.Objects.{IsStart, IsStore, HasTries}
+use Rattle.anti_kind.specs.Starts.{IsStart, IsStore, HasTries}
 use Rattle.anti_kind.specs.Store.{store_of}
 use Rattle.anti_queue.specs.QueueStarts.{queue_start}
 use Rattle.anti_topic.specs.TopicStates.{topic_start}

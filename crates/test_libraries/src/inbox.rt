@@ -1,5 +1,6 @@
 ghost use Rattle.std.specs.Prelude.{◌≡◌, IfSome};
-ghost use Rattle.anti_kind.specs.Objects.{IsStart, inbox};
+ghost use Rattle.anti_kind.specs.Starts.{IsStart};
+ghost use Rattle.anti_kind.specs.Objects.{inbox};
 
 use crate::made::message;
 use crate::steps::{Asked, Step, Told, assert_steps};

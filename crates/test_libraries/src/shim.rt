@@ -1,6 +1,7 @@
 ghost use Rattle.std.specs.Prelude.{◌≡◌, ℕ, [], ◌∷◌, true};
 ghost use Rattle.anti_kind.specs.Lones.{lone_start};
-ghost use Rattle.anti_kind.specs.Objects.{StandsFor, store};
+ghost use Rattle.anti_kind.specs.Machines.{StandsFor};
+ghost use Rattle.anti_kind.specs.Objects.{store};
 ghost use Rattle.anti_kind.specs.Store.{Store, is_replica};
 ghost use Rattle.anti_shim.specs.Sights.{IsHere};
 

@@ -1,7 +1,7 @@
 // What an object is asked, one call after another, and what it answers.
 
 ghost use Rattle.std.specs.Prelude.{[], IfOk};
-ghost use Rattle.anti_kind.specs.Objects.{StandsFor};
+ghost use Rattle.anti_kind.specs.Machines.{StandsFor};
 
 use crate::made::{lineage, message};
 use anti_ids::{Name, NoMemory, Value};

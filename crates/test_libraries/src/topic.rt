@@ -1,6 +1,6 @@
 ghost use Rattle.std.specs.Prelude.{[], IfOk};
 ghost use Rattle.anti_topic.specs.TopicStates.{its_start, TopicStands};
-ghost use Rattle.anti_kind.specs.Objects.{StandsFor};
+ghost use Rattle.anti_kind.specs.Machines.{StandsFor};
 
 use crate::made::sub;
 use crate::steps::{Asked, Step, Told, assert_steps};

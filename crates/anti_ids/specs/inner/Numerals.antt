@@ -2,7 +2,10 @@
 use Rattle.std.specs.Prelude.{ℕ, List, [], ◌∷◌, Bool, false, not, ◌&&◌, ◌==◌}
 use Rattle.std.specs.Char.{is_ascii_digit}
 use Rattle.std.specs.List.{list_all}
-use Rattle.anti_ids.specs.Ascii.{zero_digit}
+
+-- `0`
+abbrev pub zero_digit : ℕ
+zero_digit = 48
 
 -- digits, the first of which is no zero unless it stands alone
 abbrev pub is_numeral : List ℕ → Bool

@@ -3,7 +3,8 @@ use Rattle.std.specs.Prelude.{◌≡◌, ℕ, ◌≤◌, List, length, map, take
 use Rattle.anti_kind.specs.declared.entry.Entry.{Entry}
 use Rattle.anti_kind.specs.declared.message.Message.{Message}
 use Rattle.anti_kind.specs.Inbox.{messages, numbers, free}
-use Rattle.anti_kind.specs.Objects.{Start, inbox, held, owed, StandsFor}
+use Rattle.anti_kind.specs.Objects.{Start, inbox, held, owed}
+use Rattle.anti_kind.specs.Machines.{StandsFor}
 use Rattle.anti_inbox.specs.declared.inbox.Fate.{Fate}
 use Rattle.anti_inbox.specs.declared.inbox.Inbox.{Inbox}
 use Rattle.anti_inbox.specs.inner.Fates.{fate_of}

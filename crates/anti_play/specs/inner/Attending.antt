@@ -6,7 +6,8 @@ use Rattle.anti_kind.specs.declared.asking.Asking.{Asking}
 use Rattle.anti_kind.specs.declared.awaited.Awaited.{Awaited}
 use Rattle.anti_kind.specs.declared.awaited.Awaited.TheVariants.{Writing}
 use Rattle.anti_kind.specs.declared.entry.Entry.{Entry}
-use Rattle.anti_kind.specs.Objects.{Start, fits, next_ship}
+use Rattle.anti_kind.specs.Objects.{Start, fits}
+use Rattle.anti_kind.specs.Shipments.{next_ship}
 use Rattle.anti_kind.specs.Waiting.{waits}
 use Rattle.anti_app.specs.declared.app.App.{App}
 use Rattle.anti_app.specs.declared.app.Choice.TheVariants as choices

@@ -3,14 +3,14 @@ use Rattle.std.specs.Prelude.{ℕ, List, [], Option, option_and_then}
 use Rattle.std.specs.Option.{option_map_or}
 use Rattle.anti_kind.specs.declared.call.Call.TheVariants as calls
 use Rattle.anti_kind.specs.declared.entry.Entry.{Entry}
-use Rattle.anti_kind.specs.Objects.{next_ship}
+use Rattle.anti_kind.specs.Shipments.{next_ship}
 use Rattle.anti_app.specs.declared.app.App.{App}
 use Rattle.anti_app.specs.declared.app.Choice.{Choice}
 use Rattle.anti_object.specs.Starts.{start_of}
 use Rattle.anti_trace.specs.Traces.{entries_on}
 use Rattle.anti_play.specs.declared.world.World.{World}
 use Rattle.anti_play.specs.Schedule.{carrying, made_at, ships_at}
-use Rattle.anti_trace.specs.Traces.{GoesOn}
+use Rattle.anti_trace.specs.Histories.{GoesOn}
 use Rattle.anti_play.specs.inner.Standing.{WorldStands}
 
 -- the world stands for a trace that goes on from this one

@@ -1,7 +1,8 @@
 -- How far a process is in its body: the statements that are left.
 use Rattle.std.specs.Prelude.{◌≡◌, ℕ, zero, suc, ◌+◌, ◌-◌, ◌*◌, ◌<◌, Bool, true, false, List, [], ◌∷◌, ◌++◌, Option, Some, None, drop, slice_get}
 use Rattle.std.specs.Borrow.{Bor}
-use Rattle.anti_lang.specs.Bodies.{list_of, step_of}
+use Rattle.anti_lang.specs.Steps.{list_of}
+use Rattle.anti_lang.specs.Bodies.{step_of}
 use Rattle.anti_lang.specs.Program.{Step, Block, End, Then, Repeat, IfAbsent}
 use Rattle.anti_lang.specs.declared.statement.Statement.{Statement}
 use Rattle.anti_proc.specs.declared.cursor.Frame.{Frame}

@@ -1,7 +1,8 @@
 -- What a process of the program stands for.
 use Rattle.std.specs.Prelude.{ℕ, ◌*◌, ◌<◌, Option, Some, None, List, [], reverse}
 use Rattle.anti_kind.specs.declared.actor.Birth.{Birth}
-use Rattle.anti_lang.specs.Bodies.{list_of, block_from}
+use Rattle.anti_lang.specs.Steps.{list_of}
+use Rattle.anti_lang.specs.Bodies.{block_from}
 use Rattle.anti_lang.specs.Program.{Block, Step}
 use Rattle.anti_lang.specs.Spans.{spans_of}
 use Rattle.anti_shim.specs.declared.looks.PlannedLook.{PlannedLook}

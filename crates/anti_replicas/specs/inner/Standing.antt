@@ -4,7 +4,8 @@ use Rattle.std.specs.List.{prefix_len}
 use Rattle.anti_kind.specs.declared.entry.Entry.{Entry}
 use Rattle.anti_ids.specs.declared.limits.TheConstants.{MOST_REGIONS, MOST_UNITS}
 use Rattle.anti_kind.specs.declared.row.Row.{Row}
-use Rattle.anti_kind.specs.Stored.{rows, is_shipped, parts_of, shows_of, upto_of}
+use Rattle.anti_kind.specs.Stored.{rows, is_shipped, parts_of, shows_of}
+use Rattle.anti_kind.specs.Shipments.{upto_of}
 use Rattle.anti_kind.specs.Store.{Store, owed_shipments}
 use Rattle.anti_kind.specs.Objects.{held}
 use Rattle.anti_replicas.specs.declared.replicas.Replicas.{Replicas}

@@ -12,10 +12,18 @@ use Rattle.anti_lang.specs.Parsing.{parsed}
 use Rattle.anti_lang.specs.declared.statement.Statement.{Statement}
 use Rattle.anti_lang.specs.declared.fault.LangFault.{LangFault}
 use Rattle.anti_rules.specs.Trees.{text_of, text_at, things_in, services_in}
-use Rattle.anti_rules.specs.Statements.{body_in, line_fits}
+use Rattle.anti_rules.specs.Statements.{body_in, store_fits, handler_exists}
 use Rattle.anti_rules.specs.declared.breach.Breach.{Breach}
 use Rattle.anti_rules.specs.declared.rule.Rule.{Rule}
 use Rattle.anti_rules.specs.declared.rule.Rule.TheVariants.{Statements, Blocks, Variables, StatementStores, StatementHandlers}
+use Rattle.anti_lang.specs.Lines.{Line}
+use Rattle.anti_rules.specs.declared.rule.Rule.TheVariants as rules
+
+-- The test that a rule makes of each line of a body.
+abbrev pub line_fits : Rule → Members → List ℕ → Line → Bool
+line_fits rules.StatementStores doc home line = store_fits doc home line
+line_fits rules.StatementHandlers doc home line = handler_exists doc line
+line_fits _ doc home line = true
 
 -- ---- the bodies
 -- parsed lines as a body, where they state one

@@ -15,7 +15,8 @@ use Rattle.anti_proc.specs.declared.run.Advance.{Advance}
 use Rattle.anti_proc.specs.Births.{birth_at, births}
 use Rattle.anti_proc.specs.Meaning.{process_after, tree_of}
 use Rattle.anti_proc.specs.Tasks.{role_of}
-use Rattle.anti_proc.specs.Trees.{Want, Make, Over, IsAskedAt, ask_of, want_of}
+use Rattle.anti_proc.specs.Trees.{Want, Make, Over, ask_of, want_of}
+use Rattle.anti_proc.specs.Asked.{IsAskedAt}
 use Rattle.anti_proc.specs.inner.Running.{IsAdvanceOf, IsRunOf}
 use Rattle.anti_proc.specs.inner.Standing as standing
 use Rattle.anti_trace.specs.Traces.{entries_on, entries_by, same_actor}

@@ -1,5 +1,5 @@
 use Rattle.std.proofs.Common.{◌≡◌, drop}
-use Rattle.anti_app.specs.Sound.{has_named}
+use Rattle.anti_app.specs.Objects.{has_named}
 use Rattle.anti_app.proofs.objects.has_named.Given as goal
 
 -- none of those before has the name

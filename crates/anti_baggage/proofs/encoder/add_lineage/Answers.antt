@@ -4,7 +4,8 @@ use Rattle.std.specs.List.{join_by}
 use Rattle.std.proofs.lemmas.List.{append_assoc, length_push}
 use Rattle.anti_ids.specs.declared.id.WriteId.{WriteId}
 use Rattle.anti_ids.specs.Ascii.{comma}
-use Rattle.anti_ids.specs.List.{plain, pushed}
+use Rattle.anti_ids.specs.List.{plain}
+use Rattle.anti_ids.specs.ListCalls.{pushed}
 use Rattle.anti_baggage.specs.Texts.{id_text}
 use Rattle.anti_baggage.proofs.Joined.{first_joined, next_joined, goes_on, goes_on_behind}
 use Rattle.anti_baggage.proofs.encoder.add_lineage.Goals as goal

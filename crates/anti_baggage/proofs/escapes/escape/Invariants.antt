@@ -1,5 +1,5 @@
 use Rattle.std.proofs.Common.{◌≡◌, length, take}
-use Rattle.anti_ids.specs.List.{extended}
+use Rattle.anti_ids.specs.ListCalls.{extended}
 use Rattle.anti_baggage.specs.Escapes.{escaped}
 use Rattle.anti_baggage.proofs.escapes.escape.Given as goal
 

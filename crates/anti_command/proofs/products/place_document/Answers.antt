@@ -1,5 +1,5 @@
 use Rattle.std.proofs.Common.{refl, rules}
-use Rattle.anti_command.specs.Runs.{IsPlayable}
+use Rattle.anti_command.specs.inner.Stated.{IsPlayable}
 use Rattle.anti_command.proofs.products.place_document.Goals as goal
 
 pub returns-clause-done : goal.returns-clause-done

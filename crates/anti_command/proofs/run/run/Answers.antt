@@ -1,4 +1,5 @@
-use Rattle.anti_command.specs.Runs.{ExplainsSpans, FindsAll, IsPlayable}
+use Rattle.anti_command.specs.Runs.{ExplainsSpans, FindsAll}
+use Rattle.anti_command.specs.inner.Stated.{IsPlayable}
 use Rattle.anti_command.proofs.run.run.Goals as goal
 
 pub returns-clause-barriers : goal.returns-clause-barriers

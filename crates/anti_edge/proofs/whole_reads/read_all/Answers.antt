@@ -1,6 +1,5 @@
-use Rattle.std.proofs.Common.{arith}
+use Rattle.std.proofs.Common.{arith, ◌∙◌}
 use Rattle.std.proofs.lemmas.Grind.{common_steps}
-use Rattle.std.proofs.Common.{◌∙◌}
 use Rattle.anti_edge.proofs.Fronts.{HasRead-step, HasRead-front, HasRead-most}
 use Rattle.anti_edge.proofs.whole_reads.read_all.Goals as goal
 

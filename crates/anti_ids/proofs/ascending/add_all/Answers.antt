@@ -1,6 +1,7 @@
 use Rattle.std.proofs.Common.{◌≡◌, ◌∷◌, List, false, length, sym, ap, ◌∙◌, subst, arith, rules}
 use Rattle.anti_ids.specs.declared.id.WriteId.{WriteId}
-use Rattle.anti_ids.specs.Ids.{IsAscending, has_id, with_id, with_ids}
+use Rattle.anti_ids.specs.Invariants.{IsAscending}
+use Rattle.anti_ids.specs.Ids.{has_id, with_id, with_ids}
 use Rattle.anti_ids.proofs.IdLemmas.{ascending_with, length-with_id, le-length-with_ids}
 use Rattle.anti_ids.proofs.ascending.add_all.Goals as goal
 

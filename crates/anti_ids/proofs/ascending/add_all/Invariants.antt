@@ -1,5 +1,6 @@
 use Rattle.std.proofs.Common.{◌≡◌, ◌≤◌, vec_capacity}
-use Rattle.anti_ids.specs.Ids.{IsAscending, with_ids}
+use Rattle.anti_ids.specs.Invariants.{IsAscending}
+use Rattle.anti_ids.specs.Ids.{with_ids}
 use Rattle.anti_ids.proofs.ascending.add_all.Given as goal
 
 -- those that are still to come make what all make

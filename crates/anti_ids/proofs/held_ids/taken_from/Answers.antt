@@ -1,5 +1,6 @@
 use Rattle.std.proofs.Common.{◌≡◌, subst, rules}
-use Rattle.anti_ids.specs.Ids.{IsLineage, without_id}
+use Rattle.anti_ids.specs.Invariants.{IsLineage}
+use Rattle.anti_ids.specs.Ids.{without_id}
 use Rattle.anti_ids.proofs.IdLemmas.{lineage_without}
 use Rattle.anti_ids.proofs.held_ids.taken_from.Goals as goal
 

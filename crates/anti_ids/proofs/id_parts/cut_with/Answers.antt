@@ -1,5 +1,4 @@
-use Rattle.std.proofs.Common.{◌≡◌, ◌+◌, ◌++◌, ◌∷◌, [], List, take, drop, get_or, ap, ◌∙◌, rules}
-use Rattle.std.proofs.Common.{set}
+use Rattle.std.proofs.Common.{◌≡◌, ◌+◌, ◌++◌, ◌∷◌, [], List, take, drop, get_or, ap, ◌∙◌, rules, set}
 use Rattle.std.proofs.lemmas.List.{get_or_default}
 use Rattle.anti_ids.specs.declared.id.WriteId.{WriteId}
 use Rattle.anti_ids.specs.inner.Parts.{joined, put_at}

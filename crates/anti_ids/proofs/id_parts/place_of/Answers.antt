@@ -2,7 +2,8 @@ use Rattle.std.proofs.Common.{◌≡◌, ◌-◌, ◌++◌, List, true, length, 
 use Rattle.std.specs.declared.cmp.Ordering.TheVariants.{Greater}
 use Rattle.anti_ids.specs.Each.{Each}
 use Rattle.anti_ids.specs.declared.id.WriteId.{WriteId}
-use Rattle.anti_ids.specs.Ids.{id_cmp, IsAscending}
+use Rattle.anti_ids.specs.Ids.{id_cmp}
+use Rattle.anti_ids.specs.Invariants.{IsAscending}
 use Rattle.anti_ids.specs.inner.Parts.{joined, shifted}
 use Rattle.anti_ids.specs.inner.Places.{IsPlace}
 use Rattle.anti_ids.proofs.Places.{goes_to}

@@ -1,6 +1,7 @@
 use Rattle.std.proofs.Common.{◌≡◌, ◌≤◌}
 use Rattle.anti_ids.specs.Each.{Each}
-use Rattle.anti_ids.specs.Ids.{IsLineage, with_ids}
+use Rattle.anti_ids.specs.Invariants.{IsLineage}
+use Rattle.anti_ids.specs.Ids.{with_ids}
 use Rattle.anti_ids.proofs.unions.add_each.Given as goal
 
 -- those that are still to come make what all make

@@ -1,7 +1,8 @@
 use Rattle.std.proofs.Common.{◌≡◌, ◌∙◌, sym, ap, arith}
 use Rattle.std.specs.Prelude.{option_map, Some}
 use Rattle.std.proofs.lemmas.Grind.{common_steps}
-use Rattle.anti_lang.specs.Lines.{line_of, read_line}
+use Rattle.anti_lang.specs.Parses.{line_of}
+use Rattle.anti_lang.specs.Lines.{read_line}
 use Rattle.anti_lang.specs.Words.{words}
 use Rattle.anti_lang.proofs.ReadLemmas.{here_first, read_to_next}
 use Rattle.anti_lang.proofs.line_reader.read_lines.Goals as goal

@@ -1,6 +1,7 @@
 use Rattle.std.proofs.Common.{◌≡◌, ◌++◌, map, drop}
 use Rattle.anti_lang.specs.Bodies.{block_from, step_of}
-use Rattle.anti_lang.specs.Parsing.{printed, texts_of}
+use Rattle.anti_lang.specs.Printing.{printed}
+use Rattle.anti_lang.specs.Parses.{texts_of}
 use Rattle.anti_lang.proofs.printer.+add_lines.Given as goal
 
 abbrev pub invariant-loop-statement : goal.invariant-loop-statement

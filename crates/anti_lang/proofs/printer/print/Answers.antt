@@ -1,6 +1,8 @@
 use Rattle.std.proofs.Common.{◌≡◌, ◌∙◌, ap, rules}
 use Rattle.anti_lang.specs.Bodies.{block_of}
-use Rattle.anti_lang.specs.Parsing.{texts_of, parsed, printed}
+use Rattle.anti_lang.specs.Parses.{texts_of}
+use Rattle.anti_lang.specs.Parsing.{parsed}
+use Rattle.anti_lang.specs.Printing.{printed}
 use Rattle.anti_lang.proofs.BodyLaws.{parsed_again}
 use Rattle.anti_lang.proofs.PlainLemmas.{block_again}
 use Rattle.anti_lang.proofs.printer.print.Goals as goal

@@ -1,5 +1,5 @@
 use Rattle.std.proofs.Common.{◌≡◌, ◌++◌, map, length}
-use Rattle.anti_lang.specs.Parsing.{spaced}
+use Rattle.anti_lang.specs.Printing.{spaced}
 use Rattle.anti_lang.proofs.split.spaced.Given as goal
 
 abbrev pub invariant-loop-rest : goal.invariant-loop-rest

@@ -1,5 +1,5 @@
 use Rattle.std.proofs.Common.{◌≡◌, ◌++◌, map, drop}
-use Rattle.anti_lang.specs.Parsing.{texts_of}
+use Rattle.anti_lang.specs.Parses.{texts_of}
 use Rattle.anti_load.proofs.services.lines_of.Given as goal
 
 -- what is left goes behind what was made

@@ -1,6 +1,7 @@
 use Rattle.std.proofs.Common.{◌≡◌, ◌∙◌, ap, sym, Some}
 use Rattle.std.specs.Prelude.{slice_get}
-use Rattle.anti_ids.specs.List.{Listed, pushed}
+use Rattle.anti_ids.specs.List.{Listed}
+use Rattle.anti_ids.specs.ListCalls.{pushed}
 use Rattle.anti_kind.specs.declared.message.Message.{Message}
 use Rattle.anti_object.proofs.News.{added, found, missed, no_message, one_message, unchanged}
 use Rattle.anti_object.proofs.from_app.add_request.Goals as goal

@@ -1,6 +1,5 @@
-use Rattle.std.proofs.Common.{arith}
+use Rattle.std.proofs.Common.{arith, length, sym, ap, ◌∙◌, subst}
 use Rattle.std.proofs.lemmas.Grind.{common_steps}
-use Rattle.std.proofs.Common.{length, sym, ap, ◌∙◌, subst}
 use Rattle.anti_past.specs.Pasts.{ArePastsOf}
 use Rattle.anti_past.specs.inner.Walking.{IsCourseOf}
 use Rattle.anti_order.proofs.Counted.{all_lossy, none_lossy, reads_within}

@@ -1,8 +1,7 @@
-use Rattle.std.proofs.Common.{arith}
+use Rattle.std.proofs.Common.{arith, ◌≡◌, ◌++◌, map, refl, sym, ap, ◌∙◌, subst}
 use Rattle.std.proofs.lemmas.Grind.{common_steps}
-use Rattle.std.proofs.Common.{◌≡◌, ◌++◌, map, refl, sym, ap, ◌∙◌, subst}
 use Rattle.std.proofs.lemmas.List.{append-nil}
-use Rattle.anti_past.specs.Spans.{AreReadsBySpan}
+use Rattle.anti_past.specs.Told.{AreReadsBySpan}
 use Rattle.anti_past.specs.inner.Reading.{reads_under}
 use Rattle.anti_past.proofs.SpansRead.{are_reads_by_span}
 use Rattle.anti_past.proofs.span_reads.reads_by_span.Goals as goal

@@ -1,7 +1,7 @@
 use Rattle.std.proofs.Common.{◌≡◌, ◌+◌, drop, length}
 use Rattle.anti_lang.specs.Blocks.{lines_of}
 use Rattle.anti_lang.specs.Bodies.{block_from}
-use Rattle.anti_app.specs.Objects.{steps_of}
+use Rattle.anti_lang.specs.Steps.{steps_of}
 use Rattle.anti_place.specs.Paths.{earlier}
 use Rattle.anti_place.specs.inner.Joined.{fault_in}
 use Rattle.anti_place.proofs.body.+faults.Given as goal

@@ -1,6 +1,6 @@
 use Rattle.std.proofs.Common.{◌≡◌, drop}
 use Rattle.anti_lang.specs.Bodies.{block_from}
-use Rattle.anti_app.specs.Objects.{steps_of}
+use Rattle.anti_lang.specs.Steps.{steps_of}
 use Rattle.anti_place.specs.inner.Joined.{then_flow, through_block}
 use Rattle.anti_place.proofs.body.+flows.Given as goal
 

@@ -1,8 +1,7 @@
-use Rattle.std.proofs.Common.{arith}
+use Rattle.std.proofs.Common.{arith, false}
 use Rattle.std.proofs.lemmas.Grind.{common_steps}
-use Rattle.std.proofs.Common.{false}
 use Rattle.anti_lang.specs.Bodies.{block_from}
-use Rattle.anti_app.specs.Objects.{steps_of}
+use Rattle.anti_lang.specs.Steps.{steps_of}
 use Rattle.anti_place.specs.inner.Joined.{fault_of}
 use Rattle.anti_place.proofs.Stepping.{rows_more}
 use Rattle.anti_place.proofs.body.+rows.Goals as goal

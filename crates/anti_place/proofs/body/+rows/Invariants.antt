@@ -1,6 +1,6 @@
 use Rattle.std.proofs.Common.{◌≡◌, drop, false}
 use Rattle.anti_lang.specs.Bodies.{block_from}
-use Rattle.anti_app.specs.Objects.{steps_of}
+use Rattle.anti_lang.specs.Steps.{steps_of}
 use Rattle.anti_place.specs.Paths.{earlier}
 use Rattle.anti_place.specs.inner.Joined.{by_rows, fault_of, reads_of}
 use Rattle.anti_place.proofs.body.+rows.Given as goal

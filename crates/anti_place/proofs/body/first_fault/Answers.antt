@@ -1,6 +1,6 @@
 use Rattle.std.proofs.Common.{sym, ◌∙◌, ap₂}
 use Rattle.anti_lang.specs.Bodies.{block_from}
-use Rattle.anti_app.specs.Objects.{steps_of}
+use Rattle.anti_lang.specs.Steps.{steps_of}
 use Rattle.anti_place.specs.Paths.{earlier}
 use Rattle.anti_place.proofs.Doubting.{joined_is_first}
 use Rattle.anti_place.proofs.body.first_fault.Goals as goal

@@ -1,5 +1,5 @@
 use Rattle.std.proofs.Common.{◌≡◌, drop}
-use Rattle.anti_app.specs.Objects.{steps_of}
+use Rattle.anti_lang.specs.Steps.{steps_of}
 use Rattle.anti_proc.specs.inner.Cursors.{innermost}
 use Rattle.anti_proc.proofs.cursor.innermost.Given as goal
 

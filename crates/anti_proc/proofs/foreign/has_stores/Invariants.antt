@@ -1,5 +1,5 @@
 use Rattle.std.proofs.Common.{◌≡◌}
-use Rattle.anti_proc.specs.Foreign.{has_stores}
+use Rattle.anti_proc.specs.Stated.{has_stores}
 use Rattle.anti_proc.proofs.foreign.has_stores.Given as goal
 
 abbrev pub invariant-loop-id : goal.invariant-loop-id

@@ -1,6 +1,6 @@
 use Rattle.std.proofs.Common.{◌≡◌, drop}
 use Rattle.std.specs.List.{list_all}
-use Rattle.anti_proc.specs.Foreign.{has_stores}
+use Rattle.anti_proc.specs.Stated.{has_stores}
 use Rattle.anti_proc.proofs.foreign.have_stores.Given as goal
 
 -- the rows before have only ids of the stores

@@ -2,7 +2,7 @@ use Rattle.std.proofs.Common.{◌∙◌, rules, tests}
 use Rattle.std.proofs.lemmas.Iterator.{YieldsList-from_slice}
 use Rattle.std.proofs.lemmas.Iterator.Consumers.{count_from_yields_List, YieldsList-from_filter}
 use Rattle.std.proofs.lemmas.List.Sums.{length-filter}
-use Rattle.anti_proc.specs.Barriers.{is_look}
+use Rattle.anti_proc.specs.Looks.{is_look}
 use Rattle.anti_report.proofs.run_counts.count_looks.Goals as goal
 
 pub returns : goal.returns

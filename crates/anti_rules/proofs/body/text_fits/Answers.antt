@@ -1,8 +1,9 @@
 use Rattle.std.proofs.Common.{Some, option_map, ap, sym, ◌≡◌, ◌∙◌}
 use Rattle.toml.specs.View.{table_view}
 use Rattle.anti_lang.specs.Words.{words}
-use Rattle.anti_lang.specs.Lines.{line_of, read_line}
-use Rattle.anti_rules.specs.Statements.{line_fits}
+use Rattle.anti_lang.specs.Parses.{line_of}
+use Rattle.anti_lang.specs.Lines.{read_line}
+use Rattle.anti_rules.specs.inner.Parses.{line_fits}
 use Rattle.anti_rules.proofs.StatedLines.{some_fits}
 use Rattle.anti_rules.proofs.body.text_fits.Goals as goal
 

@@ -1,6 +1,6 @@
 use Rattle.std.proofs.Common.{◌≡◌, ◌++◌, map, drop}
 use Rattle.toml.specs.View.{view}
-use Rattle.anti_lang.specs.Parsing.{texts_of}
+use Rattle.anti_lang.specs.Parses.{texts_of}
 use Rattle.anti_rules.specs.Trees.{text_of}
 use Rattle.anti_rules.proofs.body.texts_in.Given as goal
 

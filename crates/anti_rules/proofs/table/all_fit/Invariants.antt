@@ -1,6 +1,7 @@
 use Rattle.std.proofs.Common.{◌≡◌, map, drop}
 use Rattle.toml.specs.View.{table_view}
-use Rattle.anti_rules.specs.Keys.{key_view, fits, all_fit}
+use Rattle.anti_rules.specs.inner.Keys.{key_view, fits}
+use Rattle.anti_rules.specs.Keys.{all_fit}
 use Rattle.anti_rules.proofs.table.all_fit.Given as goal
 
 abbrev pub invariant-loop-key : goal.invariant-loop-key

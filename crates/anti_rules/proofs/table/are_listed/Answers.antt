@@ -1,6 +1,7 @@
 use Rattle.std.proofs.Common.{map, string_bytes, ap, sym, ◌∙◌}
 use Rattle.std.specs.List.{list_all}
-use Rattle.anti_rules.specs.Keys.{key_view, is_key}
+use Rattle.anti_rules.specs.inner.Keys.{key_view}
+use Rattle.anti_rules.specs.Keys.{is_key}
 use Rattle.anti_rules.proofs.TreeLemmas.{names-view}
 use Rattle.anti_rules.proofs.table.are_listed.Goals as goal
 

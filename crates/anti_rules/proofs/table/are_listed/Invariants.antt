@@ -1,7 +1,8 @@
 use Rattle.std.proofs.Common.{◌≡◌, map, string_bytes}
 use Rattle.std.specs.List.{list_all}
 use Rattle.toml.specs.View.{table_view}
-use Rattle.anti_rules.specs.Keys.{key_view, is_key, are_listed}
+use Rattle.anti_rules.specs.inner.Keys.{key_view}
+use Rattle.anti_rules.specs.Keys.{is_key, are_listed}
 use Rattle.anti_rules.proofs.table.are_listed.Given as goal
 
 abbrev pub invariant-loop-name : goal.invariant-loop-name

@@ -1,6 +1,7 @@
 use Rattle.std.proofs.Common.{◌≡◌, map, drop}
 use Rattle.toml.specs.View.{table_view}
-use Rattle.anti_rules.specs.Keys.{key_view, are_there}
+use Rattle.anti_rules.specs.inner.Keys.{key_view}
+use Rattle.anti_rules.specs.Keys.{are_there}
 use Rattle.anti_rules.proofs.table.are_there.Given as goal
 
 abbrev pub invariant-loop-key : goal.invariant-loop-key

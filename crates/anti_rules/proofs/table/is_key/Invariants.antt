@@ -1,5 +1,6 @@
 use Rattle.std.proofs.Common.{◌≡◌, map, drop}
-use Rattle.anti_rules.specs.Keys.{key_view, is_key}
+use Rattle.anti_rules.specs.inner.Keys.{key_view}
+use Rattle.anti_rules.specs.Keys.{is_key}
 use Rattle.anti_rules.proofs.table.is_key.Given as goal
 
 abbrev pub invariant-loop-key : goal.invariant-loop-key

@@ -1,7 +1,6 @@
-use Rattle.std.proofs.Common.{arith}
+use Rattle.std.proofs.Common.{arith, ◌≡◌, length, get_or, false, ◌==◌, rules}
 use Rattle.std.proofs.lemmas.Grind.{common_steps}
-use Rattle.std.proofs.Common.{◌≡◌, length, get_or, false, ◌==◌, rules}
-use Rattle.anti_ids.specs.List.{pushed}
+use Rattle.anti_ids.specs.ListCalls.{pushed}
 use Rattle.anti_shim.proofs.Planned.{planned_more}
 use Rattle.anti_shim.proofs.looks.plan.Goals as goal
 

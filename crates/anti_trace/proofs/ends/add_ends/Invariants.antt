@@ -1,7 +1,7 @@
 use Rattle.std.proofs.Common.{◌≡◌, ◌++◌, All, IsTrue, map, take}
 use Rattle.anti_app.specs.declared.app.App.{App}
 use Rattle.anti_app.specs.Sound.{is_sound}
-use Rattle.anti_trace.specs.Traces.{Entries}
+use Rattle.anti_trace.specs.Histories.{Entries}
 use Rattle.anti_trace.specs.Legal.{IsLegalTrace}
 use Rattle.anti_trace.specs.inner.Living.{LivesItself}
 use Rattle.anti_trace.specs.inner.Shown.{shown_end}

@@ -1,6 +1,5 @@
-use Rattle.std.proofs.Common.{arith}
+use Rattle.std.proofs.Common.{arith, ◌+◌, take, drop, subst}
 use Rattle.std.proofs.lemmas.Grind.{common_steps}
-use Rattle.std.proofs.Common.{◌+◌, take, drop, subst}
 use Rattle.anti_app.proofs.Runnable.{can_run}
 use Rattle.anti_trace.specs.Legal.{IsLegalTrace}
 use Rattle.anti_trace.specs.inner.Living.{AreProcessesOf}

@@ -1,5 +1,5 @@
 use Rattle.std.proofs.Common.{[], ◌∷◌, refl}
-use Rattle.anti_kind.specs.Store.{kv_store}
+use Rattle.anti_kind.specs.Starts.{kv_store}
 use Rattle.anti_kv.specs.KvStates.{its_start, kv_start}
 use Rattle.anti_shared.specs.Passes.{first_pass, port_start}
 use Rattle.test_libraries.proofs.Here.{here_alone}

@@ -1,6 +1,5 @@
 use Rattle.std.proofs.Common.{[], ◌∷◌, refl, sym, subst}
-use Rattle.anti_kind.specs.Objects.{IsStart}
-use Rattle.anti_kind.specs.Store.{queue_store}
+use Rattle.anti_kind.specs.Starts.{IsStart, queue_store}
 use Rattle.test_libraries.proofs.Subscribed.{queue_starts}
 use Rattle.test_libraries.proofs.shim.wrong_step_of_queue.Goals as goal
 

@@ -1,6 +1,5 @@
 use Rattle.std.proofs.Common.{[], ◌∷◌, refl, sym, subst}
-use Rattle.anti_kind.specs.Objects.{IsStart}
-use Rattle.anti_kind.specs.Store.{topic_store}
+use Rattle.anti_kind.specs.Starts.{IsStart, topic_store}
 use Rattle.test_libraries.proofs.Subscribed.{topic_starts}
 use Rattle.test_libraries.proofs.shim.wrong_step_of_topic.Goals as goal
 

@@ -1,5 +1,6 @@
 use Rattle.std.proofs.Common.{◌≡◌, true, length, ap, sym, arith, rules}
-use Rattle.anti_ids.specs.Ids.{IsLineage, has_id}
+use Rattle.anti_ids.specs.Invariants.{IsLineage}
+use Rattle.anti_ids.specs.Ids.{has_id}
 use Rattle.anti_ids.specs.inner.Held.{held_ids}
 use Rattle.anti_ids.proofs.IdLemmas.{with_id-there}
 use Rattle.anti_ids.proofs.LeftLemmas.{lineage_held}

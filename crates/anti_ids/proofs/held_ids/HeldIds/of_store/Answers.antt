@@ -1,5 +1,6 @@
 use Rattle.std.proofs.Common.{◌≡◌, sym, subst, rules}
-use Rattle.anti_ids.specs.Ids.{IsLineage, ids_of}
+use Rattle.anti_ids.specs.Invariants.{IsLineage}
+use Rattle.anti_ids.specs.Ids.{ids_of}
 use Rattle.anti_ids.specs.inner.Held.{held_ids}
 use Rattle.anti_ids.proofs.IdLemmas.{lineage_ids_of}
 use Rattle.anti_ids.proofs.LeftLemmas.{lineage_held}

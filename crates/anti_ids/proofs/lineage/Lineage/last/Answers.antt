@@ -1,5 +1,5 @@
 use Rattle.std.proofs.Common.{subst}
-use Rattle.anti_ids.specs.Ids.{IsLineage}
+use Rattle.anti_ids.specs.Invariants.{IsLineage}
 use Rattle.anti_ids.proofs.LeftLemmas.{lineage_held}
 use Rattle.anti_ids.proofs.lineage.Lineage.last.Goals as goal
 

@@ -1,6 +1,5 @@
-use Rattle.std.proofs.Common.{arith}
+use Rattle.std.proofs.Common.{arith, refl}
 use Rattle.std.proofs.lemmas.Grind.{common_steps}
-use Rattle.std.proofs.Common.{refl}
 use Rattle.anti_inbox.proofs.Standing.{stands_new}
 use Rattle.anti_inbox.proofs.inbox.Inbox.new.Goals as goal
 

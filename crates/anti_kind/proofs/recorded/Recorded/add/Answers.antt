@@ -1,5 +1,6 @@
 use Rattle.std.proofs.Common.{◌≡◌, ◌+◌, refl, sym, ap, subst, ◌∙◌, arith}
-use Rattle.anti_ids.specs.List.{Listed, pushed, reserved}
+use Rattle.anti_ids.specs.List.{Listed}
+use Rattle.anti_ids.specs.ListCalls.{pushed, reserved}
 use Rattle.anti_kind.specs.declared.entry.Entry.{Entry}
 use Rattle.anti_kind.specs.Objects.{Start, Follows, IsLegal, owed, need}
 use Rattle.anti_kind.specs.Records.{IsRecorded}

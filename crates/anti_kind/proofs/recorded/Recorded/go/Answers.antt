@@ -1,7 +1,7 @@
 use Rattle.std.proofs.Common.{◌+◌, ◌∷◌, ◌++◌, [], max, length, refl, sym, ap, subst, ◌∙◌}
 use Rattle.anti_kind.specs.declared.entry.Entry.{Entry}
 use Rattle.anti_kind.specs.Objects.{Follows, last_stamp}
-use Rattle.anti_kind.specs.Ports.{entry_of}
+use Rattle.anti_kind.specs.Entries.{entry_of}
 use Rattle.anti_kind.proofs.Making.{made_follows}
 use Rattle.anti_kind.proofs.recorded.Recorded.go.Goals as goal
 use Rattle.anti_kind.proofs.recorded.Recorded.go.Goals.{After-entry-entry}

@@ -2,7 +2,8 @@ use Rattle.std.proofs.Common.{◌≡◌, ◌∙◌, List, ap, sym, subst, rules}
 use Rattle.std.specs.Prelude.{Some}
 use Rattle.anti_ids.specs.List.{Listed}
 use Rattle.anti_kind.specs.declared.message.Message.{Message}
-use Rattle.anti_kind.specs.Objects.{IsStart, inbox}
+use Rattle.anti_kind.specs.Starts.{IsStart}
+use Rattle.anti_kind.specs.Objects.{inbox}
 use Rattle.anti_kind.specs.declared.store_kind.Sub.{Sub}
 use Rattle.anti_object.specs.Standing.{IsNewStore, start_with}
 use Rattle.anti_app.specs.declared.objects.ObjectAt.TheVariants.{Store, Inbox}

@@ -4,7 +4,8 @@ use Rattle.std.specs.BTreeSet.{keys}
 use Rattle.anti_ids.specs.declared.memory.NoMemory.{NoMemory}
 use Rattle.anti_kind.specs.declared.call.Call.TheVariants.{Ship}
 use Rattle.anti_kind.specs.declared.entry.Entry.{Entry}
-use Rattle.anti_kind.specs.Objects.{StandsFor, next_ship}
+use Rattle.anti_kind.specs.Machines.{StandsFor}
+use Rattle.anti_kind.specs.Shipments.{next_ship}
 use Rattle.anti_kind.specs.Records.{Record}
 use Rattle.anti_app.specs.declared.app.App.{App}
 use Rattle.anti_app.specs.Sound.{is_sound}

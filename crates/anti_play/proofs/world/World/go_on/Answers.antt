@@ -1,6 +1,5 @@
-use Rattle.std.proofs.Common.{arith}
+use Rattle.std.proofs.Common.{arith, refl}
 use Rattle.std.proofs.lemmas.Grind.{common_steps}
-use Rattle.std.proofs.Common.{refl}
 use Rattle.anti_kind.specs.declared.actor.Actor.TheVariants.{Process as Acting}
 use Rattle.anti_trace.specs.inner.Living.{lists}
 use Rattle.anti_play.specs.Schedule.{asking_at}

@@ -2,7 +2,8 @@ use Rattle.std.proofs.Common.{◌≡◌, ◌≤◌, ◌<◌, ◌+◌, IsTrue, �
 use Rattle.std.proofs.lemmas.Option.{get_or_from_slice_get}
 use Rattle.std.proofs.lemmas.Result.{on_ok_weaker}
 use Rattle.anti_ids.specs.declared.limits.TheConstants.{MOST_CHOICES}
-use Rattle.anti_ids.specs.List.{Listed, pushed}
+use Rattle.anti_ids.specs.List.{Listed}
+use Rattle.anti_ids.specs.ListCalls.{pushed}
 use Rattle.anti_app.specs.declared.app.App.{App}
 use Rattle.anti_app.specs.declared.app.Choice.TheVariants.{Take}
 use Rattle.anti_app.specs.Sound.{is_sound}

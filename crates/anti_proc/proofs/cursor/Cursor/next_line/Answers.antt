@@ -1,7 +1,7 @@
 use Rattle.std.proofs.Common.{◌≡◌, sym, ◌∙◌, arith}
 use Rattle.std.specs.Prelude.{Some, slice_get}
 use Rattle.std.proofs.lemmas.Grind.{common_steps}
-use Rattle.anti_app.specs.Objects.{steps_of}
+use Rattle.anti_lang.specs.Steps.{steps_of}
 use Rattle.anti_proc.specs.inner.Cursors.{innermost}
 use Rattle.anti_proc.proofs.Cursors.{line_left, line_opened}
 use Rattle.anti_proc.proofs.cursor.Cursor.next_line.Goals as goal

@@ -1,5 +1,5 @@
 use Rattle.std.proofs.Common.{◌≡◌}
-use Rattle.anti_app.specs.Objects.{steps_of}
+use Rattle.anti_lang.specs.Steps.{steps_of}
 use Rattle.anti_proc.specs.inner.Cursors.{left_at, turns_left}
 use Rattle.anti_proc.proofs.cursor.Cursor.next_line.Given as goal
 

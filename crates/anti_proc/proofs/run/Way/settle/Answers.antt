@@ -1,7 +1,7 @@
 use Rattle.std.proofs.Common.{◌≡◌, ◌∙◌, subst}
 use Rattle.std.specs.Borrow.{Bor}
 use Rattle.anti_lang.specs.Bodies.{step_of}
-use Rattle.anti_app.specs.Objects.{steps_of}
+use Rattle.anti_lang.specs.Steps.{steps_of}
 use Rattle.anti_proc.specs.declared.given.Given.{Given}
 use Rattle.anti_proc.specs.declared.statements.Does.{Does}
 use Rattle.anti_proc.specs.declared.statements.Does.TheVariants as does

@@ -1,5 +1,5 @@
 use Rattle.std.proofs.Common.{refl}
-use Rattle.anti_kind.specs.Store.{queue_store}
+use Rattle.anti_kind.specs.Starts.{queue_store}
 use Rattle.anti_replicas.specs.Stores.{number_of, regions_of}
 use Rattle.anti_queue.specs.inner.Lists.{subs_of}
 use Rattle.anti_queue.proofs.queue_store.Queue.new.Goals as goal

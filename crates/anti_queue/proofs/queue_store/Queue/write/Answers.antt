@@ -2,7 +2,9 @@ use Rattle.std.proofs.Common.{◌≡◌, true, Some, refl, sym, ap, subst, ◌�
 use Rattle.anti_ids.specs.Names.{is_plain}
 use Rattle.anti_kind.specs.declared.call.Call.{Call}
 use Rattle.anti_kind.specs.Store.{Store, key_for, store_ready}
-use Rattle.anti_kind.specs.Objects.{store, Follows, IsLegal, IsStart, StandsFor}
+use Rattle.anti_kind.specs.Objects.{store, Follows, IsLegal}
+use Rattle.anti_kind.specs.Starts.{IsStart}
+use Rattle.anti_kind.specs.Machines.{StandsFor}
 use Rattle.anti_queue.specs.QueueStates.{its_store, its_start, QueueStands}
 use Rattle.anti_queue.proofs.Standing.{base_at}
 use Rattle.anti_queue.proofs.Written.{stands_written}

@@ -1,6 +1,5 @@
-use Rattle.std.proofs.Common.{arith}
+use Rattle.std.proofs.Common.{arith, take, subst}
 use Rattle.std.proofs.lemmas.Grind.{common_steps}
-use Rattle.std.proofs.Common.{take, subst}
 use Rattle.anti_trace.specs.inner.After.{AreAfter}
 use Rattle.anti_trace.proofs.GonePast.{before_next, taken_more}
 use Rattle.anti_trace.proofs.objects.ObjectsAfter.of.Goals as goal

@@ -2,7 +2,7 @@ use Rattle.std.proofs.Common.{◌≡◌, IsTrue}
 use Rattle.std.specs.List.{flat_map, range_with_len}
 use Rattle.anti_app.specs.declared.app.App.{App}
 use Rattle.anti_app.specs.Sound.{is_sound}
-use Rattle.anti_trace.specs.Traces.{Entries}
+use Rattle.anti_trace.specs.Histories.{Entries}
 use Rattle.anti_trace.specs.Legal.{IsLegalTrace}
 use Rattle.anti_trace.specs.Ends.{ends_on}
 use Rattle.anti_trace.specs.inner.Living.{AreProcessesOf}
