@@ -3,6 +3,7 @@ ghost use Rattle.anti_kind.specs.Objects.{IsLegal};
 ghost use Rattle.anti_kind.specs.Shipments.{IsShip};
 ghost use Rattle.anti_kind.specs.Machines.{StandsFor};
 ghost use Rattle.anti_kind.specs.Ports.{Answered};
+ghost use Rattle.anti_kind.specs.Records.{Goes};
 ghost use Rattle.anti_kind.specs.Lones.{AreOwn, IsNumbered, lone_start, lone_view};
 
 use crate::actor::Actor;
@@ -75,12 +76,14 @@ impl<M: Machine> Port for Lone<M> {
         object == self.object
     }
 
-    /// As every port's call. The visits are the number of calls on the object.
+    /// As every port's call, and memory is wanted only for a call that is ready, fits and has a stamp. The visits are the number of calls on
+    /// the object.
     fn call(&mut self, object: u32, actor: Actor, span: u32, clock: u64, c: Call) -> Answer
         ensures answer { Answered (lone_start M.start self.old object) (record { object = object; actor = actor; span = span; clock = clock; call = c }) (lone_view self.old object) (lone_view self.new object) result }
         ensures others { (o : ℕ) → (o ≡ object → ⊥) → lone_view self.new o ≡ lone_view self.old o }
         ensures fixed { (o : ℕ) → lone_start M.start self.new o ≡ lone_start M.start self.old o }
         ensures ship { IsShip c → result ≡ Answer.NoMemory → ⊥ }
+        ensures memory { result ≡ Answer.NoMemory → Goes (M.start self.old.machine) self.old.history (record { object = object; actor = actor; span = span; clock = clock; call = c }) }
         ensures visits { object ≡ self.old.object → self.new.visits ≡ min (self.old.visits + 1) (2 ^ 64 - 1) }
     {
         if object != self.object {
