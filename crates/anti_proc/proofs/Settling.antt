@@ -1,8 +1,9 @@
 -- A handler goes on from statement to statement.
-use Rattle.std.proofs.Common.{◌≡◌, ℕ, ◌+◌, ◌*◌, ◌<◌, ◌≤◌, List, ◌∷◌, ◌++◌, None, refl, sym, ap, ◌∙◌, subst, true, arith}
+use Rattle.std.proofs.Common.{◌≡◌, ℕ, ◌+◌, ◌*◌, ◌^◌, ◌<◌, ◌≤◌, List, [], ◌∷◌, ◌++◌, Bool, true, false, Option, None, if◌then◌else◌, refl, sym, ap, ◌∙◌, subst, arith}
+use Rattle.std.proofs.Math.Path.{fun_ext}
 use Rattle.anti_lang.specs.Bodies.{block_from}
 use Rattle.anti_lang.specs.Steps.{list_of}
-use Rattle.anti_lang.specs.Program.{Block, Step}
+use Rattle.anti_lang.specs.Program.{Block, Step, Repeat, IfAbsent}
 use Rattle.anti_lang.specs.Spans.{spans_in, spans_of}
 use Rattle.anti_app.specs.declared.app.App.{App}
 use Rattle.anti_app.specs.Objects.{body_of}
@@ -16,82 +17,112 @@ use Rattle.anti_proc.specs.declared.run.Advance.{Advance}
 use Rattle.anti_proc.specs.declared.run.Advance.TheVariants.{Goes, Over, Full}
 use Rattle.anti_proc.specs.declared.run.Life.TheVariants.{Runs}
 use Rattle.anti_proc.specs.declared.run.Run.{Run}
-use Rattle.anti_proc.specs.declared.state.Draft.{Draft}
-use Rattle.anti_proc.specs.declared.statements.Does.{Does}
-use Rattle.anti_proc.specs.declared.statements.Does.TheVariants as does
 use Rattle.anti_proc.specs.declared.task.Role.{Role}
-use Rattle.anti_proc.specs.Local.{Local}
-use Rattle.anti_proc.specs.Meaning.{Go, body_tree, leave, step_tree}
+use Rattle.anti_proc.specs.Local.{Setting, Local, held, is_absent}
+use Rattle.anti_proc.specs.Meaning.{Go, block_tree, body_tree, leave, step_tree}
 use Rattle.anti_proc.specs.inner.Cursors.{Enters, IsStart, again, block_in, block_weight, last_opened, left_at, step_weight, weight}
 use Rattle.anti_proc.specs.inner.Running.{AdvanceHasSpans, HasSpans}
-use Rattle.anti_proc.specs.inner.Standing.{body_in, does_tree, full_by, going, left_to_run, local_in, setting, spans_done, stage_tree, weight_done}
-use Rattle.anti_proc.proofs.Running.{run_again, spans_again, spans_append, spans_block, weight_again, weight_append}
+use Rattle.anti_proc.specs.inner.Standing.{body_in, full_by, going, left_to_run, setting, stage_or}
+use Rattle.anti_proc.specs.inner.Statements.{own_spans, turns_of, with_block}
+use Rattle.anti_proc.proofs.Running.{run, run_again, spans_again, spans_append, spans_block, weight_again, weight_append}
 
--- a handler that passed a statement, of which something comes, and now stands at a cursor with a draft
-pub record Passed (app : App) (given : Given) (from : Cursor) (old : Draft) (step : Step) (cursor : Cursor) (new : Draft) (comes : Does) : Type 0 where
-  pub left : left_to_run app given.role from ≡ step ∷ left_at (body_in app given.role) cursor
-  pub opened : last_opened (body_in app given.role) cursor ≡ list_of (block_in step)
-  pub goes : (go : Go) → does_tree comes (block_in step) (setting app given) (local_in new) go
-      ≡ step_tree step (setting app given) (local_in old) go
-  pub lighter : weight_done comes (block_in step) < step_weight step
-  pub spans : new.changes.span + spans_done comes (block_in step) ≤ old.changes.span + spans_in step
+-- ---- a statement and its block
 
-pub passed_in : (app : App) (given : Given) (from : Cursor) (old : Draft) (step : Step) (cursor : Cursor) (new : Draft) (comes : Does) (body : List Step)
-    → body ≡ body_in app given.role
-    → left_at body from ≡ step ∷ left_at body cursor → last_opened body cursor ≡ list_of (block_in step)
-    → ((go : Go) → does_tree comes (block_in step) (setting app given) (local_in new) go ≡ step_tree step (setting app given) (local_in old) go)
-    → weight_done comes (block_in step) < step_weight step
-    → new.changes.span + spans_done comes (block_in step) ≤ old.changes.span + spans_in step
-    → Passed app given from old step cursor new comes
-passed_in app given from old step cursor new comes body is left opened goes lighter spans = record {
-  left = subst (λ (b : List Step). left_at b from ≡ step ∷ left_at b cursor) is left;
-  opened = subst (λ (b : List Step). last_opened b cursor ≡ list_of (block_in step)) is opened;
-  goes = goes;
-  lighter = lighter;
-  spans = spans;
-}
+below_next : (n : ℕ) → n < 1 + n
+below_next n = omega arith
 
-module _ (app : App) (given : Given) (from : Cursor) (old : Draft) (step : Step) (cursor : Cursor) (new : Draft) where
-  goes_from : (comes : Does) → Passed app given from old step cursor new comes
-      → does_tree comes (block_in step) (setting app given) (local_in new) (going app given cursor) ≡ going app given from (local_in old)
-  goes_from comes p =
-      p.goes (going app given cursor)
-      ∙ ap (λ (steps : List Step). body_tree (block_from steps) (setting app given) (local_in old)) (sym p.left)
+-- the turns of its block weigh less than a statement
+turns_lighter : (step : Step) (l : Local) → turns_of step l * block_weight (block_in step) < step_weight step
+turns_lighter (Repeat count block) l = below_next (count * block_weight block)
+turns_lighter (IfAbsent variable block) l = by_test (is_absent (held l variable)) (block_weight block)
+  where
+    by_test : (here : Bool) (w : ℕ) → (if here then 1 else 0) * w < 1 + w
+    by_test true w = omega arith
+    by_test false w = omega arith
+turns_lighter _ l = omega arith
 
-  -- the call of the statement is next
-  pub settled : (stage : Stage) → Passed app given from old step cursor new (does.Stage stage)
-      → stage_tree stage (setting app given) (local_in new) (going app given cursor) ≡ going app given from (local_in old)
-  settled stage p = goes_from (does.Stage stage) p
+-- a statement begins the spans that it begins itself, and those of the turns of its block
+spans_apart : (step : Step) (l : Local) → own_spans step + turns_of step l * spans_of (block_in step) ≤ spans_in step
+spans_apart (Repeat count block) l = omega arith
+spans_apart (IfAbsent variable block) l = by_test (is_absent (held l variable)) (spans_of block)
+  where
+    by_test : (here : Bool) (n : ℕ) → 0 + (if here then 1 else 0) * n ≤ n
+    by_test true n = omega arith
+    by_test false n = omega arith
+spans_apart _ l = omega arith
 
-  module _ (turns : ℕ) (entered : Cursor) (p : Passed app given from old step cursor new (does.Block turns)) (enters : Enters turns cursor entered) where
-    is : left_at (body_in app given.role) entered ≡ again turns (list_of (block_in step)) ++ left_at (body_in app given.role) cursor
-    is = enters (body_in app given.role) ∙ ap (λ (b : List Step). again turns b ++ left_at (body_in app given.role) cursor) p.opened
+-- the turns of its block, and then what follows them
+block_entered : (step : Step) (s : Setting) (l : Local) (rest : List Step) (go : Go) (k : Local)
+    → run (again (turns_of step l) (list_of (block_in step)) ++ rest) s go k ≡ with_block step s l (run rest s go) k
+block_entered (Repeat count block) s l rest go k = run_again count block rest s go k
+block_entered (IfAbsent variable block) s l rest go k = by_test (is_absent (held l variable))
+  where
+    by_test : (here : Bool) → run (again (if here then 1 else 0) (list_of block) ++ rest) s go k
+        ≡ (if here then block_tree block s k (run rest s go) else run rest s go k)
+    by_test true = run_again 1 block rest s go k
+    by_test false = refl
+block_entered _ s l rest go k = refl
 
-    -- its block is entered
-    pub entered_goes : going app given entered (local_in new) ≡ going app given from (local_in old)
-    entered_goes =
-        ap (λ (steps : List Step). body_tree (block_from steps) (setting app given) (local_in new)) is
-        ∙ run_again turns (block_in step) (left_at (body_in app given.role) cursor) (setting app given) (leave true (setting app given) Fine) (local_in new)
-        ∙ goes_from (does.Block turns) p
+-- A handler that stood before a statement, knew something and then entered the block of the statement, as often as it is run.
+module _ (app : App) (given : Given) (step : Step) (from passed entered : Cursor) (old : Local) (body : List Step)
+    (its : body ≡ body_in app given.role)
+    (left : left_at body from ≡ step ∷ left_at body passed) (opened : last_opened body passed ≡ list_of (block_in step))
+    (enters : Enters (turns_of step old) passed entered) where
+  was : left_to_run app given.role from ≡ step ∷ left_at (body_in app given.role) passed
+  was = subst (λ (b : List Step). left_at b from ≡ step ∷ left_at b passed) its left
 
-    pub entered_lighter : weight (left_to_run app given.role entered) < weight (left_to_run app given.role from)
-    entered_lighter =
-        let now : weight (left_at (body_in app given.role) entered) ≡ turns * block_weight (block_in step) + weight (left_at (body_in app given.role) cursor) =
-        ap weight is ∙ weight_append (again turns (list_of (block_in step))) (left_at (body_in app given.role) cursor)
-        ∙ ap (λ (n : ℕ). n + weight (left_at (body_in app given.role) cursor)) (weight_again turns (block_in step)) in
-        let before : weight (left_to_run app given.role from) ≡ step_weight step + weight (left_at (body_in app given.role) cursor) = ap weight p.left in
-        let lighter = p.lighter in
-        omega arith
+  is : left_to_run app given.role entered ≡ again (turns_of step old) (list_of (block_in step)) ++ left_at (body_in app given.role) passed
+  is =
+      enters (body_in app given.role)
+      ∙ ap (λ (b : List Step). again (turns_of step old) b ++ left_at (body_in app given.role) passed)
+      (subst (λ (b : List Step). last_opened b passed ≡ list_of (block_in step)) its opened)
 
-    pub entered_spans : HasSpans app given.role from old.changes.span → HasSpans app given.role entered new.changes.span
-    entered_spans has =
-        let now : spans_of (block_from (left_at (body_in app given.role) entered)) ≡ turns * spans_of (block_in step) + spans_of (block_from (left_at (body_in app given.role) cursor)) =
-        ap (λ (steps : List Step). spans_of (block_from steps)) is ∙ spans_append (again turns (list_of (block_in step))) (left_at (body_in app given.role) cursor)
-        ∙ ap (λ (n : ℕ). n + spans_of (block_from (left_at (body_in app given.role) cursor))) (spans_again turns (block_in step)) in
-        let before : spans_of (block_from (left_to_run app given.role from)) ≡ spans_in step + spans_of (block_from (left_at (body_in app given.role) cursor)) =
-        ap (λ (steps : List Step). spans_of (block_from steps)) p.left in
-        let spans = p.spans in
-        omega arith
+  goes_entered : (k : Local) → going app given entered k ≡ with_block step (setting app given) old (going app given passed) k
+  goes_entered k =
+      ap (λ (steps : List Step). body_tree (block_from steps) (setting app given) k) is
+      ∙ block_entered step (setting app given) old (left_at (body_in app given.role) passed) (leave true (setting app given) Fine) k
+
+  -- what the statement comes to, and what is left then, is what was left before it
+  pub passed_goes : (new : Local) (comes : Option Stage)
+      → ((go : Go) → stage_or comes (setting app given) new (with_block step (setting app given) old go) ≡ step_tree step (setting app given) old go)
+      → stage_or comes (setting app given) new (going app given entered) ≡ going app given from old
+  passed_goes new comes goes =
+      ap (λ (go : Go). stage_or comes (setting app given) new go) (fun_ext goes_entered)
+      ∙ goes (going app given passed)
+      ∙ ap (λ (steps : List Step). body_tree (block_from steps) (setting app given) old) (sym was)
+
+  -- less is left than before
+  pub passed_lighter : weight (left_to_run app given.role entered) < weight (left_to_run app given.role from)
+  passed_lighter =
+      let now : weight (left_to_run app given.role entered) ≡ turns_of step old * block_weight (block_in step) + weight (left_at (body_in app given.role) passed) =
+      ap weight is ∙ weight_append (again (turns_of step old) (list_of (block_in step))) (left_at (body_in app given.role) passed)
+      ∙ ap (λ (n : ℕ). n + weight (left_at (body_in app given.role) passed)) (weight_again (turns_of step old) (block_in step)) in
+      let before : weight (left_to_run app given.role from) ≡ step_weight step + weight (left_at (body_in app given.role) passed) = ap weight was in
+      let lighter = turns_lighter step old in
+      omega arith
+
+  pub passed_spans : (span : ℕ) → span ≤ old.span + own_spans step → HasSpans app given.role from old.span → HasSpans app given.role entered span
+  passed_spans span spans has =
+      let now : spans_of (block_from (left_to_run app given.role entered)) ≡ turns_of step old * spans_of (block_in step) + spans_of (block_from (left_at (body_in app given.role) passed)) =
+      ap (λ (steps : List Step). spans_of (block_from steps)) is ∙ spans_append (again (turns_of step old) (list_of (block_in step))) (left_at (body_in app given.role) passed)
+      ∙ ap (λ (n : ℕ). n + spans_of (block_from (left_at (body_in app given.role) passed))) (spans_again (turns_of step old) (block_in step)) in
+      let before : spans_of (block_from (left_to_run app given.role from)) ≡ spans_in step + spans_of (block_from (left_at (body_in app given.role) passed)) =
+      ap (λ (steps : List Step). spans_of (block_from steps)) was in
+      let apart = spans_apart step old in
+      omega arith
+
+  -- the spans of the statement itself fit
+  pub own_spans_fit : HasSpans app given.role from old.span → old.span + spans_in step < 2 ^ 32
+  own_spans_fit has =
+      let before : spans_of (block_from (left_to_run app given.role from)) ≡ spans_in step + spans_of (block_from (left_at (body_in app given.role) passed)) =
+      ap (λ (steps : List Step). spans_of (block_from steps)) was in
+      omega arith
+
+-- where nothing is left it is at its end
+pub ended : (app : App) (given : Given) (cursor : Cursor) (l : Local) (body : List Step) → body ≡ body_in app given.role → left_at body cursor ≡ []
+    → going app given cursor l ≡ leave true (setting app given) Fine l
+ended app given cursor l body its none =
+    ap (λ (steps : List Step). body_tree (block_from steps) (setting app given) l) (subst (λ (b : List Step). left_at b cursor ≡ []) its none)
 
 -- ---- the start
 

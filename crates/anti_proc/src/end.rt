@@ -32,7 +32,7 @@ pub enum End {
     StoreFull(u32),
 }
 
-// How a process ends that so ends by its body.
+/// How a process ends that so ends by its body.
 pub fn end_as(end: BodyEnd) -> End
     ensures { result ≡ end_as end }
 {

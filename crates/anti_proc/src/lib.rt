@@ -15,6 +15,7 @@ mod state;
 mod statements;
 mod task;
 mod variables;
+mod way;
 mod words;
 
 pub use end::{BodyEnd, End, ProcFault};

@@ -1,35 +1,22 @@
 // The messages that a process posts, and its last call.
-ghost use Rattle.std.specs.Prelude.{◌≡◌, ◌<◌, Some, None, IfOk};
+ghost use Rattle.std.specs.Prelude.{◌≡◌, ◌<◌, Some, None, true, false, IfOk};
 ghost use Rattle.anti_ids.specs.List.{plain};
 ghost use Rattle.anti_ids.specs.declared.limits.TheConstants.{MOST_DEPTH};
 ghost use Rattle.anti_baggage.specs.Texts.{lineage_text};
 ghost use Rattle.anti_proc.specs.Local.{Setting, Local};
-ghost use Rattle.anti_proc.specs.Meaning.{Go, after_post, answer, kind_of, leave, message};
+ghost use Rattle.anti_proc.specs.Meaning.{Go, after_post, answer, asks, kind_of, leave, message};
+ghost use Rattle.anti_proc.specs.Trees.{Ends};
 ghost use Rattle.anti_app.specs.Objects.{store_names};
-ghost use Rattle.anti_proc.specs.inner.Standing.{local_in, setting, stage_or, stage_tree};
+ghost use Rattle.anti_proc.specs.inner.Standing.{local_in, setting_in, stage_or, stage_tree};
 
 use crate::end::BodyEnd;
-use crate::given::Given;
 use crate::next::{After, Next, Stage};
-use crate::state::Draft;
 use crate::task::Duty;
-use anti_app::{App, store_names};
+use crate::way::Way;
+use anti_app::store_names;
 use anti_baggage::Baggage;
 use anti_ids::{Copies, Name, NoMemory, Value};
 use anti_kind::{Call, Handle, Message, MessageKind, Reply};
-use std::alloc::Global;
-
-// The text of what a process carries. Its last baggage serves again where it is that text.
-fn baggage(alloc: Global, app: &App, draft: &Draft) -> Result<Baggage, NoMemory>
-    ensures { IfOk result (λ text. text ≡ plain (lineage_text (store_names app.now) draft.now.changes.carried)) }
-{
-    let names = store_names(alloc, app)?;
-    let carried = &draft.changes.carried;
-    match draft.posted {
-        Some(posted) => posted.again(alloc, names.as_slice(), carried),
-        None => Baggage::of(alloc, names.as_slice(), carried),
-    }
-}
 
 // The kind of a message whose reply sets a variable, or which has no reply.
 fn kind_of(variable: &Option<Name>) -> MessageKind
@@ -39,59 +26,6 @@ fn kind_of(variable: &Option<Name>) -> MessageKind
         Some(_) => MessageKind::Call,
         None => MessageKind::Send,
     }
-}
-
-/// The message of a call or a send to a handler, which is not too deep.
-pub fn message(
-    given: &Given,
-    draft: &Draft,
-    app: &App,
-    variable: &Option<Name>,
-    handler: Name,
-    value: Value,
-) -> Result<Handle<Message>, NoMemory>
-    requires { given.now.role.depth < MOST_DEPTH }
-    ensures { IfOk result (λ m. m ≡ message (kind_of variable.now) (setting app.now given.now)
-        (local_in draft.now) handler value) }
-{
-    let baggage = baggage(given.alloc, app, draft)?;
-    Handle::new(
-        given.alloc,
-        Message {
-            kind: kind_of(variable),
-            to: 0,
-            depth: given.role.depth + 1,
-            handler,
-            value,
-            baggage,
-        },
-    )
-}
-
-// The reply to the call of a number, by a handler.
-fn answer(
-    given: &Given,
-    draft: &Draft,
-    app: &App,
-    number: u32,
-    handler: Name,
-) -> Result<Handle<Message>, NoMemory>
-    ensures { IfOk result (λ m. m
-        ≡ answer (setting app.now given.now) (local_in draft.now) number handler) }
-{
-    let value = draft.changes.reply.copy(given.alloc)?;
-    let baggage = baggage(given.alloc, app, draft)?;
-    Handle::new(
-        given.alloc,
-        Message {
-            kind: MessageKind::Reply,
-            to: number,
-            depth: 0,
-            handler,
-            value,
-            baggage,
-        },
-    )
 }
 
 /// What is next after a message was posted to an inbox: the reply to a call is to be taken, and a send has none.
@@ -109,43 +43,128 @@ pub fn hear(inbox: u32, variable: Option<Name>, reply: &Reply) -> Option<Stage>
     }
 }
 
-/// The end, which is good behind the last statement of the body. A process that owes something does it first.
-pub fn leave(
-    given: &Given,
-    draft: &Draft,
-    app: &App,
-    good: bool,
-    end: BodyEnd,
-) -> Result<Stage, NoMemory>
-    ensures { IfOk result (λ stage. (go : Go)
-        → stage_tree stage (setting app.now given.now) (local_in draft.now) go
-        ≡ leave good (setting app.now given.now) end (local_in draft.now)) }
+// The last call of a process, behind which it is at its end.
+fn last(object: u32, call: Call, end: BodyEnd) -> Stage
+    ensures { (s : Setting) (l : Local) (go : Go) → stage_tree result s l go
+        ≡ asks object call l (λ reply. Ends end) }
 {
-    match given.role.duty {
-        Duty::Free => Ok(Stage::Over(end)),
-        Duty::Answers {
-            inbox,
-            number,
-            handler,
-        } => {
-            let message = answer(given, draft, app, number, handler)?;
-            Ok(Stage::Asks(Next {
-                object: inbox,
-                call: Call::Post { message },
-                after: After::Left(end),
-            }))
+    Stage::Asks(Next {
+        object,
+        call,
+        after: After::Left(end),
+    })
+}
+
+impl<'a> Way<'a> {
+    // The text of what a process carries. Its last baggage serves again where it is that text.
+    fn baggage(&self) -> Result<Baggage, NoMemory>
+        ensures { IfOk result (λ text. text
+            ≡ plain (lineage_text (store_names self.now.app.now) self.now.changes.carried)) }
+    {
+        let alloc = self.given.alloc;
+        let names = store_names(alloc, self.app)?;
+        let carried = &self.changes.carried;
+        match self.posted {
+            Some(posted) => posted.again(alloc, names.as_slice(), carried),
+            None => Baggage::of(alloc, names.as_slice(), carried),
         }
-        Duty::Works { store, version } => {
-            let call = if good {
-                Call::Ack { version }
-            } else {
-                Call::Nack { version }
-            };
-            Ok(Stage::Asks(Next {
-                object: store,
-                call,
-                after: After::Left(end),
-            }))
+    }
+
+    /// The message of a call or a send to a handler, which is not too deep.
+    pub fn message(
+        &self,
+        variable: &Option<Name>,
+        handler: Name,
+        value: Value,
+    ) -> Result<Handle<Message>, NoMemory>
+        requires { self.now.given.now.role.depth < MOST_DEPTH }
+        ensures { IfOk result (λ m. m
+            ≡ message (kind_of variable.now) (setting_in self.now) (local_in self.now) handler value) }
+    {
+        let baggage = self.baggage()?;
+        Handle::new(
+            self.given.alloc,
+            Message {
+                kind: kind_of(variable),
+                to: 0,
+                depth: self.given.role.depth + 1,
+                handler,
+                value,
+                baggage,
+            },
+        )
+    }
+
+    // The reply to the call of a number, by a handler.
+    fn answer(&self, number: u32, handler: Name) -> Result<Handle<Message>, NoMemory>
+        ensures { IfOk result (λ m. m
+            ≡ answer (setting_in self.now) (local_in self.now) number handler) }
+    {
+        let value = self.changes.reply.copy(self.given.alloc)?;
+        let baggage = self.baggage()?;
+        Handle::new(
+            self.given.alloc,
+            Message {
+                kind: MessageKind::Reply,
+                to: number,
+                depth: 0,
+                handler,
+                value,
+                baggage,
+            },
+        )
+    }
+
+    // The end of a process that was called, which posts its reply first.
+    fn replies(
+        &self,
+        inbox: u32,
+        number: u32,
+        handler: Name,
+        end: BodyEnd,
+    ) -> Result<Stage, NoMemory>
+        ensures { IfOk result (λ stage. (go : Go)
+            → stage_tree stage (setting_in self.now) (local_in self.now) go
+            ≡ asks inbox (Call.Post (answer (setting_in self.now) (local_in self.now) number handler))
+            (local_in self.now) (λ reply. Ends end)) }
+    {
+        let message = self.answer(number, handler)?;
+        Ok(last(inbox, Call::Post { message }, end))
+    }
+
+    /// The end behind the last statement of the body. A process that owes something does it first: it acks the message of a queue.
+    pub fn ends(&self) -> Result<Stage, NoMemory>
+        ensures { IfOk result (λ stage. (go : Go)
+            → stage_tree stage (setting_in self.now) (local_in self.now) go
+            ≡ leave true (setting_in self.now) BodyEnd.Fine (local_in self.now)) }
+    {
+        match self.given.role.duty {
+            Duty::Free => Ok(Stage::Over(BodyEnd::Fine)),
+            Duty::Answers {
+                inbox,
+                number,
+                handler,
+            } => self.replies(inbox, number, handler, BodyEnd::Fine),
+            Duty::Works { store, version } => {
+                Ok(last(store, Call::Ack { version }, BodyEnd::Fine))
+            }
+        }
+    }
+
+    /// An end before that. A process that owes something does it first: it nacks the message of a queue.
+    pub fn nack(&self, end: BodyEnd) -> Result<Option<Stage>, NoMemory>
+        ensures { IfOk result (λ stage. (go : Go)
+            → stage_or stage (setting_in self.now) (local_in self.now) go
+            ≡ leave false (setting_in self.now) end (local_in self.now)) }
+    {
+        match self.given.role.duty {
+            Duty::Free => Ok(Some(Stage::Over(end))),
+            Duty::Answers {
+                inbox,
+                number,
+                handler,
+            } => Ok(Some(self.replies(inbox, number, handler, end)?)),
+            Duty::Works { store, version } => Ok(Some(last(store, Call::Nack { version }, end))),
         }
     }
 }

@@ -53,7 +53,7 @@ pub enum Stage {
     Over(BodyEnd),
 }
 
-// These looks, the last first.
+/// These looks, the last first.
 pub fn last_first(alloc: Global, mut looks: Looks) -> Result<Looks, NoMemory>
     ensures { IfOk result (λ turned. turned.items ≡ reverse looks.items) }
 {

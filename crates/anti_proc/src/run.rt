@@ -1,26 +1,25 @@
-ghost use Rattle.std.specs.Prelude.{◌≡◌, ◌<◌, Some, None, Err, true, false, IfOk, OnOk, OnErr, Ok};
+ghost use Rattle.std.specs.Prelude.{◌≡◌, ◌<◌, None, [], IfOk, OnOk};
 ghost use Rattle.anti_app.specs.declared.app.App.{App};
 ghost use Rattle.anti_app.specs.Objects.{body_of};
 ghost use Rattle.anti_app.specs.Running.{CanRun};
 ghost use Rattle.anti_proc.specs.declared.given.Given.{Given};
-ghost use Rattle.anti_proc.specs.Foreign.{is_foreign};
 ghost use Rattle.anti_proc.specs.Meaning.{after_read, after_reply, after_write, body_tree, task_tree, wrote};
 ghost use Rattle.anti_proc.specs.Local.{set_or};
 ghost use Rattle.anti_proc.specs.Trees.{branch};
 ghost use Rattle.anti_proc.specs.inner.Going.{going_tree};
 ghost use Rattle.anti_proc.specs.inner.Running.{AdvanceHasSpans, HasSpans, LifeHasSpans};
-ghost use Rattle.anti_proc.specs.inner.Standing.{full_in, going, life_tree, local_by, local_in, local_of, run_after, run_going, run_of, setting, stage_or, stage_tree, variables_in};
+ghost use Rattle.anti_proc.specs.inner.Standing.{full_in, going, life_tree, local_by, local_in, local_of, run_after, run_going, run_of, setting, setting_in, stage_or, stage_tree};
 ghost use Rattle.anti_proc.specs.inner.Statements.{came_by};
 
 use crate::cursor::Cursor;
 use crate::end::BodyEnd;
 use crate::given::Given;
-use crate::messages::{hear, leave};
+use crate::messages::hear;
 use crate::next::{After, Next, Stage, look_of};
-use crate::state::{Changes, Draft, Since, State, set_or};
-use crate::statements::{Does, run};
+use crate::state::{Changes, Since, State, set_or};
 use crate::task::Task;
 use crate::variables::{Binding, Variable};
+use crate::way::Way;
 use anti_app::{App, body_of};
 use anti_baggage::Baggage;
 use anti_ids::{Copies, Lineage, Name, NoMemory, WriteId};
@@ -69,65 +68,77 @@ pub enum Advance {
     Full(u32),
 }
 
-// A handler on its way from one call to the next.
-#[derive(Drop)]
-struct Way<'g, 'o> {
-    given: &'g Given,
-    cursor: Cursor,
-    draft: Draft<'o>,
-}
-
-impl<'g, 'o> Way<'g, 'o> {
+impl<'a> Way<'a> {
     // Goes on to the next call of the body, past the statements that make none.
-    fn settle(&mut self, app: &App) -> Result<Stage, NoMemory>
-        requires app { CanRun app.now }
-        requires spans { HasSpans app.now self.old.given.now.role self.old.cursor
-            self.old.draft.changes.span }
+    fn settle(&mut self) -> Result<Stage, NoMemory>
+        requires app { CanRun self.old.app.now }
+        requires spans { HasSpans self.old.app.now self.old.given.now.role self.old.cursor
+            self.old.changes.span }
         ensures goes { IfOk result (λ stage.
-            stage_tree stage (setting app.now self.old.given.now) (local_in self.new.draft)
-            (going app.now self.old.given.now self.new.cursor)
-            ≡ going app.now self.old.given.now self.old.cursor (local_in self.old.draft)) }
-        ensures spans { OnOk result
-            (HasSpans app.now self.old.given.now.role self.new.cursor self.new.draft.changes.span) }
-        ensures before { self.new.draft.before ≡ self.old.draft.before }
+            stage_tree stage (setting_in self.old) (local_in self.new)
+            (going self.old.app.now self.old.given.now self.new.cursor)
+            ≡ going self.old.app.now self.old.given.now self.old.cursor (local_in self.old)) }
+        ensures spans { OnOk result (HasSpans self.old.app.now self.old.given.now.role
+            self.new.cursor self.new.changes.span) }
+        ensures before { self.new.before ≡ self.old.before }
     {
-        let body = body_of(app, self.given.role.service, self.given.role.handler);
+        let body = body_of(self.app, self.given.role.service, self.given.role.handler);
         while let Some(statement) = self.cursor.next_line(body) {
-            match run(self.given, &mut self.draft, app, statement)? {
-                Does::Stage(stage) => return Ok(stage),
-                Does::On => {}
-                Does::Block(turns) => self.cursor.enter(turns)?,
+            let turns = self.turns_of(statement);
+            self.cursor.enter(turns)?;
+            match self.run(statement)? {
+                Some(stage) => return Ok(stage),
+                None => {}
             }
         }
-        leave(self.given, &self.draft, app, true, BodyEnd::Fine)
+        self.ends()
     }
 
     // How it goes on to the call that is next, or how it ends.
     fn going(self, stage: Stage) -> Result<Going, BodyEnd>
         ensures goes { (app : App) (given : Given) → let way = self.entry in
-            going_tree app given way.draft.before.now result
-            ≡ stage_tree stage (setting app given) (local_in way.draft)
-            (going app given way.cursor) }
+            going_tree app given way.before.now result
+            ≡ stage_tree stage (setting app given) (local_in way) (going app given way.cursor) }
         ensures spans { let way = self.entry in IfOk result (λ g. (g.cursor ≡ way.cursor)
-            × (g.changes.span ≡ way.draft.changes.span)) }
+            × (g.changes.span ≡ way.changes.span)) }
     {
         let Way {
-            given: _,
             cursor,
-            draft,
+            changes,
+            ..
         } = self;
         match stage {
             Stage::Over(end) => Err(end),
             Stage::Asks(next) => Ok(Going {
                 cursor,
-                changes: draft.changes,
+                changes,
                 next,
             }),
         }
     }
+
+    // How it goes on to the call or the end that is given, or, where none is, by what its body does then.
+    fn go(mut self, stage: Option<Stage>) -> Result<Result<Going, BodyEnd>, NoMemory>
+        requires app { CanRun self.app.now }
+        requires spans { HasSpans self.app.now self.given.now.role self.cursor self.changes.span }
+        ensures goes { let way = self.entry in IfOk result (λ gone.
+            going_tree way.app.now way.given.now way.before.now gone
+            ≡ stage_or stage (setting_in way) (local_in way)
+            (going way.app.now way.given.now way.cursor)) }
+        ensures spans { let way = self.entry in IfOk result (λ gone. IfOk gone (λ g.
+            HasSpans way.app.now way.given.now.role g.cursor g.changes.span)) }
+    {
+        match stage {
+            Some(stage) => Ok(self.going(stage)),
+            None => {
+                let stage = self.settle()?;
+                Ok(self.going(stage))
+            }
+        }
+    }
 }
 
-// What a process is that begins a task, with the message with which it came.
+/// What a process is that begins a task, with the message with which it came.
 pub fn begun(
     alloc: Global,
     app: &App,
@@ -148,25 +159,25 @@ pub fn begun(
         return Ok(Life::Over(BodyEnd::LineageFull));
     };
     let given = Given { alloc, role, input };
-    run_from(app, given, State::first(alloc, carried), posted)
+    first_run(app, given, Changes::first(alloc, carried), posted)
 }
 
-// What a process is that begins its body with a state, in its first span.
-fn run_from(
+// What a process is that begins its body, in its first span, and knows this.
+fn first_run(
     app: &App,
     given: Given,
-    mut state: State,
+    changes: Changes,
     posted: Option<Handle<Message>>,
 ) -> Result<Life, NoMemory>
     requires app { CanRun app.now }
-    requires first { state.span ≡ 1 }
+    requires first { changes.span ≡ 1 }
     ensures tree { IfOk result (λ life. life_tree app.now life
         ≡ body_tree (body_of app.now given.role.service given.role.handler)
-        (setting app.now given) (local_of state)) }
+        (setting app.now given) (local_by changes [])) }
     ensures spans { IfOk result (λ life. LifeHasSpans app.now life) }
     ensures full { IfOk result (λ life. full_in life ≡ None) }
 {
-    let Ok(gone) = set_out(app, &given, &state, baggage_of(&posted)) else {
+    let Ok(gone) = set_out(app, &given, changes, baggage_of(&posted)) else {
         return Err(NoMemory);
     };
     match gone {
@@ -177,10 +188,9 @@ fn run_from(
                 changes,
                 next,
             } = going;
-            let Ok(()) = state.make_room() else {
+            let Ok(state) = State::first(given.alloc, changes) else {
                 return Err(NoMemory);
             };
-            state.take(given.alloc, changes);
             Ok(Life::Runs(Run {
                 given,
                 cursor,
@@ -193,30 +203,30 @@ fn run_from(
 }
 
 // How a process that begins its body goes on to its first call, or how it ends before.
-fn set_out(
-    app: &App,
-    given: &Given,
-    state: &State,
-    posted: Option<&Baggage>,
+fn set_out<'a>(
+    app: &'a App,
+    given: &'a Given,
+    changes: Changes,
+    posted: Option<&'a Baggage>,
 ) -> Result<Result<Going, BodyEnd>, NoMemory>
     requires app { CanRun app.now }
-    requires first { state.now.span ≡ 1 }
-    ensures tree { IfOk result (λ gone.
-        going_tree app.now given.now state.now.variables.items gone
+    requires first { changes.span ≡ 1 }
+    ensures tree { IfOk result (λ gone. going_tree app.now given.now [] gone
         ≡ body_tree (body_of app.now given.now.role.service given.now.role.handler)
-        (setting app.now given.now) (local_of state.now)) }
+        (setting app.now given.now) (local_by changes [])) }
     ensures spans { IfOk result (λ gone. IfOk gone (λ g.
         HasSpans app.now given.now.role g.cursor g.changes.span)) }
 {
-    let draft = state.draft(given.alloc, Since::Same, posted)?;
     let cursor = Cursor::start(given.alloc);
-    let mut way = Way {
+    let way = Way {
+        app,
         given,
+        before: &[],
+        posted,
         cursor,
-        draft,
+        changes,
     };
-    let stage = way.settle(app)?;
-    Ok(way.going(stage))
+    way.go(None)
 }
 
 // The baggage of a message, where there is one.
@@ -243,47 +253,42 @@ impl Run {
         }
     }
 
-    // The changes with which it sets out to its next call.
-    fn draft(&self, since: Since) -> Result<Draft<'_>, NoMemory>
-        ensures local { IfOk result (λ d. local_in d
-            ≡ record (local_of self.now.state) {
-              variables = variables_in since
-                  self.now.state.variables.items;
-            }) }
-        ensures before { IfOk result (λ d. d.before.now ≡ self.now.state.variables.items) }
-    {
-        self.state
-            .draft(self.given.alloc, since, self.last_baggage())
-    }
-
     // What becomes of the process by some changes and the call or the end that is given, or, where none is, by what its body does then.
-    fn go_on(&self, app: &App, draft: Draft, stage: Option<Stage>) -> Result<Advance, NoMemory>
+    fn go_on<'a>(
+        &'a self,
+        app: &'a App,
+        changes: Changes,
+        stage: Option<Stage>,
+    ) -> Result<Advance, NoMemory>
         requires app { CanRun app.now }
-        requires spans { HasSpans app.now self.now.given.role self.now.cursor draft.changes.span }
-        requires before { draft.before.now ≡ self.now.state.variables.items }
+        requires spans { HasSpans app.now self.now.given.role self.now.cursor changes.span }
         ensures goes { IfOk result (λ a. run_after app.now self.now a
-            ≡ stage_or stage (setting app.now self.now.given) (local_in draft.entry)
+            ≡ stage_or stage (setting app.now self.now.given)
+            (local_by changes self.now.state.variables.items)
             (going app.now self.now.given self.now.cursor)) }
         ensures spans { IfOk result (λ a. AdvanceHasSpans app.now (Life.Runs self.now) a) }
     {
         let Ok(cursor) = self.cursor.copy(self.given.alloc) else {
             return Err(NoMemory);
         };
-        let mut way = Way {
+        let before = self.state.variables.as_slice();
+        let way = Way {
+            app,
             given: &self.given,
+            before,
+            posted: self.last_baggage(),
             cursor,
-            draft,
+            changes,
         };
-        let stage = match stage {
-            Some(stage) => stage,
-            None => way.settle(app)?,
+        let Ok(gone) = way.go(stage) else {
+            return Err(NoMemory);
         };
-        match way.going(stage) {
+        match gone {
+            Err(end) => Ok(Advance::Over(end)),
             Ok(going) => match Box::new(self.given.alloc, going) {
                 Ok(going) => Ok(Advance::Goes(going)),
                 Err(_) => Err(NoMemory),
             },
-            Err(end) => Ok(Advance::Over(end)),
         }
     }
 
@@ -304,13 +309,12 @@ impl Run {
         ensures spans { IfOk result (λ a. AdvanceHasSpans app.now (Life.Runs self.now) a) }
     {
         let since = set_or(variable, Binding::Wrote(*id));
-        let mut draft = self.draft(since)?;
-        let stage = if untracked {
-            None
-        } else {
-            draft.add_write(id)?
-        };
-        self.go_on(app, draft, stage)
+        let mut changes = self.state.changes(self.given.alloc, since)?;
+        if untracked {
+            return self.go_on(app, changes, None);
+        }
+        let stage = changes.add_write(id)?;
+        self.go_on(app, changes, stage)
     }
 
     // What the reply to a write makes of it.
@@ -360,8 +364,8 @@ impl Run {
             }),
             _ => Since::Same,
         };
-        let draft = self.draft(since)?;
-        self.go_on(app, draft, None)
+        let changes = self.state.changes(self.given.alloc, since)?;
+        self.go_on(app, changes, None)
     }
 
     // What the reply to a call of a handler makes of it, which brings a lineage.
@@ -388,9 +392,9 @@ impl Run {
             name: variable,
             held: Binding::Heard(value),
         });
-        let mut draft = self.draft(since)?;
-        let stage = draft.carry(brought)?;
-        self.go_on(app, draft, stage)
+        let mut changes = self.state.changes(self.given.alloc, since)?;
+        let stage = changes.carry(brought)?;
+        self.go_on(app, changes, stage)
     }
 
     // What becomes of it where nothing changes, by the call that is given, or, where none is, by what its body does then.
@@ -402,8 +406,8 @@ impl Run {
             (going app.now self.now.given self.now.cursor)) }
         ensures spans { IfOk result (λ a. AdvanceHasSpans app.now (Life.Runs self.now) a) }
     {
-        let draft = self.draft(Since::Same)?;
-        self.go_on(app, draft, stage)
+        let changes = self.state.changes(self.given.alloc, Since::Same)?;
+        self.go_on(app, changes, stage)
     }
 
     /// What the reply to its next call makes of it, which brings a lineage.

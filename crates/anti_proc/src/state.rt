@@ -1,13 +1,13 @@
-ghost use Rattle.std.specs.Prelude.{◌≡◌, Some, ◌+◌, ◌^◌, ◌<◌, ◌≤◌, [], true, IfOk, OnOk, OnErr, option_map};
-ghost use Rattle.anti_proc.specs.Local.{Local, Setting, first_local, held_in, is_absent, new_span, removed, held, rooted, set_or};
+ghost use Rattle.std.specs.Prelude.{◌≡◌, Some, ◌<◌, [], List as Items, IfOk, OnOk, OnErr};
+ghost use Rattle.anti_proc.specs.Local.{first_local, Local, set_or, Setting};
 ghost use Rattle.anti_proc.specs.Meaning.{Go, add, carry};
 ghost use Rattle.anti_ids.specs.Ids.{with_ids};
-ghost use Rattle.anti_proc.specs.inner.Standing.{local_by, local_in, local_of, stage_or, variables_in};
+ghost use Rattle.anti_proc.specs.declared.variables.Variable.{Variable};
+ghost use Rattle.anti_proc.specs.inner.Standing.{local_by, local_of, stage_or, variables_in};
 
-use crate::additions::{add, all_absent, carry};
+use crate::additions::{add, carry};
 use crate::next::Stage;
-use crate::variables::{Binding, Variable, Variables, held_in, set};
-use anti_baggage::Baggage;
+use crate::variables::{Binding, Variable, Variables, set};
 use anti_ids::{Copies, Lineage, List, Name, NoMemory, Value, WriteId};
 use std::alloc::Global;
 
@@ -45,29 +45,28 @@ pub struct Changes {
     pub since: Since,
 }
 
-/// The changes of a process, which itself changes when there was memory for all of them.
-#[derive(Drop)]
-pub struct Draft<'a> {
-    pub changes: Changes,
-    /// The variables that it had.
-    pub before: &'a [Variable],
-    /// The baggage that it posted last or came with, which may serve again.
-    pub posted: Option<&'a Baggage>,
-}
-
 impl State {
-    /// What a process knows that begins with a lineage. It takes no memory.
-    pub fn first(alloc: Global, carried: Lineage) -> State
-        ensures local { local_of result ≡ record first_local { carried = carried } }
-        ensures variables { result.variables.items ≡ [] }
+    // What nothing is known in. It takes no memory.
+    fn empty(alloc: Global) -> State
+        ensures { result.variables.items ≡ [] }
     {
         State {
             span: 1,
             stopped: false,
-            carried,
+            carried: Lineage::root(alloc),
             variables: List::new(alloc),
             reply: Value::empty(alloc),
         }
+    }
+
+    /// What a process knows after its first changes, before which no variable was set.
+    pub fn first(alloc: Global, changes: Changes) -> Result<State, NoMemory>
+        ensures { IfOk result (λ s. local_of s ≡ local_by changes []) }
+    {
+        let mut state = State::empty(alloc);
+        state.make_room()?;
+        state.take(alloc, changes);
+        Ok(state)
     }
 
     /// Makes room for one variable more.
@@ -79,32 +78,22 @@ impl State {
         self.variables.reserve(1)
     }
 
-    /// The changes with which a process sets out to its next call.
-    pub fn draft<'a>(
-        &'a self,
-        alloc: Global,
-        since: Since,
-        posted: Option<&'a Baggage>,
-    ) -> Result<Draft<'a>, NoMemory>
-        ensures local { IfOk result (λ d. local_in d
+    /// What a process knows as it sets out to its next call.
+    pub fn changes(&self, alloc: Global, since: Since) -> Result<Changes, NoMemory>
+        ensures { IfOk result (λ c. local_by c self.now.variables.items
             ≡ record (local_of self.now) {
               variables = variables_in since
                   self.now.variables.items;
             }) }
-        ensures before { IfOk result (λ d. d.before.now ≡ self.now.variables.items) }
     {
         let carried = self.carried.copy(alloc)?;
         let reply = self.reply.copy(alloc)?;
-        Ok(Draft {
-            changes: Changes {
-                span: self.span,
-                stopped: self.stopped,
-                carried,
-                reply,
-                since,
-            },
-            before: self.variables.as_slice(),
-            posted,
+        Ok(Changes {
+            span: self.span,
+            stopped: self.stopped,
+            carried,
+            reply,
+            since,
         })
     }
 
@@ -143,117 +132,39 @@ pub fn set_or(variable: Option<Name>, held: Binding) -> Since
     }
 }
 
-// What a variable holds, by what became of the variables that there were.
-#[tactic(auto, using(crate::proofs::Setting::held_set, crate::proofs::Setting::held_other))]
-fn held_since<'a>(since: &'a Since, before: &'a [Variable], name: &Name) -> Option<&'a Binding>
-    ensures { option_map (λ held. held.now) result
-        ≡ held_in (variables_in since.now before.now) name.now }
-{
-    match since {
-        Since::Same => held_in(before, name),
-        Since::Set(variable) if variable.name == *name => Some(&variable.held),
-        Since::Set(_) => held_in(before, name),
-        Since::Forgotten => None,
-    }
-}
-
-impl<'a> Draft<'a> {
-    /// What a variable holds, where it is set.
-    pub fn held(&self, name: &Name) -> Option<&Binding>
-        ensures { option_map (λ held. held.now) result ≡ held (local_in self.now) name.now }
+impl Changes {
+    /// What a process knows that begins with a lineage. It takes no memory.
+    pub fn first(alloc: Global, carried: Lineage) -> Changes
+        ensures local { local_by result [] ≡ record first_local { carried = carried } }
+        ensures span { result.span ≡ 1 }
     {
-        held_since(&self.changes.since, self.before, name)
-    }
-
-    // Begins a new span.
-    fn begin_span(&mut self, alloc: Global, stopped: bool)
-        requires { self.old.changes.span + 1 < 2 ^ 32 }
-        ensures local { local_in self.new ≡ new_span stopped (local_in self.old) }
-        ensures before { self.new.before ≡ self.old.before }
-    {
-        self.changes.span += 1;
-        self.changes.stopped = stopped;
-        self.changes.carried = Lineage::root(alloc);
-        self.changes.since = Since::Forgotten;
-    }
-
-    /// Runs `stop`. It takes no memory.
-    pub fn stop(&mut self, alloc: Global)
-        requires { self.old.changes.span + 1 < 2 ^ 32 }
-        ensures local { local_in self.new ≡ new_span true (local_in self.old) }
-        ensures before { self.new.before ≡ self.old.before }
-    {
-        self.begin_span(alloc, true);
-    }
-
-    /// Runs `root`. It takes no memory.
-    pub fn root(&mut self, alloc: Global)
-        requires { self.old.changes.span + 1 < 2 ^ 32 }
-        ensures local { local_in self.new ≡ rooted self.old.changes.stopped (local_in self.old) }
-        ensures span { self.new.changes.span ≤ self.old.changes.span + 1 }
-        ensures before { self.new.before ≡ self.old.before }
-    {
-        if self.changes.stopped {
-            self.changes.stopped = false;
-        } else {
-            self.begin_span(alloc, false);
+        Changes {
+            span: 1,
+            stopped: false,
+            carried,
+            reply: Value::empty(alloc),
+            since: Since::Same,
         }
-    }
-
-    /// Runs `remove`. It takes no memory.
-    pub fn remove(&mut self, variable: &Name)
-        ensures local { local_in self.new ≡ record (local_in self.old) {
-          carried = removed (held (local_in self.old) variable.now) self.old.changes.carried;
-        } }
-        ensures before { self.new.before ≡ self.old.before }
-    {
-        if let Some(Binding::Wrote(id)) = held_since(&self.changes.since, self.before, variable) {
-            self.changes.carried.remove(id);
-        }
-    }
-
-    /// Whether the block of an `if` is run. It takes no memory.
-    pub fn is_absent(&self, variable: &Name) -> bool
-        ensures { result ≡ is_absent (held (local_in self.now) variable.now) }
-    {
-        match self.held(variable) {
-            Some(Binding::Saw { rows, .. }) => all_absent(rows.as_slice()),
-            _ => true,
-        }
-    }
-
-    /// Runs `append` and `transfer`: adds the ids of what a variable holds to the lineage. Where they are too many the process ends.
-    pub fn add(&mut self, variable: &Name) -> Result<Option<Stage>, NoMemory>
-        ensures goes { IfOk result (λ stage. (s : Setting) (go : Go)
-            → stage_or stage s (local_in self.new) go
-            ≡ add (held (local_in self.old) variable.now) (local_in self.old) go) }
-        ensures span { OnOk result (self.new.changes.span ≡ self.old.changes.span) }
-        ensures before { self.new.before ≡ self.old.before }
-    {
-        let held = held_since(&self.changes.since, self.before, variable);
-        add(&mut self.changes.carried, held)
     }
 
     /// Adds the id of a write to the lineage. Where there are too many the process ends.
     pub fn add_write(&mut self, id: &WriteId) -> Result<Option<Stage>, NoMemory>
-        ensures goes { IfOk result (λ stage. (s : Setting) (go : Go)
-            → stage_or stage s (local_in self.new) go
-            ≡ add (Some (Binding.Wrote id.now)) (local_in self.old) go) }
-        ensures span { OnOk result (self.new.changes.span ≡ self.old.changes.span) }
-        ensures before { self.new.before ≡ self.old.before }
+        ensures goes { IfOk result (λ stage. (before : Items Variable) (s : Setting) (go : Go)
+            → stage_or stage s (local_by self.new before) go
+            ≡ add (Some (Binding.Wrote id.now)) (local_by self.old before) go) }
+        ensures span { OnOk result (self.new.span ≡ self.old.span) }
     {
         let held = Binding::Wrote(*id);
-        add(&mut self.changes.carried, Some(&held))
+        add(&mut self.carried, Some(&held))
     }
 
     /// Adds the ids of a lineage to the lineage. Where there are too many the process ends.
     pub fn carry(&mut self, more: &Lineage) -> Result<Option<Stage>, NoMemory>
-        ensures goes { IfOk result (λ stage. (s : Setting) (go : Go)
-            → stage_or stage s (local_in self.new) go
-            ≡ carry (with_ids more.now (local_in self.old).carried) (local_in self.old) go) }
-        ensures span { OnOk result (self.new.changes.span ≡ self.old.changes.span) }
-        ensures before { self.new.before ≡ self.old.before }
+        ensures goes { IfOk result (λ stage. (before : Items Variable) (s : Setting) (go : Go)
+            → stage_or stage s (local_by self.new before) go
+            ≡ carry (with_ids more.now self.old.carried) (local_by self.old before) go) }
+        ensures span { OnOk result (self.new.span ≡ self.old.span) }
     {
-        carry(&mut self.changes.carried, more)
+        carry(&mut self.carried, more)
     }
 }

@@ -1,10 +1,9 @@
 -- What a process of the program stands for.
-use Rattle.std.specs.Prelude.{ℕ, ◌*◌, ◌<◌, Option, Some, None, List, [], reverse}
+use Rattle.std.specs.Prelude.{ℕ, ◌<◌, Option, Some, None, List, [], reverse}
 use Rattle.anti_kind.specs.declared.actor.Birth.{Birth}
 use Rattle.anti_lang.specs.Steps.{list_of}
 use Rattle.anti_lang.specs.Bodies.{block_from}
-use Rattle.anti_lang.specs.Program.{Block, Step}
-use Rattle.anti_lang.specs.Spans.{spans_of}
+use Rattle.anti_lang.specs.Program.{Step}
 use Rattle.anti_shim.specs.declared.looks.PlannedLook.{PlannedLook}
 use Rattle.anti_kind.specs.declared.call.Reply.{Reply}
 use Rattle.anti_app.specs.declared.app.App.{App}
@@ -25,17 +24,15 @@ use Rattle.anti_proc.specs.declared.run.Life.{Life}
 use Rattle.anti_proc.specs.declared.run.Life.TheVariants as lives
 use Rattle.anti_proc.specs.declared.run.Run.{Run}
 use Rattle.anti_proc.specs.declared.state.Changes.{Changes}
-use Rattle.anti_proc.specs.declared.state.Draft.{Draft}
 use Rattle.anti_proc.specs.declared.state.Since.{Since}
 use Rattle.anti_proc.specs.declared.state.Since.TheVariants as sinces
 use Rattle.anti_proc.specs.declared.state.State.{State}
-use Rattle.anti_proc.specs.declared.statements.Does.{Does}
-use Rattle.anti_proc.specs.declared.statements.Does.TheVariants as does
 use Rattle.anti_proc.specs.declared.task.Role.{Role}
 use Rattle.anti_proc.specs.declared.variables.Variable.{Variable}
+use Rattle.anti_proc.specs.declared.way.Way.{Way}
 use Rattle.anti_proc.specs.Local.{Setting, Local, with_held}
-use Rattle.anti_proc.specs.Meaning.{Go, after_post, after_read, after_reply, after_write, block_tree, body_tree, looks, turns}
-use Rattle.anti_proc.specs.inner.Cursors.{block_weight, left_at}
+use Rattle.anti_proc.specs.Meaning.{Go, after_post, after_read, after_reply, after_write, body_tree, looks}
+use Rattle.anti_proc.specs.inner.Cursors.{left_at}
 use Rattle.anti_proc.specs.Trees.{Ask, Tree, Asks, Ends}
 
 -- ---- what it knows
@@ -74,8 +71,12 @@ local_by c before = record {
   reply = c.reply;
 }
 
-abbrev pub local_in : Draft → Local
-local_in d = local_by d.changes d.before.now
+-- where a handler runs that is on its way, and what it knows by now
+abbrev pub setting_in : Way → Setting
+setting_in way = setting way.app.now way.given.now
+
+abbrev pub local_in : Way → Local
+local_in way = local_by way.changes way.before.now
 
 -- ---- what is left of its body
 
@@ -123,28 +124,6 @@ stage_tree (stages.Over end) s l go = Ends end
 abbrev pub stage_or : Option Stage → Setting → Local → Go → Tree
 stage_or (Some stage) s l go = stage_tree stage s l go
 stage_or None s l go = go l
-
--- what a statement comes to, with the block that it opens, and what follows it
-abbrev pub does_tree : Does → Block → Setting → Local → Go → Tree
-does_tree (does.Stage stage) block s l go = stage_tree stage s l go
-does_tree does.On block s l go = go l
-does_tree (does.Block count) block s l go = turns count (block_tree block s) l go
-
--- how many spans are begun in what it comes to, and how much is run there
-abbrev pub spans_done : Does → Block → ℕ
-spans_done (does.Stage stage) block = 0
-spans_done does.On block = 0
-spans_done (does.Block count) block = count * spans_of block
-
-abbrev pub weight_done : Does → Block → ℕ
-weight_done (does.Stage stage) block = 0
-weight_done does.On block = 0
-weight_done (does.Block count) block = count * block_weight block
-
--- a call that is next, or the end, or neither
-abbrev pub does_or : Option Stage → Does
-does_or (Some stage) = does.Stage stage
-does_or None = does.On
 
 -- ---- the process
 

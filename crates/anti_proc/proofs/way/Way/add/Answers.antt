@@ -4,7 +4,7 @@ use Rattle.std.proofs.lemmas.Result.{IfOk-weaker}
 use Rattle.anti_proc.specs.declared.variables.Binding.{Binding}
 use Rattle.anti_proc.specs.Meaning.{add}
 use Rattle.anti_proc.specs.inner.Standing.{local_in}
-use Rattle.anti_proc.proofs.state.Draft.add.Goals as goal
+use Rattle.anti_proc.proofs.way.Way.add.Goals as goal
 
 pub returns-clause-goes : goal.returns-clause-goes
 returns-clause-goes c =

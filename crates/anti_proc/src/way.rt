@@ -1,0 +1,121 @@
+ghost use Rattle.std.specs.Prelude.{◌≡◌, ◌+◌, ◌^◌, ◌<◌, ◌≤◌, true, IfOk, OnOk, option_map};
+ghost use Rattle.anti_proc.specs.Local.{Setting, held, held_in, is_absent, new_span, removed, rooted};
+ghost use Rattle.anti_proc.specs.Meaning.{Go, add};
+ghost use Rattle.anti_proc.specs.inner.Standing.{local_in, stage_or, variables_in};
+
+use crate::additions::{add, all_absent};
+use crate::cursor::Cursor;
+use crate::given::Given;
+use crate::next::Stage;
+use crate::state::{Changes, Since};
+use crate::variables::{Binding, Variable, held_in};
+use anti_app::App;
+use anti_baggage::Baggage;
+use anti_ids::{Lineage, Name, NoMemory};
+
+/// A handler on its way from one call to the next. The process itself changes when there was memory for all of it.
+#[derive(Drop)]
+pub struct Way<'a> {
+    pub app: &'a App,
+    pub given: &'a Given,
+    /// The variables that it had as it set out.
+    pub before: &'a [Variable],
+    /// The baggage that it posted last or came with, which may serve again.
+    pub posted: Option<&'a Baggage>,
+    /// How far it is in its body.
+    pub cursor: Cursor,
+    /// What it knows by now, beside those variables.
+    pub changes: Changes,
+}
+
+// What a variable holds, by what became of the variables that there were.
+#[tactic(auto, using(crate::proofs::Setting::held_set, crate::proofs::Setting::held_other))]
+fn held_since<'a>(since: &'a Since, before: &'a [Variable], name: &Name) -> Option<&'a Binding>
+    ensures { option_map (λ held. held.now) result
+        ≡ held_in (variables_in since.now before.now) name.now }
+{
+    match since {
+        Since::Same => held_in(before, name),
+        Since::Set(variable) if variable.name == *name => Some(&variable.held),
+        Since::Set(_) => held_in(before, name),
+        Since::Forgotten => None,
+    }
+}
+
+impl<'a> Way<'a> {
+    /// What a variable holds, where it is set.
+    pub fn held(&self, name: &Name) -> Option<&Binding>
+        ensures { option_map (λ held. held.now) result ≡ held (local_in self.now) name.now }
+    {
+        held_since(&self.changes.since, self.before, name)
+    }
+
+    // Begins a new span.
+    fn begin_span(&mut self, stopped: bool)
+        requires { self.old.changes.span + 1 < 2 ^ 32 }
+        ensures local { local_in self.new ≡ new_span stopped (local_in self.old) }
+        ensures same { self.new ≡ record self.old { changes = self.new.changes } }
+    {
+        self.changes.span += 1;
+        self.changes.stopped = stopped;
+        self.changes.carried = Lineage::root(self.given.alloc);
+        self.changes.since = Since::Forgotten;
+    }
+
+    /// Runs `stop`. It takes no memory.
+    pub fn stop(&mut self)
+        requires { self.old.changes.span + 1 < 2 ^ 32 }
+        ensures local { local_in self.new ≡ new_span true (local_in self.old) }
+        ensures same { self.new ≡ record self.old { changes = self.new.changes } }
+    {
+        self.begin_span(true);
+    }
+
+    /// Runs `root`. It takes no memory.
+    pub fn root(&mut self)
+        requires { self.old.changes.span + 1 < 2 ^ 32 }
+        ensures local { local_in self.new ≡ rooted self.old.changes.stopped (local_in self.old) }
+        ensures span { self.new.changes.span ≤ self.old.changes.span + 1 }
+        ensures same { self.new ≡ record self.old { changes = self.new.changes } }
+    {
+        if self.changes.stopped {
+            self.changes.stopped = false;
+        } else {
+            self.begin_span(false);
+        }
+    }
+
+    /// Runs `remove`. It takes no memory.
+    pub fn remove(&mut self, variable: &Name)
+        ensures local { local_in self.new ≡ record (local_in self.old) {
+          carried = removed (held (local_in self.old) variable.now) self.old.changes.carried;
+        } }
+        ensures same { self.new ≡ record self.old { changes = self.new.changes } }
+    {
+        if let Some(Binding::Wrote(id)) = held_since(&self.changes.since, self.before, variable) {
+            self.changes.carried.remove(id);
+        }
+    }
+
+    /// Whether the block of an `if` is run. It takes no memory.
+    pub fn is_absent(&self, variable: &Name) -> bool
+        ensures { result ≡ is_absent (held (local_in self.now) variable.now) }
+    {
+        match self.held(variable) {
+            Some(Binding::Saw { rows, .. }) => all_absent(rows.as_slice()),
+            _ => true,
+        }
+    }
+
+    /// Runs `append` and `transfer`: adds the ids of what a variable holds to the lineage. Where they are too many the process ends.
+    pub fn add(&mut self, variable: &Name) -> Result<Option<Stage>, NoMemory>
+        ensures goes { IfOk result (λ stage. (s : Setting) (go : Go)
+            → stage_or stage s (local_in self.new) go
+            ≡ add (held (local_in self.old) variable.now) (local_in self.old) go) }
+        ensures span { OnOk result (self.new.changes.span ≡ self.old.changes.span) }
+        ensures same { self.new ≡ record self.old { changes = self.new.changes } }
+    {
+        let held = held_since(&self.changes.since, self.before, variable);
+        add(&mut self.changes.carried, held)
+    }
+}
