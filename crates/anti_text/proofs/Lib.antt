@@ -5,4 +5,5 @@ pub mod Items
 pub mod Looks
 pub mod Runs
 pub mod Shapes
+pub mod Summaries
 pub mod Worked

@@ -1,0 +1,12 @@
+use Rattle.std.proofs.lemmas.Result.{IfOk-weaker}
+use Rattle.anti_text.proofs.Summaries.{summary_is}
+use Rattle.anti_text.proofs.run_summary.SummaryTextForm.print.Goals as goal
+
+pub returns : goal.returns
+returns c =
+    let app = c.args.app.now in
+    let trace = c.args.trace.now in
+    let waits = c.args._waits.now.items in
+    IfOk-weaker c.print_summary.result _ _
+    (λ t is. summary_is app trace waits t.items c.in_ok-counts.counts (c.in_ok-counts.ensures waits) is)
+    c.print_summary.ensures
