@@ -31,3 +31,4 @@ pub mod Adding
 pub mod Going
 pub mod Newborn
 pub mod Shipping
+mod Worked
