@@ -6,6 +6,7 @@ pub mod MakeEntry
 pub mod NextEntry
 pub mod Chose
 pub mod GoOn
+pub mod GoNext
 pub mod Choose
 pub mod NewWorld
 pub mod IntoTrace

@@ -2,3 +2,5 @@ pub mod Attending
 pub mod Standing
 pub mod Closing
 pub mod Finishing
+pub mod Attempts
+pub mod Choosing

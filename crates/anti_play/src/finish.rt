@@ -1,15 +1,15 @@
-ghost use Rattle.std.specs.Prelude.{◌≡◌, ℕ, ◌<◌, length, vec_len, true, false, Some, Ok, OnOk, OnErr, IfSome, IsTrue};
+ghost use Rattle.std.specs.Prelude.{◌≡◌, ◌<◌, vec_len, true, Some, OnOk, OnErr, IfSome, IsTrue};
 ghost use Rattle.anti_trace.specs.Histories.{Entries};
 ghost use Rattle.anti_app.specs.Objects.{object_count};
 ghost use Rattle.anti_app.specs.declared.app.App.{App};
 ghost use Rattle.anti_app.specs.Sound.{is_sound};
-ghost use Rattle.std.specs.BTreeSet.{keys};
 ghost use Rattle.anti_kind.specs.declared.asking.Asking.{Asking};
 ghost use Rattle.anti_trace.specs.Legal.{bears};
 ghost use Rattle.anti_agenda.specs.Agendas.{IsAwake};
 ghost use Rattle.anti_play.specs.Over.{IsComplete};
 ghost use Rattle.anti_play.specs.Schedule.{bearing, finished, first_made};
-ghost use Rattle.anti_play.specs.inner.Attending.{Attends, CallWaits, IsAttended, IsRoute, Turned, asked_by_offer, entry_by_offer, region_at, with_entry};
+ghost use Rattle.anti_play.specs.inner.Attempts.{AttendsBehind, HasFewer, IsRouteTo, MakesEntry, made_by};
+ghost use Rattle.anti_play.specs.inner.Attending.{CallWaits, IsAttended, IsRoute, asked_by_offer};
 ghost use Rattle.anti_play.specs.inner.Finishing.{WentOn};
 ghost use Rattle.anti_play.specs.inner.Standing.{IsSoundWorld, IsWorldOf, WorldStands};
 
@@ -42,10 +42,8 @@ impl World {
     fn turn(&mut self, app: &App, agenda: &mut Agenda) -> Result<bool, NoMemory>
         requires sound { IsTrue (is_sound app.now) }
         requires attended { IsAttended app.now self.old agenda.old }
-        ensures chose { (trace : Entries) → WorldStands app.now self.old trace → Attends app.now trace agenda.old
-            → Turned app.now trace (first_made app.now trace) result self.new }
-        ensures attends { (trace : Entries) → WorldStands app.now self.old trace → Attends app.now trace agenda.old
-            → OnOk result (Attends app.now (with_entry (first_made app.now trace) trace) agenda.new) }
+        ensures chose { MakesEntry app.now self.old agenda.old (first_made app.now) result self.new }
+        ensures attends { AttendsBehind app.now self.old agenda.old (first_made app.now) result agenda.new }
     {
         while let Some(offer) = agenda.first() {
             if self.attempt(app, agenda, offer)? {
@@ -60,11 +58,9 @@ impl World {
         requires sound { IsTrue (is_sound app.now) }
         requires attended { IsAttended app.now self.old agenda.old }
         requires awake { IsAwake agenda.old offer }
-        ensures chose { (trace : Entries) → WorldStands app.now self.old trace → Attends app.now trace agenda.old
-            → Turned app.now trace (entry_by_offer app.now trace offer) result self.new }
-        ensures attends { (trace : Entries) → WorldStands app.now self.old trace → Attends app.now trace agenda.old
-            → OnOk result (Attends app.now (with_entry (entry_by_offer app.now trace offer) trace) agenda.new) }
-        ensures fewer { result ≡ Ok false → length (keys agenda.new.awake) < length (keys agenda.old.awake) }
+        ensures chose { MakesEntry app.now self.old agenda.old (made_by app.now offer) result self.new }
+        ensures attends { AttendsBehind app.now self.old agenda.old (made_by app.now offer) result agenda.new }
+        ensures fewer { HasFewer agenda.old result agenda.new }
     {
         match offer {
             Offer::Go { object, at } => self.attempt_go(app, agenda, offer, object, at),
@@ -100,11 +96,9 @@ impl World {
         requires attended { IsAttended app.now self.old agenda.old }
         requires awake { IsAwake agenda.old offer }
         requires is { offer ≡ Offer.Go object at }
-        ensures chose { (trace : Entries) → WorldStands app.now self.old trace → Attends app.now trace agenda.old
-            → Turned app.now trace (entry_by_offer app.now trace offer) result self.new }
-        ensures attends { (trace : Entries) → WorldStands app.now self.old trace → Attends app.now trace agenda.old
-            → OnOk result (Attends app.now (with_entry (entry_by_offer app.now trace offer) trace) agenda.new) }
-        ensures fewer { result ≡ Ok false → length (keys agenda.new.awake) < length (keys agenda.old.awake) }
+        ensures chose { MakesEntry app.now self.old agenda.old (made_by app.now offer) result self.new }
+        ensures attends { AttendsBehind app.now self.old agenda.old (made_by app.now offer) result agenda.new }
+        ensures fewer { HasFewer agenda.old result agenda.new }
     {
         let process = self.processes.get(object, at);
         let birth = process.birth();
@@ -139,11 +133,9 @@ impl World {
         requires object { object < object_count app.now }
         requires asks { (trace : Entries) → asked_by_offer app.now trace offer ≡ Some (bearing trace object call) }
         requires route { IsRoute offer → ⊥ }
-        ensures chose { (trace : Entries) → WorldStands app.now self.old trace → Attends app.now trace agenda.old
-            → Turned app.now trace (entry_by_offer app.now trace offer) result self.new }
-        ensures attends { (trace : Entries) → WorldStands app.now self.old trace → Attends app.now trace agenda.old
-            → OnOk result (Attends app.now (with_entry (entry_by_offer app.now trace offer) trace) agenda.new) }
-        ensures fewer { result ≡ Ok false → length (keys agenda.new.awake) < length (keys agenda.old.awake) }
+        ensures chose { MakesEntry app.now self.old agenda.old (made_by app.now offer) result self.new }
+        ensures attends { AttendsBehind app.now self.old agenda.old (made_by app.now offer) result agenda.new }
+        ensures fewer { HasFewer agenda.old result agenda.new }
     {
         if let Some(awaited) = self.awaits(object, &call) {
             return agenda.sleep(offer, object, awaited).and(Ok(false));
@@ -168,13 +160,11 @@ impl World {
         requires world { IsSoundWorld self.old }
         requires store { store < vec_len self.old.objects }
         requires awake { IsAwake agenda.old offer }
-        ensures chose { (app : App) (trace : Entries) (replica : ℕ) → IsTrue (is_sound app) → WorldStands app self.old trace
-            → Attends app trace agenda.old → offer ≡ Offer.Ship store replica → region_at app store replica ≡ Some region
-            → Turned app trace (entry_by_offer app trace offer) result self.new }
-        ensures attends { (app : App) (trace : Entries) (replica : ℕ) → IsTrue (is_sound app) → WorldStands app self.old trace
-            → Attends app trace agenda.old → offer ≡ Offer.Ship store replica → region_at app store replica ≡ Some region
-            → OnOk result (Attends app (with_entry (entry_by_offer app trace offer) trace) agenda.new) }
-        ensures fewer { result ≡ Ok false → length (keys agenda.new.awake) < length (keys agenda.old.awake) }
+        ensures chose { (app : App) → IsRouteTo app offer store region
+            → MakesEntry app self.old agenda.old (made_by app offer) result self.new }
+        ensures attends { (app : App) → IsRouteTo app offer store region
+            → AttendsBehind app self.old agenda.old (made_by app offer) result agenda.new }
+        ensures fewer { HasFewer agenda.old result agenda.new }
     {
         let recorded = &self.objects[store as usize];
         let Some((version, part)) = recorded.machine().next_ship(region) else {

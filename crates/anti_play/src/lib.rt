@@ -1,6 +1,7 @@
 //! Schedules: what the choices of an application make of its stores, inboxes and processes.
 #![tactic(auto)]
 
+mod choice_call;
 mod finish;
 mod first_world;
 mod laws;

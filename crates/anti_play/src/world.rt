@@ -2,13 +2,14 @@ ghost use Rattle.std.specs.Prelude.{◌≡◌, ◌<◌, length, position, Some, 
 ghost use Rattle.anti_app.specs.declared.app.App.{App};
 ghost use Rattle.anti_app.specs.Sound.{is_sound, is_sound_choice};
 ghost use Rattle.anti_trace.specs.Legal.{bears, carries};
-ghost use Rattle.anti_app.specs.Objects.{inbox_number};
 ghost use Rattle.anti_play.specs.Schedule.{bearing, carrying, chosen, clock_of, made_at};
 ghost use Rattle.anti_trace.specs.Histories.{Entries};
 ghost use Rattle.anti_trace.specs.inner.Living.{Grows, born_at, is_named, lists};
-ghost use Rattle.anti_play.specs.inner.Standing.{AllStand, Chose, IsOutcome, IsSoundWorld, IsWorldOf, MayGrow, Stops, StopsBy, WorldStands, asked_in};
+ghost use Rattle.anti_play.specs.inner.Choosing.{IsNextOf, MakesNext, StopsUnfit};
+ghost use Rattle.anti_play.specs.inner.Standing.{AllStand, Chose, IsOutcome, IsSoundWorld, IsWorldOf, MayGrow, StopsBy, WorldStands, asked_in};
 
-use anti_app::{App, Choice, inbox_number, position_on};
+use crate::choice_call::ChoiceCall;
+use anti_app::{App, Choice};
 use anti_ids::{Copies, NoMemory};
 use anti_kind::{Actor, Asking, Birth, Call, Entry, Machine, Recorded, Refusal};
 use anti_object::Object;
@@ -85,44 +86,6 @@ impl World {
         Ok(true)
     }
 
-    // Takes a delivery of a service's inbox.
-    fn take(&mut self, app: &App, service: u32, nth: u32) -> Result<bool, NoMemory>
-        requires sound { IsTrue (is_sound app.now) }
-        requires named { service < length app.now.services.items }
-        requires world { IsWorldOf app.now self.old }
-        ensures { (trace : Entries) → WorldStands app.now self.old trace
-            → Chose app.now trace (chosen app.now trace (Choice.Take service nth)) result self.new }
-    {
-        self.bear(app, inbox_number(app, service), Call::Take { nth })
-    }
-
-    // Makes the next pull of a subscription, at its store.
-    fn pull(&mut self, app: &App, number: u32) -> Result<bool, NoMemory>
-        requires sound { IsTrue (is_sound app.now) }
-        requires named { number < length app.now.subs.items }
-        requires world { IsWorldOf app.now self.old }
-        ensures { (trace : Entries) → WorldStands app.now self.old trace
-            → Chose app.now trace (chosen app.now trace (Choice.Pull number)) result self.new }
-    {
-        let store = app.subs.at(number as usize).store;
-        let sub = position_on(app, store, number);
-        self.bear(app, store, Call::Pull { sub })
-    }
-
-    // Pulls a message once more that a subscription has pulled.
-    fn repull(&mut self, app: &App, number: u32, version: u64) -> Result<bool, NoMemory>
-        requires sound { IsTrue (is_sound app.now) }
-        requires named { number < length app.now.subs.items }
-        requires world { IsWorldOf app.now self.old }
-        ensures { (trace : Entries) → WorldStands app.now self.old trace
-            → Chose app.now trace (chosen app.now trace (Choice.Repull number version))
-            result self.new }
-    {
-        let store = app.subs.at(number as usize).store;
-        let sub = position_on(app, store, number);
-        self.bear(app, store, Call::Repull { sub, version })
-    }
-
     // Makes a call of the carrier at an object.
     pub(crate) fn carry(&mut self, object: u32, call: Call) -> Result<bool, NoMemory>
         requires carried { carries call ≡ true }
@@ -159,54 +122,52 @@ impl World {
         }
     }
 
-    // Makes the next call of a process, which stands at a place among those that were born at its object. Whether it has ended or waits is
-    // tested first, in functions that have no large values of their own.
+    // Makes the next call of a process, which stands at a place among those that were born at its object. One that has ended, or waits,
+    // makes none.
     pub(crate) fn go_on(&mut self, app: &App, birth: Birth, at: usize) -> Result<bool, NoMemory>
         requires sound { IsTrue (is_sound app.now) }
         requires world { IsWorldOf app.now self.old }
         requires object { birth.object < length (lists self.old.processes) }
         requires found { position (is_named birth) (born_at (lists self.old.processes) birth.object)
             ≡ Some at }
-        ensures chose { (trace : Entries) → WorldStands app.now self.old trace
-            → Chose app.now trace (chosen app.now trace (Choice.Go birth.object birth.place))
-            result self.new }
-        ensures ended { (trace : Entries) → WorldStands app.now self.old trace
-            → OnOk result (Stops app.now trace birth (lists self.new.processes)) }
-    {
-        let Some(asked) = self.processes.get(birth.object, at).next() else {
-            return Ok(false);
-        };
-        if self.is_not_ready(asked.object, asked.call) {
-            return Ok(false);
-        }
-        self.make_next(app, birth, at)
-    }
-
-    // The same, whether it has ended, or waits, or not. Where the call is ready and does not fit the process ends.
-    fn make_next(&mut self, app: &App, birth: Birth, at: usize) -> Result<bool, NoMemory>
-        requires sound { IsTrue (is_sound app.now) }
-        requires world { IsWorldOf app.now self.old }
-        requires object { birth.object < length (lists self.old.processes) }
-        requires found { position (is_named birth) (born_at (lists self.old.processes) birth.object)
-            ≡ Some at }
-        ensures chose { (trace : Entries) → WorldStands app.now self.old trace
-            → Chose app.now trace (chosen app.now trace (Choice.Go birth.object birth.place))
-            result self.new }
-        ensures ended { (trace : Entries) → WorldStands app.now self.old trace
-            → OnOk result (Stops app.now trace birth (lists self.new.processes)) }
+        ensures chose { MakesNext app.now self.old birth result self.new }
+        ensures ended { StopsUnfit app.now self.old birth result self.new }
     {
         let process = self.processes.get(birth.object, at);
         let Some(asked) = process.next() else {
             return Ok(false);
         };
-        let object = asked.object;
+        if self.is_not_ready(asked.object, asked.call) {
+            return Ok(false);
+        }
         let asking = Asking {
-            object,
+            object: asked.object,
             actor: Actor::Process(birth),
             span: asked.span,
             clock: process.clock(),
             call: asked.call.copy(self.alloc)?,
         };
+        self.make_next(app, birth, at, asking)
+    }
+
+    // The same of a process that asks for this. Where the call is ready and does not fit it ends.
+    fn make_next(
+        &mut self,
+        app: &App,
+        birth: Birth,
+        at: usize,
+        asking: Asking,
+    ) -> Result<bool, NoMemory>
+        requires sound { IsTrue (is_sound app.now) }
+        requires world { IsWorldOf app.now self.old }
+        requires object { birth.object < length (lists self.old.processes) }
+        requires found { position (is_named birth) (born_at (lists self.old.processes) birth.object)
+            ≡ Some at }
+        requires next { IsNextOf self.old birth at asking }
+        ensures chose { MakesNext app.now self.old birth result self.new }
+        ensures ended { StopsUnfit app.now self.old birth result self.new }
+    {
+        let object = asking.object;
         match self.next_entry(asking)? {
             Ok(entry) => {
                 let advance = advance(app, self.processes.get(birth.object, at), &entry)?;
@@ -221,7 +182,7 @@ impl World {
                 self.processes.end(birth.object, at, object);
                 Ok(false)
             }
-            // stamps are never spent
+            // `next_entry` ensures that stamps are never spent
             Err(Refusal::Spent { .. }) => unreachable!(),
         }
     }
@@ -230,11 +191,8 @@ impl World {
     fn go(&mut self, app: &App, birth: Birth) -> Result<bool, NoMemory>
         requires sound { IsTrue (is_sound app.now) }
         requires world { IsWorldOf app.now self.old }
-        ensures chose { (trace : Entries) → WorldStands app.now self.old trace
-            → Chose app.now trace (chosen app.now trace (Choice.Go birth.object birth.place))
-            result self.new }
-        ensures ended { (trace : Entries) → WorldStands app.now self.old trace
-            → OnOk result (Stops app.now trace birth (lists self.new.processes)) }
+        ensures chose { MakesNext app.now self.old birth result self.new }
+        ensures ended { StopsUnfit app.now self.old birth result self.new }
     {
         match self.processes.find(birth) {
             Some(at) => self.go_on(app, birth, at),
@@ -255,47 +213,10 @@ impl World {
         ensures ended { (trace : Entries) → WorldStands app.now self.old trace
             → OnOk result (StopsBy app.now trace choice.now (lists self.new.processes)) }
     {
-        match *choice {
-            Choice::Take { service, nth } => self.take(app, service, nth),
-            Choice::Repost { service, number } => {
-                self.carry(inbox_number(app, service), Call::Repost { number })
-            }
-            Choice::Pull { sub } => self.pull(app, sub),
-            Choice::Repull { sub, version } => self.repull(app, sub, version),
-            Choice::Ship {
-                store,
-                region,
-                version,
-                part,
-            } => {
-                let part = part.unwrap_or(1);
-                self.carry(
-                    store,
-                    Call::Ship {
-                        region,
-                        version,
-                        part,
-                    },
-                )
-            }
-            Choice::Again {
-                store,
-                region,
-                version,
-                part,
-            } => {
-                let part = part.unwrap_or(1);
-                self.carry(
-                    store,
-                    Call::Again {
-                        region,
-                        version,
-                        part,
-                    },
-                )
-            }
-            Choice::Go { object, place } => self.go(app, Birth { object, place }),
-            Choice::Finish => unreachable!(),
+        match ChoiceCall::of(app, choice) {
+            ChoiceCall::Bears(object, call) => self.bear(app, object, call),
+            ChoiceCall::Carries(object, call) => self.carry(object, call),
+            ChoiceCall::GoesOn(birth) => self.go(app, birth),
         }
     }
 }

@@ -1,10 +1,12 @@
-use Rattle.std.proofs.Common.{◌≡◌, OnOk, length, refl, sym, subst, arith}
+use Rattle.std.proofs.Common.{◌≡◌, length, refl, sym, subst, arith}
 use Rattle.anti_agenda.specs.declared.offer.Offer.{Offer}
-use Rattle.anti_play.specs.inner.Attending.{Attends, Turned, entry_by_offer, with_entry}
+use Rattle.anti_agenda.specs.declared.offer.Offer.TheVariants.{Ship}
+use Rattle.anti_play.specs.inner.Attempts.{AttendsBehind, IsRouteTo, MakesEntry, made_by}
 use Rattle.anti_app.proofs.Runnable.{can_run}
 use Rattle.anti_app.specs.Objects.{object_count}
 use Rattle.anti_play.proofs.Trying.{pull_there, region_is, replica_there, store_there, sub_store, take_there}
 use Rattle.anti_play.proofs.world.World.attempt.Goals as goal
+use Rattle.anti_play.proofs.world.World.attempt.Goals.{After-at-region}
 
 pub inbox_number-requires-clause-runs : goal.inbox_number-requires-clause-runs
 inbox_number-requires-clause-runs c = can_run c.args.app.now c.requires.sound
@@ -38,16 +40,22 @@ attempt_ship-requires-clause-store c =
     let many : length c.args.self.now.objects.items ≡ object_count c.args.app.now = c.requires.attended.stands.objects.count in
     omega (arith, low, many, c.args.self.now.objects.ok.0)
 
+-- the route that is tried
+route : (c : After-at-region) → IsRouteTo c.args.app.now (Ship c.in-Ship.store c.in-Ship.replica) c.in-Ship.store c.at-region.result.now
+route c = record {
+  sound = c.requires.sound;
+  replica = c.in-Ship.replica;
+  is = refl;
+  to = region_is c.args.app.now c.in-Ship.store c.in-Ship.replica c.at-region.result.now c.at-in-Ship.result.now c.at-in-Ship.ensures c.at-region.ensures;
+}
+
 pub returns-in-Ship-clause-chose : goal.returns-in-Ship-clause-chose
-returns-in-Ship-clause-chose c = λ trace s a.
-    let app = c.args.app.now in
-    subst (λ (x : Offer). Turned app trace (entry_by_offer app trace x) c.attempt_ship.result c.attempt_ship.new.self) (sym c.in-Ship.is)
-    (c.attempt_ship.ensures.chose app trace c.in-Ship.replica c.requires.sound s a refl
-    (region_is app c.in-Ship.store c.in-Ship.replica c.at-region.result.now c.at-in-Ship.result.now c.at-in-Ship.ensures c.at-region.ensures))
+returns-in-Ship-clause-chose c =
+    subst (λ (x : Offer). MakesEntry c.args.app.now c.args.self.now c.args.agenda.now (made_by c.args.app.now x) c.attempt_ship.result c.attempt_ship.new.self) (sym c.in-Ship.is)
+    (c.attempt_ship.ensures.chose c.args.app.now (route ((goal.at.returns-in-Ship-clause-chose c).After-at-region)))
 
 pub returns-in-Ship-clause-attends : goal.returns-in-Ship-clause-attends
-returns-in-Ship-clause-attends c = λ trace s a.
-    let app = c.args.app.now in
-    subst (λ (x : Offer). OnOk c.attempt_ship.result (Attends app (with_entry (entry_by_offer app trace x) trace) c.attempt_ship.new.agenda)) (sym c.in-Ship.is)
-    (c.attempt_ship.ensures.attends app trace c.in-Ship.replica c.requires.sound s a refl
-    (region_is app c.in-Ship.store c.in-Ship.replica c.at-region.result.now c.at-in-Ship.result.now c.at-in-Ship.ensures c.at-region.ensures))
+returns-in-Ship-clause-attends c =
+    subst (λ (x : Offer). AttendsBehind c.args.app.now c.args.self.now c.args.agenda.now (made_by c.args.app.now x) c.attempt_ship.result c.attempt_ship.new.agenda)
+    (sym c.in-Ship.is)
+    (c.attempt_ship.ensures.attends c.args.app.now (route ((goal.at.returns-in-Ship-clause-attends c).After-at-region)))

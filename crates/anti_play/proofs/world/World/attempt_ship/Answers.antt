@@ -38,13 +38,13 @@ told c =
     ∙ ap (λ (m : Object). next_ship (object_start m) r.history c.args.region) c.machine.ensures.machine
 
 pub returns-in_default-clause-attends : goal.returns-in_default-clause-attends
-returns-in_default-clause-attends c = λ app trace replica sound s a is to.
+returns-in_default-clause-attends c = λ app route trace s a.
     let at = (goal.at.returns-in_default-clause-attends c).After-next_ship in
     by_and c.sleep.result false c.and.result c.and.ensures
     (λ (r : Result Bool NoMemory). OnOk r (Attends app (with_entry (entry_by_offer app trace c.args.offer) trace) c.sleep.new.self))
     c.sleep.ensures
     (λ put.
-    route_attends app sound c.args.self.now trace s c.args.offer c.args.store replica c.args.region is to c.index-recorded.result.now (here at app trace s)
+    route_attends app route.sound c.args.self.now trace s c.args.offer c.args.store route.replica c.args.region route.is route.to c.index-recorded.result.now (here at app trace s)
     (sym c.in_default.is ∙ told at) c.args.agenda.now c.sleep.new.self a c.requires.awake put)
     (λ lost. tt)
 
@@ -57,13 +57,13 @@ returns-in_default-clause-fewer c =
     (λ lost same. absurd (cc))
 
 pub returns-in_err-carry-clause-chose : goal.returns-in_err-carry-clause-chose
-returns-in_err-carry-clause-chose c = λ app trace replica sound s a is to.
+returns-in_err-carry-clause-chose c = λ app route trace s a.
     let at = (goal.at.returns-in_err-carry-clause-chose c).After-next_ship in
     let n = c.carry.new.self in
     let x = c.in_err-carry.field-0.0 in
     chosen_lost app trace (entry_by_offer app trace c.args.offer) x c.from_residual.result n c.from_residual.ensures.0
-    (carried_is app sound c.args.self.now trace s c.args.offer c.args.store replica c.args.region is to c.index-recorded.result.now (here at app trace s)
-    c.in-Some.version c.in-Some.part (sym c.in-Some.is ∙ told at) (Err x) n (c.in_err-carry.ensures app trace sound s))
+    (carried_is app route.sound c.args.self.now trace s c.args.offer c.args.store route.replica c.args.region route.is route.to c.index-recorded.result.now (here at app trace s)
+    c.in-Some.version c.in-Some.part (sym c.in-Some.is ∙ told at) (Err x) n (c.in_err-carry.ensures app trace route.sound s))
 
 -- what came of the shipment, told as the branch
 came : (c : In_ok-carry) (app : App) (trace : List Entry) → IsTrue (is_sound app) → WorldStands app c.args.self.now trace → (made : Bool) → c.in_ok-carry.field-0 ≡ made
@@ -73,31 +73,31 @@ came c app trace sound s made is =
     (c.in_ok-carry.ensures app trace sound s)
 
 pub returns-then-not-branch-clause-chose : goal.returns-then-not-branch-clause-chose
-returns-then-not-branch-clause-chose c = λ app trace replica sound s a is to.
+returns-then-not-branch-clause-chose c = λ app route trace s a.
     let at = (goal.at.returns-then-not-branch-clause-chose c).After-next_ship in
     by_and c.idle.result false c.and-then-not-branch.result c.and-then-not-branch.ensures
     (λ (r : Result Bool NoMemory). Turned app trace (entry_by_offer app trace c.args.offer) r c.carry.new.self)
     c.idle.ensures
     (λ idled.
-    carried_is app sound c.args.self.now trace s c.args.offer c.args.store replica c.args.region is to c.index-recorded.result.now (here at app trace s)
+    carried_is app route.sound c.args.self.now trace s c.args.offer c.args.store route.replica c.args.region route.is route.to c.index-recorded.result.now (here at app trace s)
     c.in-Some.version c.in-Some.part (sym c.in-Some.is ∙ told at) (Ok false) c.carry.new.self
-    (came ((goal.at.returns-then-not-branch-clause-chose c).In_ok-carry) app trace sound s false c.if-not-branch.true))
+    (came ((goal.at.returns-then-not-branch-clause-chose c).In_ok-carry) app trace route.sound s false c.if-not-branch.true))
     (λ lost.
     vain_lost app trace (entry_by_offer app trace c.args.offer) (Err lost) c.carry.new.self refl
-    (carried_is app sound c.args.self.now trace s c.args.offer c.args.store replica c.args.region is to c.index-recorded.result.now (here at app trace s)
+    (carried_is app route.sound c.args.self.now trace s c.args.offer c.args.store route.replica c.args.region route.is route.to c.index-recorded.result.now (here at app trace s)
     c.in-Some.version c.in-Some.part (sym c.in-Some.is ∙ told at) (Ok false) c.carry.new.self
-    (came ((goal.at.returns-then-not-branch-clause-chose c).In_ok-carry) app trace sound s false c.if-not-branch.true)))
+    (came ((goal.at.returns-then-not-branch-clause-chose c).In_ok-carry) app trace route.sound s false c.if-not-branch.true)))
 
 pub returns-then-not-branch-clause-attends : goal.returns-then-not-branch-clause-attends
-returns-then-not-branch-clause-attends c = λ app trace replica sound s a is to.
+returns-then-not-branch-clause-attends c = λ app route trace s a.
     let at = (goal.at.returns-then-not-branch-clause-attends c).After-next_ship in
     by_and c.idle.result false c.and-then-not-branch.result c.and-then-not-branch.ensures
     (λ (r : Result Bool NoMemory). OnOk r (Attends app (with_entry (entry_by_offer app trace c.args.offer) trace) c.idle.new.self))
     c.idle.ensures
     (λ idled.
-    unshipped_attends app sound c.args.self.now trace s c.args.offer c.args.store replica c.args.region is to c.index-recorded.result.now (here at app trace s)
+    unshipped_attends app route.sound c.args.self.now trace s c.args.offer c.args.store route.replica c.args.region route.is route.to c.index-recorded.result.now (here at app trace s)
     c.in-Some.version c.in-Some.part (sym c.in-Some.is ∙ told at) c.carry.new.self
-    (came ((goal.at.returns-then-not-branch-clause-attends c).In_ok-carry) app trace sound s false c.if-not-branch.true)
+    (came ((goal.at.returns-then-not-branch-clause-attends c).In_ok-carry) app trace route.sound s false c.if-not-branch.true)
     c.args.agenda.now c.idle.new.self a c.requires.awake idled)
     (λ lost. tt)
 
@@ -110,41 +110,41 @@ returns-then-not-branch-clause-fewer c =
     (λ lost same. absurd (cc))
 
 pub returns-clause-chose : goal.returns-clause-chose
-returns-clause-chose c = λ app trace replica sound s a is to.
+returns-clause-chose c = λ app route trace s a.
     let at = (goal.at.returns-clause-chose c).After-next_ship in
     by_and c.stir.result true c.and-2.result c.and-2.ensures
     (λ (r : Result Bool NoMemory). Turned app trace (entry_by_offer app trace c.args.offer) r c.carry.new.self)
     c.stir.ensures
     (λ stirred.
-    carried_is app sound c.args.self.now trace s c.args.offer c.args.store replica c.args.region is to c.index-recorded.result.now (here at app trace s)
+    carried_is app route.sound c.args.self.now trace s c.args.offer c.args.store route.replica c.args.region route.is route.to c.index-recorded.result.now (here at app trace s)
     c.in-Some.version c.in-Some.part (sym c.in-Some.is ∙ told at) (Ok true) c.carry.new.self
-    (came ((goal.at.returns-clause-chose c).In_ok-carry) app trace sound s true c.if-not-branch.false))
+    (came ((goal.at.returns-clause-chose c).In_ok-carry) app trace route.sound s true c.if-not-branch.false))
     (λ lost.
-    shipped_lost app sound c.args.self.now trace s c.args.offer c.args.store replica c.args.region is to c.index-recorded.result.now (here at app trace s)
+    shipped_lost app route.sound c.args.self.now trace s c.args.offer c.args.store route.replica c.args.region route.is route.to c.index-recorded.result.now (here at app trace s)
     c.in-Some.version c.in-Some.part (sym c.in-Some.is ∙ told at) c.carry.new.self
-    (came ((goal.at.returns-clause-chose c).In_ok-carry) app trace sound s true c.if-not-branch.false)
+    (came ((goal.at.returns-clause-chose c).In_ok-carry) app trace route.sound s true c.if-not-branch.false)
     (Err lost) refl)
 
 pub returns-clause-attends : goal.returns-clause-attends
-returns-clause-attends c = λ app trace replica sound s a is to.
+returns-clause-attends c = λ app route trace s a.
     let at = (goal.at.returns-clause-attends c).After-next_ship in
     by_and c.stir.result true c.and-2.result c.and-2.ensures
     (λ (r : Result Bool NoMemory). OnOk r (Attends app (with_entry (entry_by_offer app trace c.args.offer) trace) c.stir.new.self))
     c.stir.ensures
     (λ stirred.
-    shipped_attends app sound c.args.self.now trace s c.args.offer c.args.store replica c.args.region is to c.index-recorded.result.now (here at app trace s)
+    shipped_attends app route.sound c.args.self.now trace s c.args.offer c.args.store route.replica c.args.region route.is route.to c.index-recorded.result.now (here at app trace s)
     c.in-Some.version c.in-Some.part (sym c.in-Some.is ∙ told at) c.carry.new.self
-    (came ((goal.at.returns-clause-attends c).In_ok-carry) app trace sound s true c.if-not-branch.false)
+    (came ((goal.at.returns-clause-attends c).In_ok-carry) app trace route.sound s true c.if-not-branch.false)
     c.args.agenda.now c.stir.new.self a c.brought-brought.result c.brought-brought.ensures stirred)
     (λ lost. tt)
 
 pub returns-in_default-clause-chose : goal.returns-in_default-clause-chose
-returns-in_default-clause-chose c = λ app trace replica sound s a is to.
+returns-in_default-clause-chose c = λ app route trace s a.
     let at = (goal.at.returns-in_default-clause-chose c).After-next_ship in
     by_and c.sleep.result false c.and.result c.and.ensures
     (λ (r : Result Bool NoMemory). Turned app trace (entry_by_offer app trace c.args.offer) r c.args.self.now)
     c.sleep.ensures
     (λ put.
-    route_turned app sound c.args.self.now trace s c.args.offer c.args.store replica c.args.region is to c.index-recorded.result.now (here at app trace s)
+    route_turned app route.sound c.args.self.now trace s c.args.offer c.args.store route.replica c.args.region route.is route.to c.index-recorded.result.now (here at app trace s)
     (sym c.in_default.is ∙ told at))
     (λ lost. went_nowhere app trace c.args.self.now s)
