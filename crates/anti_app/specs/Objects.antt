@@ -1,10 +1,10 @@
 -- The numbers of objects and handlers. The stores come first, in the order of the application, and then the inboxes of its
 -- services.
+use Rattle.anti_kind.specs.Kinds.{facts_of}
 use Rattle.std.specs.Prelude.{ℕ, ◌+◌, suc, ◌==◌, Bool, true, false, List, [], ◌∷◌, Option, Some, None, length, map, nat_lt, slice_get, ◌-◌, if◌then◌else◌}
 use Rattle.std.specs.List.{list_any}
 use Rattle.std.specs.Option.{option_map_or}
 use Rattle.std.specs.Str.{bytes_eq}
-use Rattle.anti_kind.specs.Store.{is_queue}
 use Rattle.anti_lang.specs.Bodies.{block_of}
 use Rattle.anti_lang.specs.Program.{Block, End}
 use Rattle.anti_app.specs.declared.app.App.{App}
@@ -101,7 +101,7 @@ region_of app service = region_in (slice_get app.services.items service)
 -- whether the store of a number is a queue
 abbrev pub queue_in : Option StoreDef → Bool
 queue_in None = false
-queue_in (Some s) = is_queue s.kind
+queue_in (Some s) = (facts_of s.kind).tried
 
 abbrev pub is_queue_at : App → ℕ → Bool
 is_queue_at app store = queue_in (slice_get app.stores.items store)

@@ -4,8 +4,8 @@ use Rattle.std.specs.List.{list_all, list_any}
 use Rattle.std.specs.Option.{option_map_or}
 use Rattle.std.specs.Str.{bytes_eq}
 use Rattle.anti_ids.specs.Names.{is_plain}
+use Rattle.anti_kind.specs.Kinds.{facts_of}
 use Rattle.anti_kind.specs.declared.store_kind.StoreKind.{StoreKind}
-use Rattle.anti_kind.specs.Store.{has_keys, is_scanned, is_topic}
 use Rattle.anti_kind.specs.Starts.{is_pulled}
 use Rattle.anti_lang.specs.Program.{Block, Write, Read, Scan, Poll, Call, Send}
 use Rattle.anti_lang.specs.Bodies.{block_of}
@@ -57,9 +57,9 @@ is_near test stores name region = list_any (serves test name region) stores
 -- Whether the store of a line, where it names one, is there and fits the line in the region where the handler runs.
 unfoldable pub fits_stores : List StoreDef → ℕ → Line → Bool
 fits_stores stores region (Does (Write store key value variable untracked)) = is_stored stores store
-fits_stores stores region (Does (Read store key variable)) = is_near has_keys stores store region
-fits_stores stores region (Does (Scan store prefix variable)) = is_near is_scanned stores store region
-fits_stores stores region (Does (Poll store key variable)) = is_near is_topic stores store region
+fits_stores stores region (Does (Read store key variable)) = is_near (λ kind. (facts_of kind).keyed) stores store region
+fits_stores stores region (Does (Scan store prefix variable)) = is_near (λ kind. (facts_of kind).scanned) stores store region
+fits_stores stores region (Does (Poll store key variable)) = is_near (λ kind. (facts_of kind).polled) stores store region
 fits_stores stores region line = true
 
 abbrev pub is_served : List ServiceDef → List ℕ → List ℕ → Bool

@@ -12,7 +12,8 @@ use Rattle.anti_kind.specs.declared.entry.Entry.{Entry}
 use Rattle.anti_kind.specs.declared.message.Message.{Message}
 use Rattle.anti_kind.specs.declared.message.MessageKind.{MessageKind}
 use Rattle.anti_kind.specs.declared.message.MessageKind.TheVariants as kinds
-use Rattle.anti_kind.specs.Inbox.{numbered, listed, posted, messages, numbers, is_call_message, delivered, deliveries, takes, is_taken, free, if_to, replied, has_reply, takes_reply, reply_is_taken, got_of, handed, post_ready, post_due, inbox_ready, inbox_due}
+use Rattle.anti_kind.specs.Inbox.{numbered, listed, posted, messages, is_call_message, delivered, deliveries, takes, is_taken, free, if_to, replied, has_reply, takes_reply, reply_is_taken, got_of, handed, post_ready, post_due, inbox_ready, inbox_due}
+use Rattle.anti_kind.specs.inner.Owing.{numbers}
 use Rattle.anti_kind.specs.Objects.{Follows}
 use Rattle.anti_kind.proofs.Deliveries.{call_within, messages_more, deliveries_more, taken_more, taken_kept}
 use Rattle.anti_inbox.specs.declared.inbox.Fate.{Fate}

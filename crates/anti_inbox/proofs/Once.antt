@@ -13,7 +13,7 @@ use Rattle.anti_kind.specs.declared.entry.Entry.{Entry}
 use Rattle.anti_kind.specs.declared.message.Message.{Message}
 use Rattle.anti_kind.specs.declared.message.MessageKind.{MessageKind}
 use Rattle.anti_kind.specs.declared.message.MessageKind.TheVariants as kinds
-use Rattle.anti_kind.specs.Inbox.{numbered, messages, deliveries, got, takes, is_taken, free, if_to, replied, replies, has_reply, takes_reply, reply_is_taken, is_call_message, got_of, handed, post_ready, inbox_ready, inbox_due, post_need, inbox_need}
+use Rattle.anti_kind.specs.Inbox.{numbered, messages, deliveries, takes, is_taken, free, if_to, replied, replies, has_reply, takes_reply, reply_is_taken, is_call_message, got_of, handed, post_ready, inbox_ready, inbox_due, post_need, inbox_need}
 use Rattle.anti_kind.specs.Objects.{inbox, need, fits, held, owed, Follows, IsLegal}
 use Rattle.anti_kind.specs.Starts.{IsStart}
 use Rattle.anti_kind.proofs.Histories.{by_entries, legal_front, follows_in}
@@ -67,16 +67,16 @@ module _ (requests : List Message) (h : List Entry) (e : Entry) (f : Follows (in
       f.reply ∙ ap (λ (x : Call). inbox_due requests h x) is ∙ ap (handed (messages requests h)) (at_number (free requests h) nth 0 there.0 there.1)
 
   -- what is got was not taken before
-  got_new : (k n : ℕ) (o : Option Message) → is_taken h k ≡ false → got n (got_of k o) ≡ true → is_taken h n ≡ false
-  got_new k n None new on = absurd (cc)
-  got_new k n (Some m) new on = ap (is_taken h) (sym (eqb-true k n on)) ∙ new
+  got_new : (nth k n : ℕ) (o : Option Message) → is_taken h k ≡ false → takes n (Take nth) (got_of k o) ≡ true → is_taken h n ≡ false
+  got_new nth k n None new on = absurd (cc)
+  got_new nth k n (Some m) new on = ap (is_taken h) (sym (eqb-true k n on)) ∙ new
 
   takes_new : (n : ℕ) (c : Call) → e.call ≡ c → takes n c e.reply ≡ true → is_taken h n ≡ false
   takes_new n (Take nth) is on =
       let there = taken_at nth is in
       let k : ℕ = get_or (free requests h) (nth - 1) 0 in
       let new : not (is_taken h k) ≡ true = filter_passes (λ j. not (is_taken h j)) (deliveries requests h) (nth - 1) 0 (omega (arith, there.0, there.1)) in
-      got_new k n (numbered (messages requests h) k) (not-true (is_taken h k) new) (ap (got n) (sym (reply_at nth is)) ∙ on)
+      got_new nth k n (numbered (messages requests h) k) (not-true (is_taken h k) new) (ap (takes n (Take nth)) (sym (reply_at nth is)) ∙ on)
   takes_new n _ is on = absurd (cc)
 
   -- Replies.

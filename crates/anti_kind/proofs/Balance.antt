@@ -2,12 +2,13 @@
 use Rattle.std.proofs.Common.{◌≡◌, ℕ, ◌+◌, ◌*◌, Bool, true, false, cond, ◌&&◌, List, [], ◌∷◌, ◌++◌, length, refl, sym, ap, ◌∙◌, arith}
 use Rattle.std.proofs.lemmas.Bool.{and_parts}
 use Rattle.anti_ids.specs.declared.id.WriteId.{WriteId}
+use Rattle.anti_kind.specs.Kinds.{facts_of}
 use Rattle.anti_kind.specs.declared.call.Call.{Call}
 use Rattle.anti_kind.specs.declared.call.Call.TheVariants.{Write, Read, Scan, Poll, Look, Ship, Again, Pull, Repull, Ack, Nack, Post, Take, Repost, TakeReply}
 use Rattle.anti_kind.specs.declared.call.Reply.{Reply}
 use Rattle.anti_kind.specs.declared.entry.Entry.{Entry}
 use Rattle.anti_kind.specs.Stored.{parts_of}
-use Rattle.anti_kind.specs.Store.{Store, is_queue, is_pull, is_out, store_ready, store_due, store_need, owed_shipments, owed_messages, outs}
+use Rattle.anti_kind.specs.Store.{Store, is_pull, is_out, store_ready, store_due, store_need, owed_shipments, outs}
 use Rattle.anti_kind.specs.Objects.{store, weight, held, owed, need, Follows, IsLegal}
 use Rattle.anti_kind.specs.Starts.{IsStore}
 use Rattle.anti_kind.proofs.Histories.{held_more}
@@ -15,34 +16,38 @@ use Rattle.anti_kind.proofs.Rows.{is_write, is_shipping}
 use Rattle.anti_kind.proofs.Units.{owed_other, owed_write, owed_ship}
 use Rattle.anti_kind.proofs.Handed.{settles_by, outs_other, outs_write, outs_pull, outs_ack, outs_nack}
 
+-- the messages that are out, where messages are tried
+abbrev owed_messages : Store → List Entry → ℕ
+owed_messages s h = cond (facts_of s.kind).tried (outs h) 0
+
 messages_other : (s : Store) (h : List Entry) (e : Entry) → is_write e.call ≡ false → is_pull e.call ≡ false → settles_by e.call ≡ false → owed_messages s (h ++ e ∷ []) ≡ owed_messages s h
-messages_other s h e writes pulling settling = ap (λ (n : ℕ). cond (is_queue s.kind) n 0) (outs_other h e writes pulling settling)
+messages_other s h e writes pulling settling = ap (λ (n : ℕ). cond (facts_of s.kind).tried n 0) (outs_other h e writes pulling settling)
 
 messages_write : (s : Store) (h : List Entry) (e : Entry) (key value : List ℕ) (lineage : List WriteId) → IsLegal (store s) h → Follows (store s) h e → e.call ≡ Write key value lineage → owed_messages s (h ++ e ∷ []) ≡ owed_messages s h
-messages_write s h e key value lineage l f is = by_kind (is_queue s.kind) refl where
-  by_kind : (b : Bool) → is_queue s.kind ≡ b → owed_messages s (h ++ e ∷ []) ≡ owed_messages s h
-  by_kind true queue = ap (λ (n : ℕ). cond (is_queue s.kind) n 0) (outs_write s queue h e key value lineage l f is)
+messages_write s h e key value lineage l f is = by_kind (facts_of s.kind).tried refl where
+  by_kind : (b : Bool) → (facts_of s.kind).tried ≡ b → owed_messages s (h ++ e ∷ []) ≡ owed_messages s h
+  by_kind true queue = ap (λ (n : ℕ). cond (facts_of s.kind).tried n 0) (outs_write s queue h e key value lineage l f is)
   by_kind false other = ap (λ (b : Bool). cond b (outs (h ++ e ∷ [])) 0) other ∙ sym (ap (λ (b : Bool). cond b (outs h) 0) other)
 
-messages_pull : (s : Store) (h : List Entry) (e : Entry) (n : ℕ) → IsLegal (store s) h → Follows (store s) h e → e.call ≡ Pull n → 1 + owed_messages s (h ++ e ∷ []) ≡ owed_messages s h + cond (is_queue s.kind) 2 1
-messages_pull s h e n l f is = by_kind (is_queue s.kind) refl where
-  by_kind : (b : Bool) → is_queue s.kind ≡ b → 1 + owed_messages s (h ++ e ∷ []) ≡ owed_messages s h + cond (is_queue s.kind) 2 1
+messages_pull : (s : Store) (h : List Entry) (e : Entry) (n : ℕ) → IsLegal (store s) h → Follows (store s) h e → e.call ≡ Pull n → 1 + owed_messages s (h ++ e ∷ []) ≡ owed_messages s h + cond (facts_of s.kind).tried 2 1
+messages_pull s h e n l f is = by_kind (facts_of s.kind).tried refl where
+  by_kind : (b : Bool) → (facts_of s.kind).tried ≡ b → 1 + owed_messages s (h ++ e ∷ []) ≡ owed_messages s h + cond (facts_of s.kind).tried 2 1
   by_kind true queue =
       let more : outs (h ++ e ∷ []) ≡ outs h + 1 = outs_pull s queue h e n l f is in
       let now : owed_messages s (h ++ e ∷ []) ≡ outs (h ++ e ∷ []) = ap (λ (b : Bool). cond b (outs (h ++ e ∷ [])) 0) queue in
       let was : owed_messages s h ≡ outs h = ap (λ (b : Bool). cond b (outs h) 0) queue in
-      let two : cond {A = ℕ} (is_queue s.kind) 2 1 ≡ 2 = ap (λ (b : Bool). cond {A = ℕ} b 2 1) queue in
+      let two : cond {A = ℕ} (facts_of s.kind).tried 2 1 ≡ 2 = ap (λ (b : Bool). cond {A = ℕ} b 2 1) queue in
       omega arith
   by_kind false other =
       let now : owed_messages s (h ++ e ∷ []) ≡ 0 = ap (λ (b : Bool). cond b (outs (h ++ e ∷ [])) 0) other in
       let was : owed_messages s h ≡ 0 = ap (λ (b : Bool). cond b (outs h) 0) other in
-      let one : cond {A = ℕ} (is_queue s.kind) 2 1 ≡ 1 = ap (λ (b : Bool). cond {A = ℕ} b 2 1) other in
+      let one : cond {A = ℕ} (facts_of s.kind).tried 2 1 ≡ 1 = ap (λ (b : Bool). cond {A = ℕ} b 2 1) other in
       omega arith
 
 module _ (s : Store) (h : List Entry) (e : Entry) (l : IsLegal (store s) h) (f : Follows (store s) h e) where
   -- what was ready was an Ack or Nack of a queue
-  settling_queue : (c : Call) (u : ℕ) → e.call ≡ c → store_ready s h c ≡ (is_queue s.kind && is_out h u) → is_queue s.kind ≡ true
-  settling_queue c u is says = (and_parts (is_queue s.kind) (is_out h u) (sym says ∙ ap (λ (x : Call). store_ready s h x) (sym is) ∙ f.is_ready)).0
+  settling_queue : (c : Call) (u : ℕ) → e.call ≡ c → store_ready s h c ≡ ((facts_of s.kind).tried && is_out h u) → (facts_of s.kind).tried ≡ true
+  settling_queue c u is says = (and_parts (facts_of s.kind).tried (is_out h u) (sym says ∙ ap (λ (x : Call). store_ready s h x) (sym is) ∙ f.is_ready)).0
 
   held_by : (c : Call) → e.call ≡ c → held (h ++ e ∷ []) ≡ held h + weight (store_due s h c)
   held_by c is = held_more h e ∙ ap (λ (r : Reply). held h + weight r) (f.reply ∙ ap (λ (x : Call). store_due s h x) is)
@@ -65,7 +70,7 @@ module _ (s : Store) (h : List Entry) (e : Entry) (l : IsLegal (store s) h) (f :
       let n : need (store s) h e.call ≡ store_need s h c = need_by c is in
       omega arith
 
-  settled : (u : ℕ) (c : Call) → e.call ≡ c → is_write c ≡ false → is_shipping c ≡ false → weight (store_due s h c) ≡ 1 → store_need s h c ≡ 0 → is_queue s.kind ≡ true → outs h ≡ outs (h ++ e ∷ []) + 1 → Adds
+  settled : (u : ℕ) (c : Call) → e.call ≡ c → is_write c ≡ false → is_shipping c ≡ false → weight (store_due s h c) ≡ 1 → store_need s h c ≡ 0 → (facts_of s.kind).tried ≡ true → outs h ≡ outs (h ++ e ∷ []) + 1 → Adds
   settled u c is writes ships one none queue less =
       let a : owed_shipments s (h ++ e ∷ []) ≡ owed_shipments s h = owed_other s h e (ap is_write is ∙ writes) (ap is_shipping is ∙ ships) in
       let now : owed_messages s (h ++ e ∷ []) ≡ outs (h ++ e ∷ []) = ap (λ (b : Bool). cond b (outs (h ++ e ∷ [])) 0) queue in
@@ -92,12 +97,12 @@ module _ (s : Store) (h : List Entry) (e : Entry) (l : IsLegal (store s) h) (f :
         omega arith
     by_call (Pull m) is =
         let a : owed_shipments s (h ++ e ∷ []) ≡ owed_shipments s h = owed_other s h e (ap is_write is) (ap is_shipping is) in
-        let b : 1 + owed_messages s (h ++ e ∷ []) ≡ owed_messages s h + cond (is_queue s.kind) 2 1 = messages_pull s h e m l f is in
+        let b : 1 + owed_messages s (h ++ e ∷ []) ≡ owed_messages s h + cond (facts_of s.kind).tried 2 1 = messages_pull s h e m l f is in
         let w : held (h ++ e ∷ []) ≡ held h + 1 = held_by (Pull m) is in
-        let n : need (store s) h e.call ≡ cond (is_queue s.kind) 2 1 = need_by (Pull m) is in
+        let n : need (store s) h e.call ≡ cond (facts_of s.kind).tried 2 1 = need_by (Pull m) is in
         omega arith
-    by_call (Ack u) is = let queue : is_queue s.kind ≡ true = settling_queue (Ack u) u is refl in settled u (Ack u) is refl refl refl refl queue (outs_ack s queue h e u l f is)
-    by_call (Nack u) is = let queue : is_queue s.kind ≡ true = settling_queue (Nack u) u is refl in settled u (Nack u) is refl refl refl refl queue (outs_nack s queue h e u l f is)
+    by_call (Ack u) is = let queue : (facts_of s.kind).tried ≡ true = settling_queue (Ack u) u is refl in settled u (Ack u) is refl refl refl refl queue (outs_ack s queue h e u l f is)
+    by_call (Nack u) is = let queue : (facts_of s.kind).tried ≡ true = settling_queue (Nack u) u is refl in settled u (Nack u) is refl refl refl refl queue (outs_nack s queue h e u l f is)
     by_call (Post m) is = absurd (never (Post m) is refl)
     by_call (Take n) is = absurd (never (Take n) is refl)
     by_call (Repost n) is = absurd (never (Repost n) is refl)

@@ -1,8 +1,8 @@
 -- An object's history never passes its units.
 use Rattle.std.proofs.Common.{◌≡◌, ℕ, Bool, true, false, cond, ◌+◌, ◌≤◌, List, [], ◌∷◌, ◌++◌, length, refl, arith}
 use Rattle.anti_ids.specs.declared.limits.TheConstants.{MOST_UNITS}
+use Rattle.anti_kind.specs.Kinds.{facts_of}
 use Rattle.anti_kind.specs.declared.entry.Entry.{Entry}
-use Rattle.anti_kind.specs.Store.{is_queue}
 use Rattle.anti_kind.specs.Objects.{Start, store, inbox, held, owed, need, Follows, IsLegal}
 use Rattle.anti_kind.specs.Starts.{IsStart}
 use Rattle.anti_kind.proofs.Histories.{by_entries, length_held, fits_number}
@@ -20,7 +20,7 @@ nothing_either_way true = refl
 nothing_either_way false = refl
 
 start_fits : (start : Start) → IsStart start → held [] + owed start [] ≤ MOST_UNITS
-start_fits (store s) sane = omega (arith, nothing_either_way (is_queue s.kind))
+start_fits (store s) sane = omega (arith, nothing_either_way (facts_of s.kind).tried)
 start_fits (inbox requests) sane = omega (arith, start_owes requests sane, sane.few)
 
 -- what a legal history holds and owes is within the units

@@ -1,5 +1,5 @@
 -- The cells of a channel: the nth has the key c#n, so what a region shows for that key is the nth cell, where it is whole there.
-use Rattle.std.proofs.Common.{◌≡◌, ℕ, ◌+◌, ◌-◌, ◌^◌, ◌<◌, ◌≤◌, Bool, true, false, not, cond, ◌||◌, List, [], ◌∷◌, ◌++◌, length, get_or, filter, count_by, slice_get, Option, Some, None, refl, sym, ap, subst, ◌∙◌, inl, ⊎_elim, ◌==◌, eqb-true, append-nil, arith}
+use Rattle.std.proofs.Common.{◌≡◌, ℕ, ◌+◌, ◌-◌, ◌^◌, ◌<◌, ◌≤◌, Bool, true, false, not, cond, ◌||◌, List, [], ◌∷◌, ◌++◌, length, get_or, filter, count_by, slice_get, Option, Some, None, refl, sym, ap, subst, ◌∙◌, inl, ⊎_elim, ◌==◌, eqb-true, append-nil, arith, option_and_then}
 use Rattle.std.specs.Prelude.{decimal, bytes_eq, Contains}
 use Rattle.std.specs.List.{list_all}
 use Rattle.std.proofs.lemmas.Bool.{and_parts, or_cases, both_ways, cases_lt, false_from_ne_true, not_from_false}
@@ -10,12 +10,13 @@ use Rattle.std.proofs.lemmas.List.Sums.{length-filter, count_by-le-length, take_
 use Rattle.std.proofs.lemmas.Option.{slice_get_within, get_or_from_slice_get, slice_get-get_or}
 use Rattle.anti_ids.specs.Names.{is_plain, is_plain_byte}
 use Rattle.anti_ids.specs.declared.id.WriteId.{WriteId}
+use Rattle.anti_kind.specs.Kinds.{facts_of}
 use Rattle.anti_kind.specs.declared.call.Call.{Call}
 use Rattle.anti_kind.specs.declared.call.Call.TheVariants.{Write}
 use Rattle.anti_kind.specs.declared.entry.Entry.{Entry}
 use Rattle.anti_kind.specs.declared.row.Row.{Row}
 use Rattle.anti_kind.specs.Stored.{wrote, rows, row_of, is_whole, greatest, shows_of, channel_of, is_in}
-use Rattle.anti_kind.specs.Store.{Store, has_keys, if_whole, store_ready, cells}
+use Rattle.anti_kind.specs.Store.{Store, store_ready, cells}
 use Rattle.anti_kind.specs.Cells.{cell_key}
 use Rattle.anti_kind.specs.Objects.{store, Follows, IsLegal}
 use Rattle.anti_kind.proofs.Finding.{filter_contains}
@@ -57,11 +58,11 @@ record IsCell (s : Store) (h : List Entry) (key : List ℕ) (r : Row) : Type 0 w
   plain : is_plain key ≡ true
   named : r.key ≡ cell_key key (length (cells h key) + 1)
 
-new_cell : (s : Store) → has_keys s.kind ≡ false → (h : List Entry) (e : Entry) (key value : List ℕ) (lineage : List WriteId) → Follows (store s) h e → e.call ≡ Write key value lineage → IsCell s h key (new_row s h key value lineage)
+new_cell : (s : Store) → (facts_of s.kind).keyed ≡ false → (h : List Entry) (e : Entry) (key value : List ℕ) (lineage : List WriteId) → Follows (store s) h e → e.call ≡ Write key value lineage → IsCell s h key (new_row s h key value lineage)
 new_cell s keyless h e key value lineage f is =
-    let can : (has_keys s.kind || is_plain key) ≡ true = ap (λ (c : Call). store_ready s h c) (sym is) ∙ f.is_ready in
+    let can : ((facts_of s.kind).keyed || is_plain key) ≡ true = ap (λ (c : Call). store_ready s h c) (sym is) ∙ f.is_ready in
     record {
-      plain = ⊎_elim (λ (keys : has_keys s.kind ≡ true). absurd (both_ways (has_keys s.kind) keyless keys)) (λ (plain : is_plain key ≡ true). plain) (or_cases (has_keys s.kind) (is_plain key) can);
+      plain = ⊎_elim (λ (keys : (facts_of s.kind).keyed ≡ true). absurd (both_ways (facts_of s.kind).keyed keyless keys)) (λ (plain : is_plain key ≡ true). plain) (or_cases (facts_of s.kind).keyed (is_plain key) can);
       named = ap (λ (b : Bool). cond b key (cell_key key (count_by (is_in key) (rows h) + 1))) keyless ∙ ap (λ (n : ℕ). cell_key key (n + 1)) (sym (length-filter (is_in key) (rows h)));
     }
 
@@ -84,7 +85,7 @@ named_write s h c key r plain cell named true here =
     named_push c (cells h c) r named (cell.named ∙ ap (λ (k : List ℕ). cell_key k (length (cells h k) + 1)) same)
 named_write s h c key r plain cell named false other = subst (Named c) (sym (append-nil (cells h c))) named
 
-cells_step : (s : Store) → has_keys s.kind ≡ false → (c : List ℕ) → is_plain c ≡ true → (h : List Entry) (e : Entry) → IsLegal (store s) h → Follows (store s) h e → Named c (cells h c) → Named c (cells (h ++ e ∷ []) c)
+cells_step : (s : Store) → (facts_of s.kind).keyed ≡ false → (c : List ℕ) → is_plain c ≡ true → (h : List Entry) (e : Entry) → IsLegal (store s) h → Follows (store s) h e → Named c (cells h c) → Named c (cells (h ++ e ∷ []) c)
 cells_step s keyless c plain h e l f named = by_call e.call refl where
   by_call : (call : Call) → e.call ≡ call → Named c (cells (h ++ e ∷ []) c)
   by_call (Write key value lineage) is =
@@ -93,13 +94,13 @@ cells_step s keyless c plain h e l f named = by_call e.call refl where
       (named_write s h c key r plain (new_cell s keyless h e key value lineage f is) named (is_in c r) refl)
   by_call _ is = subst (Named c) (sym (cells_other h e c (ap is_write is))) named
 
-pub cells_are : (s : Store) → has_keys s.kind ≡ false → (h : List Entry) → IsLegal (store s) h → (c : List ℕ) → is_plain c ≡ true → Named c (cells h c)
+pub cells_are : (s : Store) → (facts_of s.kind).keyed ≡ false → (h : List Entry) → IsLegal (store s) h → (c : List ℕ) → is_plain c ≡ true → Named c (cells h c)
 cells_are s keyless h l c plain = by_entries (store s) (λ k. Named c (cells k c)) (λ i d short. absurd (omega arith)) (cells_step s keyless c plain) h l
 
 -- What a region shows for the key of a cell.
 
 -- a row with the key of the nth cell is the nth cell
-pub cell_at : (s : Store) → has_keys s.kind ≡ false → (h : List Entry) → IsLegal (store s) h → (c : List ℕ) → is_plain c ≡ true → (n : ℕ) → n < 2 ^ 64 → (r : Row) → Contains (rows h) r → r.key ≡ cell_key c n → slice_get (cells h c) (n - 1) ≡ Some r
+pub cell_at : (s : Store) → (facts_of s.kind).keyed ≡ false → (h : List Entry) → IsLegal (store s) h → (c : List ℕ) → is_plain c ≡ true → (n : ℕ) → n < 2 ^ 64 → (r : Row) → Contains (rows h) r → r.key ≡ cell_key c n → slice_get (cells h c) (n - 1) ≡ Some r
 cell_at s keyless h l c plain n small r here key =
     let in' : Contains (cells h c) r = (filter_contains (is_in c) (rows h) r).1 (here, same_bytes (channel_of r.key) c (ap channel_of key ∙ channel_of_cell c n plain)) in
     let many : length (cells h c) ≤ length (rows h) = omega (arith, length-filter (is_in c) (rows h), count_by-le-length (is_in c) (rows h)) in
@@ -110,7 +111,7 @@ cell_at s keyless h l c plain n small r here key =
     ap (slice_get (cells h c)) (omega (arith, same)) ∙ slice_get-get_or (cells h c) in'.0 r in'.1 ∙ ap Some in'.2
 
 -- where the region shows none, the nth cell is not whole there
-not_whole : (s : Store) → has_keys s.kind ≡ false → (h : List Entry) → IsLegal (store s) h → (g : ℕ) (c : List ℕ) → is_plain c ≡ true → (n : ℕ) → 1 ≤ n → shows_of s.kind h g (cell_key c n) ≡ 0
+not_whole : (s : Store) → (facts_of s.kind).keyed ≡ false → (h : List Entry) → IsLegal (store s) h → (g : ℕ) (c : List ℕ) → is_plain c ≡ true → (n : ℕ) → 1 ≤ n → shows_of s.kind h g (cell_key c n) ≡ 0
     → (r : Row) → slice_get (cells h c) (n - 1) ≡ Some r → is_whole s.kind h g r ≡ false
 not_whole s keyless h l g c plain n some none r is =
     let short : n - 1 < length (cells h c) = slice_get_within (cells h c) (n - 1) r is in
@@ -124,8 +125,12 @@ not_whole s keyless h l g c plain n some none r is =
     (ap (λ (x : Row). bytes_eq x.key (cell_key c n)) here.2 ∙ same_bytes r.key (cell_key c n) key) (ap (is_whole s.kind h g) here.2 ∙ whole) in
     omega (arith, version_at s h l here.0 r here.1))
 
+-- a cell, where it is whole at the region
+abbrev pub if_whole : Store → List Entry → ℕ → Option Row → Option Row
+if_whole s h g o = option_and_then (λ r. cond (is_whole s.kind h g r) (Some r) None) o
+
 -- What a region shows for the key c#n is the nth cell of the channel c, where it is whole there.
-pub next_cell : (s : Store) → has_keys s.kind ≡ false → (h : List Entry) → IsLegal (store s) h → (g : ℕ) (c : List ℕ) → is_plain c ≡ true → (n : ℕ) → 1 ≤ n → n < 2 ^ 64
+pub next_cell : (s : Store) → (facts_of s.kind).keyed ≡ false → (h : List Entry) → IsLegal (store s) h → (g : ℕ) (c : List ℕ) → is_plain c ≡ true → (n : ℕ) → 1 ≤ n → n < 2 ^ 64
     → if_whole s h g (slice_get (cells h c) (n - 1)) ≡ row_of h (shows_of s.kind h g (cell_key c n))
 next_cell s keyless h l g c plain n some small =
     ⊎_elim

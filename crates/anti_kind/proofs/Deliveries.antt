@@ -1,9 +1,10 @@
 -- The messages of an inbox: what each call does to those that were not taken, not answered and not heard.
-use Rattle.std.proofs.Common.{◌≡◌, ℕ, zero, suc, ◌+◌, ◌-◌, ◌*◌, ◌<◌, ◌≤◌, Bool, true, false, not, cond, ◌&&◌, ◌||◌, List, [], ◌∷◌, ◌++◌, length, get_or, slice_get, flat_map, Option, Some, None, All, count_by, refl, sym, ap, ap₂, subst, ◌∙◌, ◌⊎◌, inl, inr, ⊎_elim, ◌==◌, leb, ltb, eq-eqb, ne_eqb, eqb-true, append_assoc, append-nil, length-append, arith}
+use Rattle.std.proofs.Common.{◌≡◌, ℕ, zero, suc, ◌+◌, ◌-◌, ◌*◌, ◌<◌, ◌≤◌, Bool, true, false, not, cond, ◌&&◌, ◌||◌, List, [], ◌∷◌, ◌++◌, length, get_or, slice_get, flat_map, Option, Some, None, All, sum_by, count_by, refl, sym, ap, ap₂, subst, ◌∙◌, ◌⊎◌, inl, inr, ⊎_elim, ◌==◌, leb, ltb, eq-eqb, ne_eqb, eqb-true, append_assoc, append-nil, length-append, arith}
 use Rattle.std.specs.List.{range_with_len}
 use Rattle.std.proofs.lemmas.List.Concat.{flat_map-append}
 use Rattle.std.proofs.lemmas.List.{nil_from_length}
 use Rattle.std.proofs.lemmas.List.Folds.{list_any-append}
+use Rattle.std.proofs.lemmas.List.Sums.{sum_by-cons}
 use Rattle.std.proofs.lemmas.List.FromFn.{get_or-range_with_len, length-range_with_len}
 use Rattle.std.proofs.lemmas.List.Elements.{All-append, All-filter, filter_passes}
 use Rattle.std.proofs.lemmas.Option.{get_or_from_slice_get, slice_get-get_or, slice_get_past, slice_get_cases}
@@ -15,7 +16,8 @@ use Rattle.anti_kind.specs.declared.entry.Entry.{Entry}
 use Rattle.anti_kind.specs.declared.message.Message.{Message}
 use Rattle.anti_kind.specs.declared.message.MessageKind.{MessageKind}
 use Rattle.anti_kind.specs.declared.message.MessageKind.TheVariants as kinds
-use Rattle.anti_kind.specs.Inbox.{numbered, listed, posted, messages, is_call, is_call_message, delivered, deliveries, got, takes, is_taken, free, if_to, replied, replies, has_reply, takes_reply, reply_is_taken, got_of, handed, post_ready, post_due, post_need, inbox_ready, inbox_due, inbox_need, numbers, untaken, unanswered, unheard}
+use Rattle.anti_kind.specs.Inbox.{numbered, listed, posted, messages, is_call, is_call_message, delivered, deliveries, takes, is_taken, free, if_to, replied, replies, has_reply, takes_reply, reply_is_taken, got_of, handed, post_ready, post_due, post_need, inbox_ready, inbox_due, inbox_need, owed_for}
+use Rattle.anti_kind.specs.inner.Owing.{numbers, untaken, unanswered, unheard}
 use Rattle.anti_kind.specs.Objects.{inbox, weight, held, owed, need, Follows, IsLegal}
 use Rattle.anti_kind.specs.Starts.{IsInbox}
 use Rattle.anti_kind.proofs.Histories.{by_entries, held_more}
@@ -113,7 +115,7 @@ module _ (requests : List Message) (h : List Entry) (e : Entry) (f : Follows (in
     pub some : 1 ≤ n
     pub within : n ≤ length (messages requests h)
     pub new : is_taken h n ≡ false
-    pub gets : (k : ℕ) → got k e.reply ≡ (n == k)
+    pub gets : (k : ℕ) → takes k e.call e.reply ≡ (n == k)
     pub one : weight e.reply ≡ 1
 
 numbered_within : {A : Type 0} (xs : List A) (n : ℕ) → 1 ≤ n → n ≤ length xs → (x : A) × (numbered xs n ≡ Some x)
@@ -141,7 +143,7 @@ take_one requests h e f nth was is =
     let found : (m : Message) × (numbered (messages requests h) n ≡ Some m) = numbered_within (messages requests h) n in'.0 in'.1 in
     let reply : e.reply ≡ Got n found.0 =
     reply_by requests h e f (Take nth) is ∙ ap (handed (messages requests h)) at ∙ ap (got_of n) found.1 in
-    (n, record { some = in'.0; within = in'.1; new = not-true (is_taken h n) new; gets = λ k. ap (got k) reply; one = ap weight reply })
+    (n, record { some = in'.0; within = in'.1; new = not-true (is_taken h n) new; gets = λ k. ap₂ (takes k) is reply; one = ap weight reply })
 
 -- What each call does to the three counts.
 
@@ -242,6 +244,35 @@ module _ (requests : List Message) (h : List Entry) (e : Entry) where
     unheard_new : IsCounted requests h → ((n : ℕ) → takes_reply n e.call ≡ false) → unheard requests (h ++ e ∷ []) ≡ unheard requests h + cond (is_call m.kind) 1 0
     unheard_new was off =
         calls_new (reply_is_taken h) (reply_is_taken (h ++ e ∷ [])) (λ n. heard_kept requests h e n (off n)) (λ n on. was.answered_call n (was.heard_answered n on))
+
+-- What is owed is the sum of the three counts.
+
+turned : (b : Bool) → cond {A = ℕ} b 0 1 ≡ cond {A = ℕ} (not b) 1 0
+turned true = refl
+turned false = refl
+
+owed_once : (taken call answered heard : Bool) → cond {A = ℕ} taken 0 1 + cond call (cond answered 0 1 + cond heard 0 1) 0
+    ≡ cond {A = ℕ} (not taken) 1 0 + (cond (call && not answered) 1 0 + cond (call && not heard) 1 0)
+owed_once taken true answered heard = omega (arith, turned taken, turned answered, turned heard)
+owed_once taken false answered heard = omega (arith, turned taken)
+
+module _ (ms : List Message) (h : List Entry) where
+  owed_counts : (ns : List ℕ) → sum_by (owed_for ms h) ns
+      ≡ count_by (λ n. not (is_taken h n)) ns + (count_by (λ n. is_call_message (numbered ms n) && not (has_reply h n)) ns + count_by (λ n. is_call_message (numbered ms n) && not (reply_is_taken h n)) ns)
+  owed_counts [] = refl
+  owed_counts (n ∷ ns) =
+      let call : Bool = is_call_message (numbered ms n) in
+      let once : owed_for ms h n ≡ cond {A = ℕ} (not (is_taken h n)) 1 0 + (cond (call && not (has_reply h n)) 1 0 + cond (call && not (reply_is_taken h n)) 1 0) =
+      owed_once (is_taken h n) call (has_reply h n) (reply_is_taken h n) in
+      let all = sum_by-cons (owed_for ms h) n ns in
+      let a = sum_by-cons (λ (k : ℕ). cond {A = ℕ} (not (is_taken h k)) 1 0) n ns in
+      let b = sum_by-cons (λ (k : ℕ). cond {A = ℕ} (is_call_message (numbered ms k) && not (has_reply h k)) 1 0) n ns in
+      let c = sum_by-cons (λ (k : ℕ). cond {A = ℕ} (is_call_message (numbered ms k) && not (reply_is_taken h k)) 1 0) n ns in
+      let rest = owed_counts ns in
+      omega (arith, once, all, a, b, c, rest)
+
+pub owes : (requests : List Message) (h : List Entry) → owed (inbox requests) h ≡ untaken requests h + (unanswered requests h + unheard requests h)
+owes requests h = owed_counts (messages requests h) h (numbers requests h)
 
 -- Along a legal history.
 
@@ -411,7 +442,7 @@ module _ (requests : List Message) (h : List Entry) (e : Entry) (f : Follows (in
           new_answered = λ n some. absurd (omega (arith, some, ap length (post.answers_none n)));
           new_heard = λ n on. absurd (both_ways' (takes_reply n e.call) (post.hears_none n) on);
         }),
-        omega (arith, post.needs, post.weighs_one),
+        omega (arith, owes requests h, owes requests (h ++ e ∷ []), post.needs, post.weighs_one),
       )
 
   by_answering : IsCounted requests h → (m : ℕ) → IsAnswering requests h e m → Keeps
@@ -430,7 +461,7 @@ module _ (requests : List Message) (h : List Entry) (e : Entry) (f : Follows (in
           new_answered = λ n some. answered_only m n it.call (cases_eq n m) (λ differs. absurd (omega (arith, some, ap length (others n differs))));
           new_heard = λ n on. absurd (both_ways' (takes_reply n e.call) (it.hears_none n) on);
         }),
-        omega (arith, it.needs, it.weighs_one),
+        omega (arith, owes requests h, owes requests (h ++ e ∷ []), it.needs, it.weighs_one),
       )
     where
       answered_only : (m n : ℕ) → is_call_message (numbered (messages requests h) m) ≡ true → (n ≡ m) ⊎ (n ≡ m → ⊥) → ((n ≡ m → ⊥) → ⊥) → is_call_message (numbered (messages requests h) n) ≡ true
@@ -443,7 +474,7 @@ module _ (requests : List Message) (h : List Entry) (e : Entry) (f : Follows (in
       let m : ℕ = one.0 in
       let it : IsTaking requests h e f m = one.1 in
       let none : posted e.call ≡ [] = ap posted is in
-      let on : (n : ℕ) → takes n e.call e.reply ≡ (m == n) = λ n. ap (λ (c : Call). takes n c e.reply) is ∙ it.gets n in
+      let on : (n : ℕ) → takes n e.call e.reply ≡ (m == n) = it.gets in
       let a : untaken requests h ≡ untaken requests (h ++ e ∷ []) + 1 = untaken_less requests h e none m it.some it.within it.new on in
       let b : unanswered requests (h ++ e ∷ []) ≡ unanswered requests h = unanswered_same requests h e none (λ n. ap (replied n) is) in
       let c : unheard requests (h ++ e ∷ []) ≡ unheard requests h = unheard_same requests h e none (λ n. ap (takes_reply n) is) in
@@ -455,7 +486,7 @@ module _ (requests : List Message) (h : List Entry) (e : Entry) (f : Follows (in
           new_answered = λ n some. absurd (omega (arith, some, ap (λ (x : Call). length (replied n x)) is));
           new_heard = λ n heard. absurd (both_ways' (takes_reply n e.call) (ap (takes_reply n) is) heard);
         }),
-        omega (arith, it.one),
+        omega (arith, owes requests h, owes requests (h ++ e ∷ []), it.one),
       )
 
   by_repost : IsCounted requests h → (m : ℕ) → e.call ≡ Repost m → Keeps
@@ -476,7 +507,7 @@ module _ (requests : List Message) (h : List Entry) (e : Entry) (f : Follows (in
           new_answered = λ n some'. absurd (omega (arith, some', ap (λ (x : Call). length (replied n x)) is));
           new_heard = λ n heard. absurd (both_ways' (takes_reply n e.call) (ap (takes_reply n) is) heard);
         }),
-        omega arith,
+        omega (arith, owes requests h, owes requests (h ++ e ∷ [])),
       )
 
   by_hearing : IsCounted requests h → (m : ℕ) → e.call ≡ TakeReply m → Keeps
@@ -495,7 +526,7 @@ module _ (requests : List Message) (h : List Entry) (e : Entry) (f : Follows (in
           new_answered = λ n some'. absurd (omega (arith, some', ap (λ (x : Call). length (replied n x)) is));
           new_heard = λ n heard. ap (has_reply h) (sym (eqb-true m n (sym (ap (takes_reply n) is) ∙ heard))) ∙ on.0;
         }),
-        omega arith,
+        omega (arith, owes requests h, owes requests (h ++ e ∷ [])),
       )
 
   never : (c : Call) → e.call ≡ c → inbox_ready requests h c ≡ false → ⊥
@@ -567,4 +598,4 @@ start_owes requests sane =
     let c : unheard requests [] ≡ 0 =
     count_none (λ n. is_call_message (numbered (messages requests []) n) && not (reply_is_taken [] n)) (numbers requests []) (λ k d short.
     and_left (is_call_message (numbered (messages requests []) (get_or (numbers requests []) k d))) _ (ap (λ (ms : List Message). is_call_message (numbered ms (get_or (numbers requests []) k d))) same ∙ no_call requests sane (get_or (numbers requests []) k d))) in
-    omega arith
+    omega (arith, owes requests [])

@@ -10,12 +10,11 @@ use Rattle.anti_kind.specs.declared.store_kind.StoreKind.{StoreKind}
 use Rattle.anti_kind.specs.declared.store_kind.StoreKind.TheVariants.{Kv, Table, Blob, Queue, Topic}
 use Rattle.anti_kind.specs.Shipments.{AreTries}
 use Rattle.anti_kind.specs.Starts.{HasTries, is_pulled}
-use Rattle.anti_kind.specs.Store.{has_keys, is_queue, is_scanned, is_table, is_topic}
 use Rattle.anti_kind.specs.Kinds.{facts_of}
 use Rattle.anti_kind.specs.Stored.{is_shipped, is_whole, parts_of}
 
 -- what is scanned comes in order
-pub scanned_ordered : (kind : StoreKind) → is_scanned kind ≡ true → is_table kind ≡ true
+pub scanned_ordered : (kind : StoreKind) → (facts_of kind).scanned ≡ true → (facts_of kind).ordered ≡ true
 scanned_ordered Table is = refl
 scanned_ordered Kv is = is
 scanned_ordered Blob is = is
@@ -23,12 +22,12 @@ scanned_ordered Queue is = is
 scanned_ordered Topic is = is
 
 -- what comes in order comes whole
-pub ordered_whole : (kind : StoreKind) (value : List ℕ) → is_table kind ≡ true → parts_of kind value ≡ 1
+pub ordered_whole : (kind : StoreKind) (value : List ℕ) → (facts_of kind).ordered ≡ true → parts_of kind value ≡ 1
 ordered_whole Blob value is = absurd (false≢true is)
 ordered_whole _ value is = refl
 
 -- what comes whole is whole at a region where its one part came
-pub one_is_whole : (kind : StoreKind) (h : List Entry) (g : ℕ) (r : Row) → is_table kind ≡ true → is_whole kind h g r ≡ (is_shipped h g r.version 1 && true)
+pub one_is_whole : (kind : StoreKind) (h : List Entry) (g : ℕ) (r : Row) → (facts_of kind).ordered ≡ true → is_whole kind h g r ≡ (is_shipped h g r.version 1 && true)
 one_is_whole kind h g r is = ap (λ (n : ℕ). list_all (λ p. is_shipped h g r.version p) (range_with_len 1 n)) (ordered_whole kind r.value is)
 
 -- a value has a part
@@ -40,7 +39,7 @@ has_parts kind value = by_parts (facts_of kind).parted
     by_parts false = omega arith
 
 -- a store that is read by its keys hands nothing out
-pub keyed_or_pulled : (kind : StoreKind) → has_keys kind ≡ true → is_pulled kind ≡ true → ⊥
+pub keyed_or_pulled : (kind : StoreKind) → (facts_of kind).keyed ≡ true → is_pulled kind ≡ true → ⊥
 keyed_or_pulled Kv keyed pulled = false≢true pulled
 keyed_or_pulled Table keyed pulled = false≢true pulled
 keyed_or_pulled Blob keyed pulled = false≢true pulled
@@ -48,13 +47,13 @@ keyed_or_pulled Queue keyed pulled = false≢true keyed
 keyed_or_pulled Topic keyed pulled = false≢true keyed
 
 -- what is polled is not tried
-pub polled_not_tried : (kind : StoreKind) → is_topic kind ≡ true → is_queue kind ≡ false
+pub polled_not_tried : (kind : StoreKind) → (facts_of kind).polled ≡ true → (facts_of kind).tried ≡ false
 polled_not_tried Queue is = absurd (false≢true is)
 polled_not_tried _ is = refl
 
 -- where messages are tried there are tries, else none
-pub tries_fit : (kind : StoreKind) (tries : ℕ) → 1 ≤ tries → tries ≤ 8 → HasTries kind (cond (is_queue kind) tries 0)
-tries_fit kind tries some few = by_tried (is_queue kind)
+pub tries_fit : (kind : StoreKind) (tries : ℕ) → 1 ≤ tries → tries ≤ 8 → HasTries kind (cond (facts_of kind).tried tries 0)
+tries_fit kind tries some few = by_tried (facts_of kind).tried
   where
     by_tried : (tried : Bool) → AreTries tried (cond tried tries 0)
     by_tried true = (some, few)

@@ -1,12 +1,13 @@
 -- What a subscription is handed out next: behind an entry that ships and hands back nothing, and is not its own pull, there is
 -- something only where there was before.
-use Rattle.std.proofs.Common.{◌≡◌, ℕ, ◌+◌, ◌<◌, ◌≤◌, Bool, true, false, not, cond, ◌&&◌, ◌||◌, List, [], ◌∷◌, ◌++◌, length, get_or, filter, slice_get, Option, Some, None, find, refl, sym, ap, ap₂, ◌∙◌, ⊎_elim, ◌==◌, ltb, eqb-true, arith}
+use Rattle.std.proofs.Common.{◌≡◌, ℕ, ◌+◌, ◌<◌, ◌≤◌, Bool, true, false, not, cond, ◌&&◌, ◌||◌, List, [], ◌∷◌, ◌++◌, length, get_or, filter, slice_get, Option, Some, None, find, refl, sym, ap, ap₂, ◌∙◌, ⊎_elim, ◌==◌, ltb, eqb-true, arith, is_some, option_and_then}
 use Rattle.std.specs.Prelude.{Contains}
 use Rattle.std.proofs.lemmas.Bool.{and_parts, and_from, or_parts, or_from, not-true, not_from_false, both_ways, true_from_ne_false, cases_Bool, cases_lt, ltb-true, lt-ltb}
 use Rattle.std.proofs.lemmas.List.{get_or_append_left}
 use Rattle.std.proofs.lemmas.List.Elements.{All-contains}
 use Rattle.std.proofs.lemmas.List.Folds.{list_any-append}
 use Rattle.std.proofs.lemmas.Option.{slice_get_within, get_or_from_slice_get}
+use Rattle.anti_kind.specs.Kinds.{facts_of}
 use Rattle.anti_kind.specs.declared.call.Call.{Call}
 use Rattle.anti_kind.specs.declared.call.Call.TheVariants.{Pull}
 use Rattle.anti_kind.specs.declared.call.Reply.{Reply}
@@ -14,19 +15,19 @@ use Rattle.anti_kind.specs.declared.entry.Entry.{Entry}
 use Rattle.anti_kind.specs.declared.row.Row.{Row}
 use Rattle.anti_kind.specs.declared.store_kind.Sub.{Sub}
 use Rattle.anti_kind.specs.Stored.{wrote, rows, is_ship, is_whole, is_in}
-use Rattle.anti_kind.specs.Store.{Store, is_queue, is_topic, is_pull, is_pull_by, is_ack, is_nack, gives, pulls, is_acked, is_out, is_free, cells, cursor, if_whole, next_of, pulled_next, next, is_there}
+use Rattle.anti_kind.specs.Store.{Store, is_pull, is_pull_by, is_ack, is_nack, gives, pulls, is_acked, is_out, is_free, cells, cursor, next_of, next}
 use Rattle.anti_kind.specs.Objects.{store, Follows, IsLegal}
 use Rattle.anti_kind.proofs.Finding.{Found, find_found, none_passes, filter_contains}
 use Rattle.anti_kind.proofs.Histories.{follows_in}
 use Rattle.anti_kind.proofs.Rows.{or_false}
-use Rattle.anti_kind.proofs.Handed.{is_there_some, IsHanded, handed, free_not_out, pulls_more, out_kept}
+use Rattle.anti_kind.proofs.Handed.{some_there, IsHanded, handed, free_not_out, pulls_more, out_kept}
 use Rattle.anti_kind.proofs.Sources.{whole_given}
-use Rattle.anti_kind.proofs.Cells.{cells_more}
+use Rattle.anti_kind.proofs.Cells.{cells_more, if_whole}
 use Rattle.anti_kind.proofs.Pulls.{cursor_more, cells_grow}
 use Rattle.anti_kind.proofs.Deliveries.{slice_get_left}
 use Rattle.anti_kind.proofs.Whole.{WasWhole, was_whole}
 
-there_from : (o : Option Row) → (o ≡ None → ⊥) → is_there o ≡ true
+there_from : (o : Option Row) → (o ≡ None → ⊥) → is_some o ≡ true
 there_from None some = absurd (some refl)
 there_from (Some r) some = refl
 
@@ -45,7 +46,7 @@ module _ (s : Store) (h : List Entry) (e : Entry) (l : IsLegal (store s) (h ++ e
   acked_more v = list_any-append (λ (x : Entry). is_ack v x.call) h (e ∷ []) ∙ ap (λ (b : Bool). is_acked h v || b) (or_false (is_ack v e.call))
 
   -- what is not out was not: what was pulled is out, and was free
-  not_out_before : is_queue s.kind ≡ true → (v : ℕ) → is_out (h ++ e ∷ []) v ≡ false → (is_ack v e.call || is_nack v e.call) ≡ false → is_out h v ≡ false
+  not_out_before : (facts_of s.kind).tried ≡ true → (v : ℕ) → is_out (h ++ e ∷ []) v ≡ false → (is_ack v e.call || is_nack v e.call) ≡ false → is_out h v ≡ false
   not_out_before queue v off settles = by_call e.call refl where
     kept : (is_pull e.call && gives v e.reply) ≡ false → is_out h v ≡ false
     kept other = sym (out_kept h e v other settles) ∙ off
@@ -64,7 +65,7 @@ module _ (s : Store) (h : List Entry) (e : Entry) (l : IsLegal (store s) (h ++ e
     here : Contains (rows h) r
     free : is_free s h sub r ≡ true
 
-  was_free : is_queue s.kind ≡ true → (sub : Sub) (r : Row) → Contains (rows (h ++ e ∷ [])) r → is_free s (h ++ e ∷ []) sub r ≡ true → WasFree sub r
+  was_free : (facts_of s.kind).tried ≡ true → (sub : Sub) (r : Row) → Contains (rows (h ++ e ∷ [])) r → is_free s (h ++ e ∷ []) sub r ≡ true → WasFree sub r
   was_free queue sub r in' free =
       let v : ℕ = r.version in
       let first = and_parts (is_in sub.channel r) _ free in
@@ -82,9 +83,9 @@ module _ (s : Store) (h : List Entry) (e : Entry) (l : IsLegal (store s) (h ++ e
             (and_from (not (is_acked h v)) _ (not_from_false (is_acked h v) acks.0) (lt-ltb (pulls h v) s.tries few))));
       }
 
-  free_before : is_queue s.kind ≡ true → (sub : Sub) → is_there (find (is_free s (h ++ e ∷ []) sub) (rows (h ++ e ∷ []))) ≡ true → is_there (find (is_free s h sub) (rows h)) ≡ true
+  free_before : (facts_of s.kind).tried ≡ true → (sub : Sub) → is_some (find (is_free s (h ++ e ∷ []) sub) (rows (h ++ e ∷ []))) ≡ true → is_some (find (is_free s h sub) (rows h)) ≡ true
   free_before queue sub on =
-      let some : (r : Row) × (find (is_free s (h ++ e ∷ []) sub) (rows (h ++ e ∷ [])) ≡ Some r) = is_there_some _ on in
+      let some : (r : Row) × (find (is_free s (h ++ e ∷ []) sub) (rows (h ++ e ∷ [])) ≡ Some r) = some_there _ on in
       let found : Found (is_free s (h ++ e ∷ []) sub) (rows (h ++ e ∷ [])) some.0 = find_found (is_free s (h ++ e ∷ []) sub) (rows (h ++ e ∷ [])) some.0 some.1 in
       let was : WasFree sub some.0 = was_free queue sub some.0 (found.index, found.within, found.at some.0) found.passes in
       there_from (find (is_free s h sub) (rows h))
@@ -108,11 +109,11 @@ module _ (s : Store) (h : List Entry) (e : Entry) (l : IsLegal (store s) (h ++ e
       absurd (omega (arith, cells_grow s (h ++ e ∷ []) l channel in'.0 i r (omega (arith, in'.1)) within, ap (λ (x : Row). x.version) first, ap (λ (x : Row). x.version) at)))
       (cases_lt i (length rs))
 
-  cell_there : (n : ℕ) (sub : Sub) → is_pull_by n e.call ≡ false → is_there (if_whole s (h ++ e ∷ []) sub.region (slice_get (cells (h ++ e ∷ []) sub.channel) (cursor (h ++ e ∷ []) n))) ≡ true
-      → is_there (if_whole s h sub.region (slice_get (cells h sub.channel) (cursor h n))) ≡ true
+  cell_there : (n : ℕ) (sub : Sub) → is_pull_by n e.call ≡ false → is_some (if_whole s (h ++ e ∷ []) sub.region (slice_get (cells (h ++ e ∷ []) sub.channel) (cursor (h ++ e ∷ []) n))) ≡ true
+      → is_some (if_whole s h sub.region (slice_get (cells h sub.channel) (cursor h n))) ≡ true
   cell_there n sub other on =
       let o : Option Row = slice_get (cells (h ++ e ∷ []) sub.channel) (cursor (h ++ e ∷ []) n) in
-      let some : (r : Row) × (if_whole s (h ++ e ∷ []) sub.region o ≡ Some r) = is_there_some (if_whole s (h ++ e ∷ []) sub.region o) on in
+      let some : (r : Row) × (if_whole s (h ++ e ∷ []) sub.region o ≡ Some r) = some_there (if_whole s (h ++ e ∷ []) sub.region o) on in
       let r : Row = some.0 in
       let is : o ≡ Some r = whole_given s (h ++ e ∷ []) sub.region o r some.1 in
       let stays : cursor (h ++ e ∷ []) n ≡ cursor h n = cursor_more h e n ∙ ap (λ (b : Bool). cursor h n + cond b 1 0) other ∙ omega arith in
@@ -121,21 +122,21 @@ module _ (s : Store) (h : List Entry) (e : Entry) (l : IsLegal (store s) (h ++ e
       (cursor h n, slice_get_within (cells (h ++ e ∷ []) sub.channel) (cursor h n) r cell, get_or_from_slice_get (cells (h ++ e ∷ []) sub.channel) (cursor h n) r r cell) in
       let was : WasWhole s h e l sub.region r =
       was_whole s h e l sub.region r (ships sub.region r.version) ((filter_contains (is_in sub.channel) (rows (h ++ e ∷ [])) r).0 at).0 (given_whole s (h ++ e ∷ []) sub.region o r some.1) in
-      ap (λ (x : Option Row). is_there (if_whole s h sub.region x)) (cell_before sub.channel (cursor h n) r cell was.here)
-      ∙ ap (λ (b : Bool). is_there (cond b (Some r) None)) was.whole
+      ap (λ (x : Option Row). is_some (if_whole s h sub.region x)) (cell_before sub.channel (cursor h n) r cell was.here)
+      ∙ ap (λ (b : Bool). is_some (cond b (Some r) None)) was.whole
 
   -- Both.
 
-  next_by : (n : ℕ) (sub : Sub) → is_pull_by n e.call ≡ false → (tried polled : Bool) → is_queue s.kind ≡ tried
-      → is_there (next_of tried polled s (h ++ e ∷ []) n sub) ≡ true → is_there (next_of tried polled s h n sub) ≡ true
+  next_by : (n : ℕ) (sub : Sub) → is_pull_by n e.call ≡ false → (tried polled : Bool) → (facts_of s.kind).tried ≡ tried
+      → is_some (next_of tried polled s (h ++ e ∷ []) n sub) ≡ true → is_some (next_of tried polled s h n sub) ≡ true
   next_by n sub other true polled is on = free_before is sub on
   next_by n sub other false true is on = cell_there n sub other on
   next_by n sub other false false is on = absurd (cc)
 
-  subscribed : (n : ℕ) → is_pull_by n e.call ≡ false → (o : Option Sub) → is_there (pulled_next s (h ++ e ∷ []) n o) ≡ true → is_there (pulled_next s h n o) ≡ true
+  subscribed : (n : ℕ) → is_pull_by n e.call ≡ false → (o : Option Sub) → is_some (option_and_then (next_of (facts_of s.kind).tried (facts_of s.kind).polled s (h ++ e ∷ []) n) o) ≡ true → is_some (option_and_then (next_of (facts_of s.kind).tried (facts_of s.kind).polled s h n) o) ≡ true
   subscribed n other None on = absurd (cc)
-  subscribed n other (Some sub) on = next_by n sub other (is_queue s.kind) (is_topic s.kind) refl on
+  subscribed n other (Some sub) on = next_by n sub other (facts_of s.kind).tried (facts_of s.kind).polled refl on
 
   -- What the subscription is handed out next was there before, unless the entry is its own pull.
-  pub next_was_there : (n : ℕ) → is_pull_by n e.call ≡ false → is_there (next s (h ++ e ∷ []) n) ≡ true → is_there (next s h n) ≡ true
+  pub next_was_there : (n : ℕ) → is_pull_by n e.call ≡ false → is_some (next s (h ++ e ∷ []) n) ≡ true → is_some (next s h n) ≡ true
   next_was_there n other on = subscribed n other (slice_get s.subs n) on

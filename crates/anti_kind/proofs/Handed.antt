@@ -1,8 +1,9 @@
 -- The messages of a queue that are out: what each call does to their number.
-use Rattle.std.proofs.Common.{◌≡◌, ℕ, ◌+◌, ◌-◌, ◌<◌, ◌≤◌, Bool, true, false, not, cond, ◌&&◌, ◌||◌, List, [], ◌∷◌, ◌++◌, length, get_or, Option, Some, None, count_by, slice_get, refl, sym, ap, ap₂, ◌∙◌, ◌⊎◌, inl, inr, ⊎_elim, ◌==◌, eq-eqb, ne_eqb, eqb-true, length-append, arith}
+use Rattle.std.proofs.Common.{◌≡◌, ℕ, ◌+◌, ◌-◌, ◌<◌, ◌≤◌, Bool, true, false, not, cond, ◌&&◌, ◌||◌, List, [], ◌∷◌, ◌++◌, length, get_or, Option, Some, None, count_by, slice_get, refl, sym, ap, ap₂, ◌∙◌, ◌⊎◌, inl, inr, ⊎_elim, ◌==◌, eq-eqb, ne_eqb, eqb-true, length-append, arith, is_some, unwrap_or, option_and_then}
 use Rattle.std.proofs.lemmas.List.Sums.{sum_by_push}
 use Rattle.std.proofs.lemmas.Bool.{and_parts, not-true, and_left, eqb-false, false_from_ne_true}
 use Rattle.anti_ids.specs.declared.id.WriteId.{WriteId}
+use Rattle.anti_kind.specs.Kinds.{facts_of}
 use Rattle.anti_kind.specs.declared.call.Call.{Call}
 use Rattle.anti_kind.specs.declared.call.Call.TheVariants.{Write, Pull, Ack, Nack}
 use Rattle.anti_kind.specs.declared.call.Reply.{Reply}
@@ -11,16 +12,16 @@ use Rattle.anti_kind.specs.declared.entry.Entry.{Entry}
 use Rattle.anti_kind.specs.declared.row.Row.{Row}
 use Rattle.anti_kind.specs.declared.store_kind.Sub.{Sub}
 use Rattle.anti_kind.specs.Stored.{wrote, rows, is_whole, is_in}
-use Rattle.anti_kind.specs.Store.{Store, is_queue, is_topic, is_pull, is_ack, is_nack, gives, pulls, settles, is_out, is_free, next, next_of, pulled_next, is_there, or_absent, store_ready, store_due, outs}
+use Rattle.anti_kind.specs.Store.{Store, is_pull, is_ack, is_nack, gives, pulls, settles, is_out, is_free, next, next_of, store_ready, store_due, outs, absent}
 use Rattle.anti_kind.specs.Objects.{store, Follows, IsLegal}
 pub use Rattle.anti_kind.proofs.Finding.{Found, find_found}
 use Rattle.anti_kind.proofs.Histories.{by_entries}
 use Rattle.anti_kind.proofs.Rows.{is_write, or_false, new_row, rows_more, rows_other, rows_write, version_at}
 use Rattle.anti_kind.proofs.Sums.{count_same, count_one_less}
 
-pub is_there_some : (o : Option Row) → is_there o ≡ true → (r : Row) × (o ≡ Some r)
-is_there_some None is = absurd (cc)
-is_there_some (Some r) is = (r, refl)
+pub some_there : (o : Option Row) → is_some o ≡ true → (r : Row) × (o ≡ Some r)
+some_there None is = absurd (cc)
+some_there (Some r) is = (r, refl)
 
 -- A ready pull of a queue is of a message that is free.
 
@@ -28,17 +29,17 @@ pub record IsHanded (s : Store) (h : List Entry) (e : Entry) (r : Row) (sub : Su
   pub reply : e.reply ≡ Pulled r
   pub found : Found (is_free s h sub) (rows h) r
 
-pub next_found : (s : Store) (h : List Entry) (n : ℕ) (o : Option Sub) (r : Row) → is_queue s.kind ≡ true → pulled_next s h n o ≡ Some r → (sub : Sub) × Found (is_free s h sub) (rows h) r
+pub next_found : (s : Store) (h : List Entry) (n : ℕ) (o : Option Sub) (r : Row) → (facts_of s.kind).tried ≡ true → option_and_then (next_of (facts_of s.kind).tried (facts_of s.kind).polled s h n) o ≡ Some r → (sub : Sub) × Found (is_free s h sub) (rows h) r
 next_found s h n None r kind is = absurd (cc)
 next_found s h n (Some sub) r kind is =
-    (sub, find_found (is_free s h sub) (rows h) r (ap (λ (tried : Bool). next_of tried (is_topic s.kind) s h n sub) (sym kind) ∙ is))
+    (sub, find_found (is_free s h sub) (rows h) r (ap (λ (tried : Bool). next_of tried (facts_of s.kind).polled s h n sub) (sym kind) ∙ is))
 
-pub handed : (s : Store) (h : List Entry) (e : Entry) (n : ℕ) → is_queue s.kind ≡ true → Follows (store s) h e → e.call ≡ Pull n → (r : Row) × (sub : Sub) × IsHanded s h e r sub
+pub handed : (s : Store) (h : List Entry) (e : Entry) (n : ℕ) → (facts_of s.kind).tried ≡ true → Follows (store s) h e → e.call ≡ Pull n → (r : Row) × (sub : Sub) × IsHanded s h e r sub
 handed s h e n queue f is =
-    let there : is_there (next s h n) ≡ true = ap (λ (c : Call). store_ready s h c) (sym is) ∙ f.is_ready in
-    let some : (r : Row) × (next s h n ≡ Some r) = is_there_some (next s h n) there in
+    let there : is_some (next s h n) ≡ true = ap (λ (c : Call). store_ready s h c) (sym is) ∙ f.is_ready in
+    let some : (r : Row) × (next s h n ≡ Some r) = some_there (next s h n) there in
     let got : (sub : Sub) × Found (is_free s h sub) (rows h) some.0 = next_found s h n (slice_get s.subs n) some.0 queue some.1 in
-    (some.0, got.0, record { reply = f.reply ∙ ap (λ (c : Call). store_due s h c) is ∙ ap (λ (o : Option Row). Pulled (or_absent [] o)) some.1; found = got.1 })
+    (some.0, got.0, record { reply = f.reply ∙ ap (λ (c : Call). store_due s h c) is ∙ ap (λ (o : Option Row). Pulled (unwrap_or o (absent []))) some.1; found = got.1 })
 
 pub free_not_out : (s : Store) (h : List Entry) (sub : Sub) (r : Row) → is_free s h sub r ≡ true → is_out h r.version ≡ false
 free_not_out s h sub r free =
@@ -100,7 +101,7 @@ counted_kept h e v was off off' =
     }
 
 -- an entry that pulls the row r, which was not out
-counted_pull : (s : Store) (h : List Entry) (e : Entry) (n : ℕ) → is_queue s.kind ≡ true → IsLegal (store s) h → Follows (store s) h e → e.call ≡ Pull n → (v : ℕ) → Counted h v → Counted (h ++ e ∷ []) v
+counted_pull : (s : Store) (h : List Entry) (e : Entry) (n : ℕ) → (facts_of s.kind).tried ≡ true → IsLegal (store s) h → Follows (store s) h e → e.call ≡ Pull n → (v : ℕ) → Counted h v → Counted (h ++ e ∷ []) v
 counted_pull s h e n queue l f is v was =
     let got = handed s h e n queue f is in
     let r : Row = got.0 in
@@ -146,10 +147,10 @@ module _ (h : List Entry) (e : Entry) (u : ℕ) (out : is_out h u ≡ true) (pul
   pub out_else : (v : ℕ) → (u ≡ v → ⊥) → is_out (h ++ e ∷ []) v ≡ is_out h v
   out_else v differs = out_kept h e v (pulling v) (settling v ∙ ne_eqb u v differs)
 
-pub settle_ready : (s : Store) (h : List Entry) (e : Entry) (c : Call) (u : ℕ) → Follows (store s) h e → e.call ≡ c → store_ready s h c ≡ (is_queue s.kind && is_out h u) → is_out h u ≡ true
-settle_ready s h e c u f is says = (and_parts (is_queue s.kind) (is_out h u) (sym says ∙ ap (λ (x : Call). store_ready s h x) (sym is) ∙ f.is_ready)).1
+pub settle_ready : (s : Store) (h : List Entry) (e : Entry) (c : Call) (u : ℕ) → Follows (store s) h e → e.call ≡ c → store_ready s h c ≡ ((facts_of s.kind).tried && is_out h u) → is_out h u ≡ true
+settle_ready s h e c u f is says = (and_parts (facts_of s.kind).tried (is_out h u) (sym says ∙ ap (λ (x : Call). store_ready s h x) (sym is) ∙ f.is_ready)).1
 
-counted_more : (s : Store) → is_queue s.kind ≡ true → (h : List Entry) (e : Entry) → IsLegal (store s) h → Follows (store s) h e → ((v : ℕ) → Counted h v) → (v : ℕ) → Counted (h ++ e ∷ []) v
+counted_more : (s : Store) → (facts_of s.kind).tried ≡ true → (h : List Entry) (e : Entry) → IsLegal (store s) h → Follows (store s) h e → ((v : ℕ) → Counted h v) → (v : ℕ) → Counted (h ++ e ∷ []) v
 counted_more s queue h e l f was v = by_call e.call refl where
   by_call : (c : Call) → e.call ≡ c → Counted (h ++ e ∷ []) v
   by_call (Pull n) is = counted_pull s h e n queue l f is v (was v)
@@ -159,11 +160,11 @@ counted_more s queue h e l f was v = by_call e.call refl where
       settled_one h e u (settle_ready s h e (Nack u) u f is refl) (λ w. ap (λ (c : Call). is_pull c && gives w e.reply) is) (λ w. ap (λ (c : Call). is_ack w c || is_nack w c) is) v (was v) (u == v) refl
   by_call _ is = counted_kept h e v (was v) (ap (λ (c : Call). is_pull c && gives v e.reply) is) (ap (λ (c : Call). is_ack v c || is_nack v c) is)
 
-pub counted : (s : Store) → is_queue s.kind ≡ true → (h : List Entry) → IsLegal (store s) h → (v : ℕ) → Counted h v
+pub counted : (s : Store) → (facts_of s.kind).tried ≡ true → (h : List Entry) → IsLegal (store s) h → (v : ℕ) → Counted h v
 counted s queue h l = by_entries (store s) (λ k. (v : ℕ) → Counted k v) (λ v. record { balance = inl refl; within = λ some. absurd (omega arith) }) (counted_more s queue) h l
 
 -- a message that is out is a row
-pub out_within : (s : Store) → is_queue s.kind ≡ true → (h : List Entry) → IsLegal (store s) h → (v : ℕ) → is_out h v ≡ true → (1 ≤ v) × (v ≤ length (rows h))
+pub out_within : (s : Store) → (facts_of s.kind).tried ≡ true → (h : List Entry) → IsLegal (store s) h → (v : ℕ) → is_out h v ≡ true → (1 ≤ v) × (v ≤ length (rows h))
 out_within s queue h l v out = let ins : pulls h v ≡ settles h v + 1 = eqb-true (pulls h v) (settles h v + 1) out in (counted s queue h l v).within (omega arith)
 
 -- How many are out.
@@ -176,7 +177,7 @@ outs_other h e writes pulling settling =
     (λ k d short. out_kept h e (get_or (rows h) k d).version (and_left (is_pull e.call) (gives (get_or (rows h) k d).version e.reply) pulling) (settles_none (get_or (rows h) k d).version e.call settling))
 
 -- a write adds a message that is not out
-pub outs_write : (s : Store) → is_queue s.kind ≡ true → (h : List Entry) (e : Entry) (key value : List ℕ) (lineage : List WriteId) → IsLegal (store s) h → Follows (store s) h e → e.call ≡ Write key value lineage → outs (h ++ e ∷ []) ≡ outs h
+pub outs_write : (s : Store) → (facts_of s.kind).tried ≡ true → (h : List Entry) (e : Entry) (key value : List ℕ) (lineage : List WriteId) → IsLegal (store s) h → Follows (store s) h e → e.call ≡ Write key value lineage → outs (h ++ e ∷ []) ≡ outs h
 outs_write s queue h e key value lineage l f is =
     let kept : (v : ℕ) → is_out (h ++ e ∷ []) v ≡ is_out h v = λ v. out_kept h e v (ap (λ (c : Call). is_pull c && gives v e.reply) is) (ap (λ (c : Call). is_ack v c || is_nack v c) is) in
     let new : Row = new_row s h key value lineage in
@@ -187,7 +188,7 @@ outs_write s queue h e key value lineage l f is =
     ∙ omega arith
 
 -- a pull hands one message out
-pub outs_pull : (s : Store) → is_queue s.kind ≡ true → (h : List Entry) (e : Entry) (n : ℕ) → IsLegal (store s) h → Follows (store s) h e → e.call ≡ Pull n → outs (h ++ e ∷ []) ≡ outs h + 1
+pub outs_pull : (s : Store) → (facts_of s.kind).tried ≡ true → (h : List Entry) (e : Entry) (n : ℕ) → IsLegal (store s) h → Follows (store s) h e → e.call ≡ Pull n → outs (h ++ e ∷ []) ≡ outs h + 1
 outs_pull s queue h e n l f is =
     let got = handed s h e n queue f is in
     let r : Row = got.0 in
@@ -211,7 +212,7 @@ outs_pull s queue h e n l f is =
     (settling (get_or (rows h) k d).version))
 
 -- an Ack or Nack settles one that was out
-pub outs_settle : (s : Store) → is_queue s.kind ≡ true → (h : List Entry) (e : Entry) (u : ℕ) → IsLegal (store s) h → is_write e.call ≡ false → is_out h u ≡ true → ((v : ℕ) → (is_pull e.call && gives v e.reply) ≡ false) → ((v : ℕ) → (is_ack v e.call || is_nack v e.call) ≡ (u == v))
+pub outs_settle : (s : Store) → (facts_of s.kind).tried ≡ true → (h : List Entry) (e : Entry) (u : ℕ) → IsLegal (store s) h → is_write e.call ≡ false → is_out h u ≡ true → ((v : ℕ) → (is_pull e.call && gives v e.reply) ≡ false) → ((v : ℕ) → (is_ack v e.call || is_nack v e.call) ≡ (u == v))
     → outs h ≡ outs (h ++ e ∷ []) + 1
 outs_settle s queue h e u l writes out pulling settling =
     let in' : (1 ≤ u) × (u ≤ length (rows h)) = out_within s queue h l u out in
@@ -223,10 +224,10 @@ outs_settle s queue h e u l writes out pulling settling =
     (λ k d within differs. sym (out_else h e u out pulling settling (get_or (rows h) k d).version (λ same. differs (omega (arith, same, version_at s h l k d within, in'.0)))))
     ∙ ap (λ (rs : List Row). count_by (λ (x : Row). is_out (h ++ e ∷ []) x.version) rs + 1) (sym (rows_other h e writes))
 
-pub outs_ack : (s : Store) → is_queue s.kind ≡ true → (h : List Entry) (e : Entry) (u : ℕ) → IsLegal (store s) h → Follows (store s) h e → e.call ≡ Ack u → outs h ≡ outs (h ++ e ∷ []) + 1
+pub outs_ack : (s : Store) → (facts_of s.kind).tried ≡ true → (h : List Entry) (e : Entry) (u : ℕ) → IsLegal (store s) h → Follows (store s) h e → e.call ≡ Ack u → outs h ≡ outs (h ++ e ∷ []) + 1
 outs_ack s queue h e u l f is =
     outs_settle s queue h e u l (ap is_write is) (settle_ready s h e (Ack u) u f is refl) (λ w. ap (λ (c : Call). is_pull c && gives w e.reply) is) (λ w. ap (λ (c : Call). is_ack w c || is_nack w c) is ∙ or_false (u == w))
 
-pub outs_nack : (s : Store) → is_queue s.kind ≡ true → (h : List Entry) (e : Entry) (u : ℕ) → IsLegal (store s) h → Follows (store s) h e → e.call ≡ Nack u → outs h ≡ outs (h ++ e ∷ []) + 1
+pub outs_nack : (s : Store) → (facts_of s.kind).tried ≡ true → (h : List Entry) (e : Entry) (u : ℕ) → IsLegal (store s) h → Follows (store s) h e → e.call ≡ Nack u → outs h ≡ outs (h ++ e ∷ []) + 1
 outs_nack s queue h e u l f is =
     outs_settle s queue h e u l (ap is_write is) (settle_ready s h e (Nack u) u f is refl) (λ w. ap (λ (c : Call). is_pull c && gives w e.reply) is) (λ w. ap (λ (c : Call). is_ack w c || is_nack w c) is)

@@ -1,17 +1,18 @@
 -- The laws of a kind. Looks are right at every store; reads are right, and show together what belongs together, at every store whose
 -- regions show the greatest version that is whole.
-use Rattle.std.proofs.Common.{◌≡◌, ℕ, zero, suc, ◌<◌, Bool, true, not, List, [], ◌∷◌, get_or, Option, Some, None, All, refl, sym, ap, subst, ◌∙◌, ◌==◌, leb, eqb-true, arith}
+use Rattle.std.proofs.Common.{◌≡◌, ℕ, zero, suc, ◌<◌, Bool, true, not, List, [], ◌∷◌, get_or, Option, Some, None, All, refl, sym, ap, subst, ◌∙◌, ◌==◌, leb, eqb-true, arith, unwrap_or}
 use Rattle.std.specs.Prelude.{◌↔◌, bytes_eq, Contains}
 use Rattle.std.proofs.lemmas.List.Elements.{All-nil, All-cons, All-contains}
 use Rattle.std.proofs.lemmas.Bool.{and_parts, both_ways, not-true, true_from_ne_false, le-leb}
 use Rattle.anti_ids.specs.declared.id.WriteId.{WriteId}
+use Rattle.anti_kind.specs.Kinds.{facts_of}
 use Rattle.anti_kind.specs.declared.call.Call.{Call}
 use Rattle.anti_kind.specs.declared.call.Call.TheVariants.{Read, Scan, Poll, Look}
 use Rattle.anti_kind.specs.declared.entry.Entry.{Entry}
 use Rattle.anti_kind.specs.declared.row.Row.{Row}
 use Rattle.anti_kind.specs.Stored.{rows, row_of, is_shipped, shows_of}
 use Rattle.anti_kind.proofs.FactLaws.{scanned_ordered}
-use Rattle.anti_kind.specs.Store.{Store, is_scanned, is_table, is_replica, is_visible, is_written, or_absent, shown_row, scanned}
+use Rattle.anti_kind.specs.Store.{Store, is_replica, is_visible, is_written, shown_row, scanned, absent}
 use Rattle.anti_kind.specs.Objects.{store, due, ready, IsLegal}
 use Rattle.anti_kind.specs.Laws.{ShowsWritten, LooksRight, is_read_at, IsRight, ReadsRight, OwnAfter, IsTogether, ReadsTogether, KeepsLaws}
 use Rattle.anti_kind.specs.Replies.{named_missing, speaks_of, shown}
@@ -77,7 +78,7 @@ reads_right s written h g c reading = right_by s h g c written reading.legal rea
 
 -- the row that is shown for a key has, of that key, only ids that are visible
 row_together : (s : Store) (h : List Entry) (g : ℕ) (k : List ℕ) → IsLegal (store s) h → OwnAfter s [] h → (o : Option Row) → row_of h (s.shows h g k) ≡ o
-    → All (λ id. id.store ≡ s.number → id.key ≡ k → is_visible s h g id ≡ true) (or_absent k o).lineage
+    → All (λ id. id.store ≡ s.number → id.key ≡ k → is_visible s h g id ≡ true) (unwrap_or o (absent k)).lineage
 row_together s h g k l own None is i d short same key = absurd (omega arith)
 row_together s h g k l own (Some r) is i d short same key =
     let found : Found (λ x. x.version == s.shows h g k) (rows h) r = find_found (λ x. x.version == s.shows h g k) (rows h) r is in
@@ -97,7 +98,7 @@ read_together s h g k c says l own =
     (All-nil (IsTogether s h g c))
 
 -- a row that a scan of a table shows came there, and so all that was written before it
-scan_together : (s : Store) → s.shows ≡ shows_of s.kind → is_table s.kind ≡ true → (h : List Entry) → IsLegal (store s) h → OwnAfter s [] h → (g : ℕ) (prefix : List ℕ) → All (IsTogether s h g (Scan g prefix)) (scanned s h g prefix)
+scan_together : (s : Store) → s.shows ≡ shows_of s.kind → (facts_of s.kind).ordered ≡ true → (h : List Entry) → IsLegal (store s) h → OwnAfter s [] h → (g : ℕ) (prefix : List ℕ) → All (IsTogether s h g (Scan g prefix)) (scanned s h g prefix)
 scan_together s is table h l own g prefix =
     all_scanned s h l g prefix (IsTogether s h g (Scan g prefix)) (λ r in' prefixed shown i d short same spoken.
     let id : WriteId = get_or r.lineage i d in
@@ -113,7 +114,7 @@ together_by s is h g (Poll region key) l own can here =
     subst (λ (n : ℕ). All (IsTogether s h n (Poll region key)) (shown_row s h region key ∷ [])) (eqb-true region g here) (read_together s h region key (Poll region key) (λ x. refl) l own)
 together_by s is h g (Scan region prefix) l own can here =
     subst (λ (n : ℕ). All (IsTogether s h n (Scan region prefix)) (scanned s h region prefix)) (eqb-true region g here)
-    (scan_together s is (scanned_ordered s.kind (and_parts (is_scanned s.kind) (is_replica s region) can).0) h l own region prefix)
+    (scan_together s is (scanned_ordered s.kind (and_parts (facts_of s.kind).scanned (is_replica s region) can).0) h l own region prefix)
 together_by s is h g _ l own can here = absurd (cc)
 
 pub reads_together : (s : Store) → s.shows ≡ shows_of s.kind → ReadsTogether s

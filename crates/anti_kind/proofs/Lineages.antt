@@ -9,7 +9,7 @@ use Rattle.anti_kind.specs.declared.call.Reply.{Reply}
 use Rattle.anti_kind.specs.declared.call.Reply.TheVariants.{Written}
 use Rattle.anti_kind.specs.declared.entry.Entry.{Entry}
 use Rattle.anti_kind.specs.declared.row.Row.{Row}
-use Rattle.anti_kind.specs.Stored.{stored, written, wrote, rows}
+use Rattle.anti_kind.specs.Stored.{stored, wrote, rows}
 use Rattle.anti_kind.specs.Store.{Store, is_written}
 use Rattle.anti_kind.specs.Objects.{store, Follows, IsLegal}
 use Rattle.anti_kind.specs.Laws.{IsOwn, OwnAfter, OwnIdsWritten}
@@ -41,14 +41,10 @@ IsEarlier s h r = All (λ id. id.store ≡ s.number → (id.version < r.version)
 earlier_stays : (s : Store) (h rest : List Entry) (r : Row) → IsEarlier s h r → IsEarlier s (h ++ rest) r
 earlier_stays s h rest r was i d short same = let both = was i d short same in (both.0, written_stays h rest (get_or r.lineage i d) both.1)
 
-written_lineage : (list : List WriteId) (value : List ℕ) (reply : Reply) → All (λ r. r.lineage ≡ list) (written value list reply)
-written_lineage list value (Written key version) zero d short = refl
-written_lineage list value (Written key version) (suc k) d short = absurd (omega arith)
-written_lineage list value _ k d short = absurd (omega arith)
-
 wrote_lineage : (c : Call) (reply : Reply) → All (λ r. r.lineage ≡ stored c reply) (wrote c reply)
-wrote_lineage (Write key value lineage) reply = written_lineage (stored (Write key value lineage) reply) value reply
-wrote_lineage _ reply = λ k d short. absurd (omega arith)
+wrote_lineage (Write name value lineage) (Written key version) zero d short = refl
+wrote_lineage (Write name value lineage) (Written key version) (suc k) d short = absurd (omega arith)
+wrote_lineage _ _ k d short = absurd (omega arith)
 
 -- the row that an entry adds has the next version
 wrote_next : (s : Store) (h : List Entry) (e : Entry) → IsLegal (store s) h → Follows (store s) h e → (k : ℕ) (d : Row) → k < length (wrote e.call e.reply) → length (rows h) < (get_or (wrote e.call e.reply) k d).version

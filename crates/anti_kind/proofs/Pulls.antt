@@ -1,6 +1,6 @@
 -- What a subscription of a topic pulled: the cells of its channel, from the first on, as many as it pulled. So one number tells them,
 -- the version of the last.
-use Rattle.std.proofs.Common.{◌≡◌, ℕ, zero, suc, ◌+◌, ◌-◌, ◌<◌, ◌≤◌, Bool, true, false, cond, ◌&&◌, ◌||◌, List, [], ◌∷◌, ◌++◌, length, get_or, take, filter, slice_get, Option, Some, None, AllPairs, refl, sym, ap, ap₂, ◌∙◌, ⊎_elim, ◌==◌, leb, eqb-true, length-append, arith}
+use Rattle.std.proofs.Common.{◌≡◌, ℕ, zero, suc, ◌+◌, ◌-◌, ◌<◌, ◌≤◌, Bool, true, false, cond, ◌&&◌, ◌||◌, List, [], ◌∷◌, ◌++◌, length, get_or, take, filter, slice_get, Option, Some, None, AllPairs, refl, sym, ap, ap₂, ◌∙◌, ⊎_elim, ◌==◌, leb, eqb-true, length-append, arith, is_some, unwrap_or, option_and_then}
 use Rattle.std.specs.Prelude.{Contains}
 use Rattle.std.specs.Cmp.{both_ways as by_both}
 use Rattle.std.specs.List.{list_any, Any}
@@ -10,6 +10,7 @@ use Rattle.std.proofs.lemmas.List.Folds.{list_any-append, list_any_more, list_an
 use Rattle.std.proofs.lemmas.List.Kept.{AllPairs-filter}
 use Rattle.std.proofs.lemmas.List.Sums.{sum_by_push}
 use Rattle.std.proofs.lemmas.Option.{slice_get_within, get_or_from_slice_get}
+use Rattle.anti_kind.specs.Kinds.{facts_of}
 use Rattle.anti_kind.specs.declared.call.Call.{Call}
 use Rattle.anti_kind.specs.declared.call.Call.TheVariants.{Pull}
 use Rattle.anti_kind.specs.declared.call.Reply.{Reply}
@@ -18,16 +19,16 @@ use Rattle.anti_kind.specs.declared.entry.Entry.{Entry}
 use Rattle.anti_kind.specs.declared.row.Row.{Row}
 use Rattle.anti_kind.specs.declared.store_kind.Sub.{Sub}
 use Rattle.anti_kind.specs.Stored.{wrote, rows, row_of, is_in}
-use Rattle.anti_kind.specs.Store.{Store, is_queue, is_topic, absent, or_absent, is_pull_by, gives, cursor, if_whole, next_of, pulled_next, next, is_there, was_pulled, store_ready, store_due, cells}
+use Rattle.anti_kind.specs.Store.{Store, absent, is_pull_by, gives, cursor, next_of, next, was_pulled, store_ready, store_due, cells}
 use Rattle.anti_kind.specs.Cells.{is_row_in, is_cell, nth_version, last_pulled}
 use Rattle.anti_kind.specs.Objects.{store, Follows, IsLegal}
 use Rattle.anti_kind.proofs.FactLaws.{polled_not_tried}
 use Rattle.anti_kind.proofs.Finding.{Found, find_found, filter_contains}
 use Rattle.anti_kind.proofs.Histories.{by_entries}
 use Rattle.anti_kind.proofs.Rows.{or_false, is_write, version_at, versions_grow, row_in}
-use Rattle.anti_kind.proofs.Handed.{is_there_some}
+use Rattle.anti_kind.proofs.Handed.{some_there}
 use Rattle.anti_kind.proofs.Sources.{whole_given, pull_of}
-use Rattle.anti_kind.proofs.Cells.{cells_more, cells_other}
+use Rattle.anti_kind.proofs.Cells.{cells_more, cells_other, if_whole}
 
 -- One entry more.
 
@@ -47,13 +48,13 @@ no_sub_pulled s n none h l = by_entries (store s) (λ k. (v : ℕ) → was_pulle
       was_pulled_more k e n v
       ∙ or_from (was_pulled k n v) (is_pull_by n e.call && gives v e.reply) (was v)
       (and_left (is_pull_by n e.call) (gives v e.reply) (false_from_ne_true (is_pull_by n e.call) (λ by.
-      let there : is_there (next s k n) ≡ true = ap (λ (c : Call). store_ready s k c) (sym (pull_of n e.call by)) ∙ f.is_ready in
-      let gone : is_there (next s k n) ≡ false = ap (λ (o : Option Sub). is_there (pulled_next s k n o)) none in
-      both_ways (is_there (next s k n)) gone there)))
+      let there : is_some (next s k n) ≡ true = ap (λ (c : Call). store_ready s k c) (sym (pull_of n e.call by)) ∙ f.is_ready in
+      let gone : is_some (next s k n) ≡ false = ap (λ (o : Option Sub). is_some (option_and_then (next_of (facts_of s.kind).tried (facts_of s.kind).polled s k n) o)) none in
+      both_ways (is_some (next s k n)) gone there)))
 
 -- What a subscription pulled.
 
-module _ (s : Store) (kind : is_topic s.kind ≡ true) (n : ℕ) (sub : Sub) (has : slice_get s.subs n ≡ Some sub) where
+module _ (s : Store) (kind : (facts_of s.kind).polled ≡ true) (n : ℕ) (sub : Sub) (has : slice_get s.subs n ≡ Some sub) where
   -- a pull gives the next cell
   record IsNextCell (h : List Entry) (e : Entry) (r : Row) : Type 0 where
     reply : e.reply ≡ Pulled r
@@ -61,12 +62,12 @@ module _ (s : Store) (kind : is_topic s.kind ≡ true) (n : ℕ) (sub : Sub) (ha
 
   next_cell_given : (h : List Entry) (e : Entry) → Follows (store s) h e → e.call ≡ Pull n → (r : Row) × IsNextCell h e r
   next_cell_given h e f is =
-      let some : (r : Row) × (next s h n ≡ Some r) = is_there_some (next s h n) (ap (λ (c : Call). store_ready s h c) (sym is) ∙ f.is_ready) in
+      let some : (r : Row) × (next s h n ≡ Some r) = some_there (next s h n) (ap (λ (c : Call). store_ready s h c) (sym is) ∙ f.is_ready) in
       let cell : if_whole s h sub.region (slice_get (cells h sub.channel) (cursor h n)) ≡ Some some.0 =
-      ap₂ (λ (tried polled : Bool). next_of tried polled s h n sub) (sym (polled_not_tried s.kind kind)) (sym kind) ∙ ap (pulled_next s h n) (sym has) ∙ some.1 in (
+      ap₂ (λ (tried polled : Bool). next_of tried polled s h n sub) (sym (polled_not_tried s.kind kind)) (sym kind) ∙ ap (option_and_then (next_of (facts_of s.kind).tried (facts_of s.kind).polled s h n)) (sym has) ∙ some.1 in (
         some.0,
         record {
-          reply = f.reply ∙ ap (λ (c : Call). store_due s h c) is ∙ ap (λ (o : Option Row). Pulled (or_absent [] o)) some.1;
+          reply = f.reply ∙ ap (λ (c : Call). store_due s h c) is ∙ ap (λ (o : Option Row). Pulled (unwrap_or o (absent []))) some.1;
           cell = whole_given s h sub.region (slice_get (cells h sub.channel) (cursor h n)) some.0 cell;
         },
       )
@@ -182,7 +183,7 @@ module _ (s : Store) (h : List Entry) (l : IsLegal (store s) h) (channel : List 
       (ap (λ (x : Row). x.version == v) (get_or-take n rs here.0 r short ∙ here.2) ∙ found.passes)
 
 -- A subscription pulled a version exactly where it is that of a cell of its channel, and not above the last that it pulled.
-pub pulled_by_last : (s : Store) → is_topic s.kind ≡ true → (n : ℕ) (sub : Sub) → slice_get s.subs n ≡ Some sub → (h : List Entry) → IsLegal (store s) h → (v : ℕ)
+pub pulled_by_last : (s : Store) → (facts_of s.kind).polled ≡ true → (n : ℕ) (sub : Sub) → slice_get s.subs n ≡ Some sub → (h : List Entry) → IsLegal (store s) h → (v : ℕ)
     → was_pulled h n v ≡ (leb 1 v && (leb v (last_pulled h n sub.channel) && is_cell h v sub.channel))
 pulled_by_last s kind n sub has h l v =
     let pulled : ArePulled s kind n sub has h = are_pulled s kind n sub has h l in

@@ -1,5 +1,5 @@
 -- Scans: what they show, and that they never show fewer rows later.
-use Rattle.std.proofs.Common.{◌≡◌, ℕ, ◌+◌, ◌<◌, ◌≤◌, Bool, true, false, cond, ◌&&◌, List, [], ◌∷◌, ◌++◌, length, get_or, map, filter, take, All, sym, ap, ◌∙◌, ⊎_elim, ◌==◌, eqb-true, eq-eqb, arith}
+use Rattle.std.proofs.Common.{◌≡◌, Option, ℕ, ◌+◌, ◌<◌, ◌≤◌, Bool, true, false, cond, ◌&&◌, List, [], ◌∷◌, ◌++◌, length, get_or, map, filter, take, All, sym, ap, ◌∙◌, ⊎_elim, ◌==◌, eqb-true, eq-eqb, arith, unwrap_or}
 use Rattle.std.specs.Prelude.{bytes_eq, Contains}
 use Rattle.std.specs.Ordering.{nat_cmp, is_lt}
 use Rattle.std.specs.Cmp.Lexicographic.{slice_cmp}
@@ -17,7 +17,7 @@ use Rattle.anti_kind.specs.declared.call.Call.TheVariants.{Scan}
 use Rattle.anti_kind.specs.declared.entry.Entry.{Entry}
 use Rattle.anti_kind.specs.declared.row.Row.{Row}
 use Rattle.anti_kind.specs.Stored.{rows, row_of}
-use Rattle.anti_kind.specs.Store.{Store, absent, or_absent, is_written, shown_row, by_key, sorted, has_prefix, scanned}
+use Rattle.anti_kind.specs.Store.{Store, absent, is_written, shown_row, by_key, sorted, scanned}
 use Rattle.anti_kind.specs.Objects.{store, IsLegal}
 use Rattle.anti_kind.specs.Laws.{NeverFalls, id_of, ShowsWritten, IsRight}
 use Rattle.anti_kind.specs.Replies.{speaks_of}
@@ -49,7 +49,7 @@ length_sorted rs = length_permutation rs (sorted rs) (sorted_permutes rs)
 -- The rows of a scan have different keys.
 
 abbrev in_scan : Store → List Entry → ℕ → List ℕ → Row → Bool
-in_scan s h g prefix r = has_prefix prefix r && (s.shows h g r.key == r.version)
+in_scan s h g prefix r = bytes_eq prefix (take (length prefix) r.key) && (s.shows h g r.key == r.version)
 
 abbrev scan_rows : Store → List Entry → ℕ → List ℕ → List Row
 scan_rows s h g prefix = filter (in_scan s h g prefix) (rows h)
@@ -61,7 +61,7 @@ module _ (s : Store) (h : List Entry) (l : IsLegal (store s) h) (g : ℕ) (prefi
   is_version : (i : ℕ) (d : Row) → i < length (scan_rows s h g prefix) → s.shows h g (get_or (scan_rows s h g prefix) i d).key ≡ (get_or (scan_rows s h g prefix) i d).version
   is_version i d short =
       let on : in_scan s h g prefix (get_or (scan_rows s h g prefix) i d) ≡ true = filter_passes (in_scan s h g prefix) (rows h) i d short in
-      eqb-true _ _ (and_parts (has_prefix prefix (get_or (scan_rows s h g prefix) i d)) _ on).1
+      eqb-true _ _ (and_parts (bytes_eq prefix (take (length prefix) (get_or (scan_rows s h g prefix) i d).key)) _ on).1
 
   apart : (i j : ℕ) (d : List ℕ) → i < j → j < length (scan_keys s h g prefix) → bytes_eq (get_or (scan_keys s h g prefix) i d) (get_or (scan_keys s h g prefix) j d) ≡ false
   apart i j d less short =
@@ -88,7 +88,7 @@ module _ (s : Store) (h : List Entry) (l : IsLegal (store s) h) (g : ℕ) (prefi
       let r : Row = get_or (scan_rows s h g prefix) in'.0 (absent []) in
       let key : r.key ≡ k = sym (get_or-map (λ (x : Row). x.key) (scan_rows s h g prefix) in'.0 (absent []) k short) ∙ in'.2 in
       let on : in_scan s h g prefix r ≡ true = filter_passes (in_scan s h g prefix) (rows h) in'.0 (absent []) short in
-      let both = and_parts (has_prefix prefix r) (s.shows h g r.key == r.version) on in
+      let both = and_parts (bytes_eq prefix (take (length prefix) r.key)) (s.shows h g r.key == r.version) on in
       let first : 1 ≤ r.version = All-filter (in_scan s h g prefix) (λ (x : Row). 1 ≤ x.version) (rows h) (λ i d within. omega (arith, version_at s h l i d within)) in'.0 (absent []) short in
       record {
         prefixed = ap (λ (x : List ℕ). bytes_eq prefix (take (length prefix) x)) (sym key) ∙ both.0;
@@ -108,7 +108,7 @@ module _ (s : Store) (h : List Entry) (l : IsLegal (store s) h) (g : ℕ) (prefi
       let found : (r : Row) × IsWritten h (id_of s k (s.shows h g k)) r = row_written s h l (id_of s k (s.shows h g k)) some in
       let at : Found (λ x. x.version == s.shows h g k) (rows h) found.0 = find_found (λ x. x.version == s.shows h g k) (rows h) found.0 found.1.row in
       let passes : in_scan s h g prefix found.0 ≡ true =
-      and_from (has_prefix prefix found.0) (s.shows h g found.0.key == found.0.version)
+      and_from (bytes_eq prefix (take (length prefix) found.0.key)) (s.shows h g found.0.key == found.0.version)
       (ap (λ (x : List ℕ). bytes_eq prefix (take (length prefix) x)) found.1.key ∙ is.prefixed)
       (eq-eqb (s.shows h g found.0.key) found.0.version (ap (λ (x : List ℕ). s.shows h g x) found.1.key ∙ sym found.1.version)) in
       record { row = found.0; here = (filter_contains (in_scan s h g prefix) (rows h) found.0).1 ((at.index, at.within, at.at found.0), passes); key = found.1.key })
@@ -123,18 +123,18 @@ module _ (s : Store) (h : List Entry) (l : IsLegal (store s) h) (g : ℕ) (prefi
       )
 
   -- What holds of each row of the history that has the prefix and whose version its key shows holds of each row of the scan.
-  pub all_scanned : (P : Row → Type 0) → ((r : Row) → Contains (rows h) r → has_prefix prefix r ≡ true → s.shows h g r.key ≡ r.version → P r) → All P (scanned s h g prefix)
+  pub all_scanned : (P : Row → Type 0) → ((r : Row) → Contains (rows h) r → bytes_eq prefix (take (length prefix) r.key) ≡ true → s.shows h g r.key ≡ r.version → P r) → All P (scanned s h g prefix)
   all_scanned P holds =
       All-permutation P (scan_rows s h g prefix) (scanned s h g prefix) (sorted_permutes (scan_rows s h g prefix)) (λ i d short.
       let r : Row = get_or (scan_rows s h g prefix) i d in
       let in' : Contains (rows h) r × (in_scan s h g prefix r ≡ true) = (filter_contains (in_scan s h g prefix) (rows h) r).0 (Contains-get_or (scan_rows s h g prefix) i d short) in
-      let both = and_parts (has_prefix prefix r) (s.shows h g r.key == r.version) in'.1 in
+      let both = and_parts (bytes_eq prefix (take (length prefix) r.key)) (s.shows h g r.key == r.version) in'.1 in
       holds r in'.0 both.0 (eqb-true (s.shows h g r.key) r.version both.1))
 
   -- A scan shows what its region shows.
 
-  row_right : (r : Row) → Contains (rows h) r → has_prefix prefix r ≡ true → s.shows h g r.key ≡ r.version → (speaks_of r.key (Scan g prefix) ≡ true) × (r ≡ shown_row s h g r.key)
-  row_right r in' prefixed shown = (prefixed, sym (ap (λ (v : ℕ). or_absent r.key (row_of h v)) shown ∙ ap (or_absent r.key) (row_in s h l r in')))
+  row_right : (r : Row) → Contains (rows h) r → bytes_eq prefix (take (length prefix) r.key) ≡ true → s.shows h g r.key ≡ r.version → (speaks_of r.key (Scan g prefix) ≡ true) × (r ≡ shown_row s h g r.key)
+  row_right r in' prefixed shown = (prefixed, sym (ap (λ (v : ℕ). unwrap_or (row_of h v) (absent r.key)) shown ∙ ap (λ (o : Option Row). unwrap_or o (absent r.key)) (row_in s h l r in')))
 
   some_or_none : (n : ℕ) → (1 ≤ n → ⊥) → n ≡ 0
   some_or_none n none = ⊎_elim (λ (low : n < 1). omega arith) (λ (some : 1 ≤ n). absurd (none some)) (cases_lt n 1)

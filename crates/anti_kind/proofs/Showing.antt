@@ -1,6 +1,6 @@
 -- What a region shows: it never falls and is what was written, at each store that shows the greatest version that is whole; and the
 -- row that is shown.
-use Rattle.std.proofs.Common.{◌≡◌, ℕ, zero, suc, get_or, ◌+◌, ◌<◌, ◌≤◌, max, Bool, true, false, cond, ◌&&◌, List, [], ◌∷◌, ◌++◌, length, Some, refl, sym, ap, ◌∙◌, ◌⊎◌, inl, inr, ⊎_elim, ◌==◌, eqb-true, eq-eqb, arith}
+use Rattle.std.proofs.Common.{◌≡◌, Option, ℕ, zero, suc, get_or, ◌+◌, ◌<◌, ◌≤◌, max, Bool, true, false, cond, ◌&&◌, List, [], ◌∷◌, ◌++◌, length, Some, refl, sym, ap, ◌∙◌, ◌⊎◌, inl, inr, ⊎_elim, ◌==◌, eqb-true, eq-eqb, arith, unwrap_or}
 use Rattle.std.specs.Prelude.{bytes_eq, Contains}
 use Rattle.std.specs.List.{list_any, Any}
 use Rattle.std.proofs.lemmas.List.Concat.{flat_map-append}
@@ -14,7 +14,7 @@ use Rattle.anti_kind.specs.declared.entry.Entry.{Entry}
 use Rattle.anti_kind.specs.declared.row.Row.{Row}
 use Rattle.anti_kind.specs.declared.store_kind.StoreKind.{StoreKind}
 use Rattle.anti_kind.specs.Stored.{wrote, rows, row_of, is_ship, is_shipped, is_whole, parts, greatest, shows_of}
-use Rattle.anti_kind.specs.Store.{Store, is_written, absent, or_absent, shown_row}
+use Rattle.anti_kind.specs.Store.{Store, is_written, absent, shown_row}
 use Rattle.anti_kind.specs.Objects.{store, IsLegal}
 use Rattle.anti_kind.specs.Laws.{NeverFalls, id_of, ShowsWritten}
 use Rattle.anti_kind.proofs.Rows.{version_at, row_of_at, row_of_none}
@@ -155,10 +155,10 @@ pub is_shown : (s : Store) (h : List Entry) (g : ℕ) (k : List ℕ) → ShowsWr
 is_shown s h g k written l =
     ⊎_elim
     (λ (none : s.shows h g k ≡ 0).
-    let is : shown_row s h g k ≡ absent k = ap (or_absent k) (row_of_none s h l (s.shows h g k) (inl none)) in
+    let is : shown_row s h g k ≡ absent k = ap (λ (o : Option Row). unwrap_or o (absent k)) (row_of_none s h l (s.shows h g k) (inl none)) in
     record { key = ap (λ (r : Row). r.key) is; version = ap (λ (r : Row). r.version) is ∙ sym none })
     (λ (some : is_written h (id_of s k (s.shows h g k)) ≡ true).
     let found : (r : Row) × IsWritten h (id_of s k (s.shows h g k)) r = row_written s h l (id_of s k (s.shows h g k)) some in
-    let is : shown_row s h g k ≡ found.0 = ap (or_absent k) found.1.row in
+    let is : shown_row s h g k ≡ found.0 = ap (λ (o : Option Row). unwrap_or o (absent k)) found.1.row in
     record { key = ap (λ (r : Row). r.key) is ∙ found.1.key; version = ap (λ (r : Row). r.version) is ∙ found.1.version })
     (written h l g k)

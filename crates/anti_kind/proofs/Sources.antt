@@ -1,6 +1,6 @@
 -- Where what a call hands out and names comes from: rows are those of writes, regions those of replicas, and the ids of a look are of
 -- the store.
-use Rattle.std.proofs.Common.{◌≡◌, ℕ, Bool, true, false, cond, ◌&&◌, List, [], ◌∷◌, ◌++◌, get_or, filter, Option, Some, None, slice_get, All, refl, sym, ap, subst, ◌∙◌, ◌⊎◌, inl, inr, ⊎_elim, ◌==◌, eqb-true}
+use Rattle.std.proofs.Common.{◌≡◌, ℕ, Bool, true, false, cond, ◌&&◌, List, [], ◌∷◌, ◌++◌, get_or, filter, Option, Some, None, slice_get, All, refl, sym, ap, subst, ◌∙◌, ◌⊎◌, inl, inr, ⊎_elim, ◌==◌, eqb-true, is_some, unwrap_or, option_and_then}
 use Rattle.std.specs.Prelude.{Contains}
 use Rattle.std.specs.List.{list_any, list_all, Any}
 use Rattle.std.proofs.lemmas.Bool.{and_parts, or_cases}
@@ -10,6 +10,8 @@ use Rattle.std.proofs.lemmas.Option.{slice_get_within, get_or_from_slice_get}
 use Rattle.std.proofs.lemmas.List.Folds.{list_any-append, Any-from_list_any}
 use Rattle.std.proofs.lemmas.List.Sums.{AllPass-from_list_all}
 use Rattle.anti_ids.specs.declared.id.WriteId.{WriteId}
+use Rattle.anti_kind.specs.Kinds.{facts_of}
+use Rattle.anti_kind.proofs.Cells.{if_whole}
 use Rattle.anti_kind.specs.declared.call.Call.{Call}
 use Rattle.anti_kind.specs.declared.call.Call.TheVariants.{Read, Scan, Poll, Look, Ship, Again, Pull, Repull}
 use Rattle.anti_kind.specs.declared.call.Reply.TheVariants.{Pulled}
@@ -17,13 +19,13 @@ use Rattle.anti_kind.specs.declared.entry.Entry.{Entry}
 use Rattle.anti_kind.specs.declared.row.Row.{Row}
 use Rattle.anti_kind.specs.declared.store_kind.Sub.{Sub}
 use Rattle.anti_kind.specs.Stored.{rows, row_of, is_whole, is_in}
-use Rattle.anti_kind.specs.Store.{Store, has_keys, is_queue, is_scanned, is_topic, is_replica, absent, or_absent, shown_row, is_pull_by, gives, is_free, if_whole, cursor, next_of, pulled_next, next, is_there, was_pulled, store_ready, store_due}
+use Rattle.anti_kind.specs.Store.{Store, is_replica, absent, shown_row, is_pull_by, gives, is_free, cursor, next_of, next, was_pulled, store_ready, store_due}
 use Rattle.anti_kind.specs.Objects.{store, Follows, IsLegal}
 use Rattle.anti_kind.specs.Laws.{IsOfWrite, RowsHaveSources, CallsNameOwn}
 use Rattle.anti_kind.proofs.Finding.{Found, find_found, filter_contains}
 use Rattle.anti_kind.proofs.Histories.{by_entries}
 use Rattle.anti_kind.proofs.Rows.{or_false, row_in}
-use Rattle.anti_kind.proofs.Handed.{is_there_some}
+use Rattle.anti_kind.proofs.Handed.{some_there}
 use Rattle.anti_kind.proofs.Scans.{all_scanned}
 use Rattle.anti_kind.proofs.Shipped.{row_of_kept, ready_shipment, shipped_sound}
 
@@ -33,7 +35,7 @@ use Rattle.anti_kind.proofs.Shipped.{row_of_kept, ready_shipment, shipped_sound}
 row_of_write : (h : List Entry) (v : ℕ) (r : Row) → row_of h v ≡ Some r → IsOfWrite h r
 row_of_write h v r is = ap (row_of h) (eqb-true r.version v (find_found (λ (x : Row). x.version == v) (rows h) r is).passes) ∙ is
 
-row_shown : (h : List Entry) (k : List ℕ) (v : ℕ) (o : Option Row) → row_of h v ≡ o → (or_absent k o ≡ absent (or_absent k o).key) ⊎ IsOfWrite h (or_absent k o)
+row_shown : (h : List Entry) (k : List ℕ) (v : ℕ) (o : Option Row) → row_of h v ≡ o → (unwrap_or o (absent k) ≡ absent (unwrap_or o (absent k)).key) ⊎ IsOfWrite h (unwrap_or o (absent k))
 row_shown h k v None is = inl refl
 row_shown h k v (Some r) is = inr (row_of_write h v r is)
 
@@ -63,18 +65,18 @@ next_in false true s h n sub r is =
     ((filter_contains (is_in sub.channel) (rows h) r).0 (got_in cells (cursor h n) r got)).0
 next_in false false s h n sub r is = absurd (cc)
 
-subscribed_in : (s : Store) (h : List Entry) (n : ℕ) (o : Option Sub) (r : Row) → pulled_next s h n o ≡ Some r → Contains (rows h) r
+subscribed_in : (s : Store) (h : List Entry) (n : ℕ) (o : Option Sub) (r : Row) → option_and_then (next_of (facts_of s.kind).tried (facts_of s.kind).polled s h n) o ≡ Some r → Contains (rows h) r
 subscribed_in s h n None r is = absurd (cc)
-subscribed_in s h n (Some sub) r is = next_in (is_queue s.kind) (is_topic s.kind) s h n sub r is
+subscribed_in s h n (Some sub) r is = next_in (facts_of s.kind).tried (facts_of s.kind).polled s h n sub r is
 
 -- the row that a ready pull gives
 record IsGiven (s : Store) (h : List Entry) (n : ℕ) (r : Row) : Type 0 where
   next : next s h n ≡ Some r
   row : IsOfWrite h r
 
-pull_gives : (s : Store) (h : List Entry) → IsLegal (store s) h → (n : ℕ) → is_there (next s h n) ≡ true → (r : Row) × IsGiven s h n r
+pull_gives : (s : Store) (h : List Entry) → IsLegal (store s) h → (n : ℕ) → is_some (next s h n) ≡ true → (r : Row) × IsGiven s h n r
 pull_gives s h l n there =
-    let some : (r : Row) × (next s h n ≡ Some r) = is_there_some (next s h n) there in
+    let some : (r : Row) × (next s h n ≡ Some r) = some_there (next s h n) there in
     (some.0, record { next = some.1; row = row_in s h l some.0 (subscribed_in s h n (slice_get s.subs n) some.0 some.1) })
 
 -- A version that a subscription pulled has its row.
@@ -90,7 +92,7 @@ pulled_now : (s : Store) (h : List Entry) (e : Entry) → IsLegal (store s) h �
 pulled_now s h e l f n v by given =
     let is : e.call ≡ Pull n = pull_of n e.call by in
     let got : (r : Row) × IsGiven s h n r = pull_gives s h l n (ap (λ (c : Call). store_ready s h c) (sym is) ∙ f.is_ready) in
-    let reply : e.reply ≡ Pulled got.0 = f.reply ∙ ap (λ (c : Call). store_due s h c) is ∙ ap (λ (o : Option Row). Pulled (or_absent [] o)) got.1.next in
+    let reply : e.reply ≡ Pulled got.0 = f.reply ∙ ap (λ (c : Call). store_due s h c) is ∙ ap (λ (o : Option Row). Pulled (unwrap_or o (absent []))) got.1.next in
     let version : got.0.version ≡ v = eqb-true got.0.version v (ap (gives v) (sym reply) ∙ given) in
     (got.0, ap (row_of h) (sym version) ∙ got.1.row)
 
@@ -114,10 +116,10 @@ rows_have_sources s h (Poll g k) l can = one_shown h (shown_row s h g k) (row_sh
 rows_have_sources s h (Scan g prefix) l can = all_scanned s h l g prefix (λ r. (r ≡ absent r.key) ⊎ IsOfWrite h r) (λ r in' prefixed shown. inr (row_in s h l r in'))
 rows_have_sources s h (Pull n) l can =
     let got : (r : Row) × IsGiven s h n r = pull_gives s h l n can in
-    subst (λ (o : Option Row). IsOfWrite h (or_absent [] o)) (sym got.1.next) got.1.row
+    subst (λ (o : Option Row). IsOfWrite h (unwrap_or o (absent []))) (sym got.1.next) got.1.row
 rows_have_sources s h (Repull n v) l can =
-    let got : (r : Row) × (row_of h v ≡ Some r) = pulled_there s h l n v (and_parts (is_topic s.kind) (was_pulled h n v) can).1 in
-    subst (λ (o : Option Row). IsOfWrite h (or_absent [] o)) (sym got.1) (row_of_write h v got.0 got.1)
+    let got : (r : Row) × (row_of h v ≡ Some r) = pulled_there s h l n v (and_parts (facts_of s.kind).polled (was_pulled h n v) can).1 in
+    subst (λ (o : Option Row). IsOfWrite h (unwrap_or o (absent []))) (sym got.1) (row_of_write h v got.0 got.1)
 rows_have_sources s h _ l can = tt
 
 -- Regions and ids.
@@ -128,9 +130,9 @@ replica_in s g is =
     (found.0, found.2, get_or_default s.regions found.0 g found.1 found.2 ∙ found.3 ∙ eqb-true found.1 g found.4)
 
 pub calls_name_own : (s : Store) → CallsNameOwn s
-calls_name_own s h (Read g k) l can = replica_in s g (and_parts (has_keys s.kind) (is_replica s g) can).1
-calls_name_own s h (Scan g prefix) l can = replica_in s g (and_parts (is_scanned s.kind) (is_replica s g) can).1
-calls_name_own s h (Poll g k) l can = replica_in s g (and_parts (is_topic s.kind) (is_replica s g) can).1
+calls_name_own s h (Read g k) l can = replica_in s g (and_parts (facts_of s.kind).keyed (is_replica s g) can).1
+calls_name_own s h (Scan g prefix) l can = replica_in s g (and_parts (facts_of s.kind).scanned (is_replica s g) can).1
+calls_name_own s h (Poll g k) l can = replica_in s g (and_parts (facts_of s.kind).polled (is_replica s g) can).1
 calls_name_own s h (Look g ids dry) l can =
     let first = and_parts (is_replica s g) _ can in
     let own = AllPass-from_list_all (λ (id : WriteId). id.store == s.number) ids (and_parts (list_all (λ (id : WriteId). id.store == s.number) ids) _ first.1).0 in

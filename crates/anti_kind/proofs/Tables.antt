@@ -5,12 +5,13 @@ use Rattle.std.proofs.lemmas.Bool.{and_parts, and_from, or_cases, le-leb, lt-leb
 use Rattle.std.proofs.lemmas.List.FromFn.{get_or-range_with_len, length-range_with_len}
 use Rattle.std.proofs.lemmas.List.Sums.{AllPass-from_list_all}
 use Rattle.anti_ids.specs.declared.id.WriteId.{WriteId}
+use Rattle.anti_kind.specs.Kinds.{facts_of}
 use Rattle.anti_kind.specs.declared.call.Call.{Call}
 use Rattle.anti_kind.specs.declared.entry.Entry.{Entry}
 use Rattle.anti_kind.specs.declared.row.Row.{Row}
 use Rattle.anti_kind.specs.declared.store_kind.StoreKind.{StoreKind}
 use Rattle.anti_kind.specs.Stored.{rows, row_of, is_ship, is_shipped, is_whole, parts_of, parts, shows_of}
-use Rattle.anti_kind.specs.Store.{Store, is_table, is_replica, has_part, is_next, can_ship, is_visible, is_written, absent, store_ready}
+use Rattle.anti_kind.specs.Store.{Store, is_replica, has_part, is_next, can_ship, is_visible, is_written, absent, store_ready}
 use Rattle.anti_kind.specs.Objects.{store, Follows, IsLegal}
 use Rattle.anti_kind.proofs.FactLaws.{has_parts, one_is_whole}
 use Rattle.anti_kind.proofs.Finding.{Found, find_found}
@@ -21,13 +22,13 @@ use Rattle.anti_kind.proofs.Showing.{same_bytes, shipped_stays, IsGreatest, grea
 
 -- Where a part of a version came to, all versions before it had come.
 
-next_of_table : (s : Store) (h : List Entry) (g v p : ℕ) → is_table s.kind ≡ true → can_ship s h g v p ≡ true → is_next h g v ≡ true
+next_of_table : (s : Store) (h : List Entry) (g v p : ℕ) → (facts_of s.kind).ordered ≡ true → can_ship s h g v p ≡ true → is_next h g v ≡ true
 next_of_table s h g v p table can =
     let first = and_parts (is_replica s g) _ can in
     let second = and_parts (has_part s.kind (row_of h v) p) _ first.1 in
     let third = and_parts (not (is_shipped h g v p)) _ second.1 in
-    ⊎_elim (λ (other : not (is_table s.kind) ≡ true). absurd (both_ways (is_table s.kind) (not-true (is_table s.kind) other) table)) (λ (next : is_next h g v ≡ true). next)
-    (or_cases (not (is_table s.kind)) (is_next h g v) third.1)
+    ⊎_elim (λ (other : not (facts_of s.kind).ordered ≡ true). absurd (both_ways (facts_of s.kind).ordered (not-true (facts_of s.kind).ordered other) table)) (λ (next : is_next h g v ≡ true). next)
+    (or_cases (not (facts_of s.kind).ordered) (is_next h g v) third.1)
 
 came_before : (s : Store) (h : List Entry) (g v w : ℕ) → IsLegal (store s) h → is_next h g v ≡ true → v ≤ length (rows h) → 1 ≤ w → w < v → is_shipped h g w 1 ≡ true
 came_before s h g v w l next within some less =
@@ -41,7 +42,7 @@ came_before s h g v w l next within some less =
 abbrev InOrder : List Entry → Type 0
 InOrder h = (g v p w : ℕ) → is_shipped h g v p ≡ true → 1 ≤ w → w < v → is_shipped h g w 1 ≡ true
 
-in_order_more : (s : Store) → is_table s.kind ≡ true → (h : List Entry) (e : Entry) → IsLegal (store s) h → Follows (store s) h e → InOrder h → InOrder (h ++ e ∷ [])
+in_order_more : (s : Store) → (facts_of s.kind).ordered ≡ true → (h : List Entry) (e : Entry) → IsLegal (store s) h → Follows (store s) h e → InOrder h → InOrder (h ++ e ∷ [])
 in_order_more s table h e l f was g v p w on some less =
     shipped_stays h (e ∷ []) g w 1
     (⊎_elim (λ (before : is_shipped h g v p ≡ true). was g v p w before some less)
@@ -51,7 +52,7 @@ in_order_more s table h e l f was g v p w on some less =
     came_before s h g v w l (next_of_table s h g v p table can) within some less)
     (or_cases (is_shipped h g v p) (is_ship g v p e.call) (sym (shipped_more h e g v p) ∙ on)))
 
-pub in_order : (s : Store) → is_table s.kind ≡ true → (h : List Entry) → IsLegal (store s) h → InOrder h
+pub in_order : (s : Store) → (facts_of s.kind).ordered ≡ true → (h : List Entry) → IsLegal (store s) h → InOrder h
 in_order s table h l = by_entries (store s) InOrder (λ g v p w on some less. absurd (cc)) (in_order_more s table) h l
 
 -- A version that is shown came to its region.
@@ -70,10 +71,10 @@ shown_came kind h g k some =
 
 -- An id that was written and is below a version that came is visible there.
 
-table_whole : (kind : StoreKind) (h : List Entry) (g : ℕ) (r : Row) → is_table kind ≡ true → is_shipped h g r.version 1 ≡ true → is_whole kind h g r ≡ true
+table_whole : (kind : StoreKind) (h : List Entry) (g : ℕ) (r : Row) → (facts_of kind).ordered ≡ true → is_shipped h g r.version 1 ≡ true → is_whole kind h g r ≡ true
 table_whole kind h g r table came = one_is_whole kind h g r table ∙ and_from (is_shipped h g r.version 1) true came refl
 
-pub visible_below : (s : Store) → s.shows ≡ shows_of s.kind → is_table s.kind ≡ true → (h : List Entry) → IsLegal (store s) h → (g v p : ℕ) (id : WriteId) → is_shipped h g v p ≡ true → id.version < v → is_written h id ≡ true
+pub visible_below : (s : Store) → s.shows ≡ shows_of s.kind → (facts_of s.kind).ordered ≡ true → (h : List Entry) → IsLegal (store s) h → (g v p : ℕ) (id : WriteId) → is_shipped h g v p ≡ true → id.version < v → is_written h id ≡ true
     → is_visible s h g id ≡ true
 visible_below s is table h l g v p id came less written =
     let found : (r : Row) × IsWritten h id r = row_written s h l id written in

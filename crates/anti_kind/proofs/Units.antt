@@ -1,5 +1,5 @@
 -- The units of a store: what each call does to what is reserved.
-use Rattle.std.proofs.Common.{◌≡◌, ℕ, ◌+◌, ◌-◌, ◌*◌, ◌<◌, ◌≤◌, Bool, true, false, not, ◌&&◌, ◌||◌, List, [], ◌∷◌, ◌++◌, length, get_or, AllPairs, Any, sum_by, refl, sym, ap, ap₂, ◌∙◌, ◌⊎◌, ⊎_elim, ◌==◌, eq-eqb, ne_eqb, eqb-true, arith}
+use Rattle.std.proofs.Common.{◌≡◌, ℕ, ◌+◌, ◌-◌, ◌*◌, ◌<◌, ◌≤◌, Bool, true, false, not, ◌&&◌, ◌||◌, List, [], ◌∷◌, ◌++◌, length, get_or, AllPairs, Any, sum_by, count_by, refl, sym, ap, ap₂, ◌∙◌, ◌⊎◌, ⊎_elim, ◌==◌, eq-eqb, ne_eqb, eqb-true, arith}
 use Rattle.std.specs.List.{range_with_len}
 use Rattle.std.proofs.lemmas.List.{get_or_default}
 use Rattle.std.proofs.lemmas.List.FromFn.{get_or-range_with_len, length-range_with_len}
@@ -13,12 +13,16 @@ use Rattle.anti_kind.specs.declared.call.Reply.TheVariants.{Moved}
 use Rattle.anti_kind.specs.declared.entry.Entry.{Entry}
 use Rattle.anti_kind.specs.declared.row.Row.{Row}
 use Rattle.anti_kind.specs.Stored.{rows, row_of, is_shipped, parts_of, parts}
-use Rattle.anti_kind.specs.Store.{Store, is_replica, owed_at, owed_shipments, store_ready}
+use Rattle.anti_kind.specs.Store.{Store, is_replica, owed_shipments, store_ready}
 use Rattle.anti_kind.specs.Objects.{store, Follows, IsLegal}
 use Rattle.anti_kind.specs.Starts.{IsStore}
 use Rattle.anti_kind.proofs.Rows.{is_write, is_shipping, new_row, or_false, rows_other, rows_write, shipped_other, shipped_ship, version_at, row_of_at}
 use Rattle.anti_kind.proofs.Shipped.{IsReadyShipment, ready_ship, ready_shipment, part_within, version_within, never_shipped}
 use Rattle.anti_kind.proofs.Sums.{sum_same, sum_one_less, count_same, count_one_less, count_all, sum_equal}
+
+-- the shipments of a row to g that were not made
+abbrev owed_at : Store → List Entry → Row → ℕ → ℕ
+owed_at s h r g = count_by (λ p. not (is_shipped h g r.version p)) (parts s.kind r)
 
 -- what is owed of rows at regions depends on what was shipped alone
 owed_as : (s : Store) (h k : List Entry) → ((g v p : ℕ) → is_shipped k g v p ≡ is_shipped h g v p) → (rs : List Row)

@@ -1,5 +1,5 @@
 -- What waits is not ready, and goes on to wait behind each entry that does not bring what it waits for.
-use Rattle.std.proofs.Common.{◌≡◌, ℕ, ◌<◌, ◌≤◌, Bool, true, false, not, ◌&&◌, ◌||◌, List, [], ◌∷◌, ◌++◌, length, filter, find, refl, sym, ap, subst, ◌∙◌, append-nil, ◌==◌, leb, eqb-true, arith}
+use Rattle.std.proofs.Common.{◌≡◌, ℕ, ◌<◌, ◌≤◌, Bool, true, false, not, ◌&&◌, ◌||◌, List, [], ◌∷◌, ◌++◌, length, filter, find, refl, sym, ap, subst, ◌∙◌, append-nil, ◌==◌, leb, eqb-true, arith, is_some}
 use Rattle.std.specs.Prelude.{flat_map}
 use Rattle.std.specs.List.{list_any, list_all, Any}
 use Rattle.std.proofs.lemmas.Bool.{and_parts, and_from, and_left, and_right, or_from, or_left, not-true, not_from_false, both_ways, false_from_ne_true, leb-true, le-leb, leb-false, lt-leb}
@@ -7,6 +7,7 @@ use Rattle.std.proofs.lemmas.List.Folds.{list_any_at, list_all_at, Any-from_list
 use Rattle.std.proofs.lemmas.List.Elements.{All-weaker}
 use Rattle.std.proofs.lemmas.List.Sums.{AllPass-from_list_all, list_all-from_AllPass}
 use Rattle.anti_ids.specs.declared.id.WriteId.{WriteId}
+use Rattle.anti_kind.specs.Kinds.{facts_of}
 use Rattle.anti_kind.specs.declared.awaited.Awaited.TheVariants.{Delivery, Handout, Reply, Version, Writing}
 use Rattle.anti_kind.specs.declared.call.Call.{Call}
 use Rattle.anti_kind.specs.declared.call.Call.TheVariants.{Write, Look, Ship, Nack, Pull, Post, Repost, Take, TakeReply}
@@ -17,7 +18,7 @@ use Rattle.anti_kind.specs.declared.message.MessageKind.{MessageKind}
 use Rattle.anti_kind.specs.declared.message.MessageKind.TheVariants as kinds
 use Rattle.anti_kind.specs.declared.row.Row.{Row}
 use Rattle.anti_kind.specs.Stored.{rows, is_ship, is_shipped, shows_of}
-use Rattle.anti_kind.specs.Store.{Store, is_table, is_replica, has_part, can_ship, is_visible, is_written, is_pull_by, is_nack, is_there, next, store_ready}
+use Rattle.anti_kind.specs.Store.{Store, is_replica, has_part, can_ship, is_visible, is_written, is_pull_by, is_nack, next, store_ready}
 use Rattle.anti_kind.specs.Shipments.{shipments, next_shipment}
 use Rattle.anti_kind.specs.Inbox.{delivered, deliveries, is_taken, takes, free, if_to, replied, has_reply, reply_is_taken, post_ready, post_due, inbox_ready, inbox_due}
 use Rattle.anti_kind.specs.Objects.{store, inbox, Follows, IsLegal}
@@ -117,12 +118,12 @@ nacks_none (Nack version) n off v = absurd (cc)
 nacks_none _ n off v = refl
 
 pull_waits : (s : Store) (h : List Entry) (e : Entry) (n : ℕ) → IsLegal (store s) (h ++ e ∷ []) → ((g v p : ℕ) → is_ship g v p e.call ≡ false) → ((v : ℕ) → is_nack v e.call ≡ false)
-    → is_there (next s h n) ≡ false → is_there (next s (h ++ e ∷ []) n) ≡ false
+    → is_some (next s h n) ≡ false → is_some (next s (h ++ e ∷ []) n) ≡ false
 pull_waits s h e n l ships nacks was =
     let follows : Follows (store s) h e = follows_in (store s) h e [] l in
     let other : is_pull_by n e.call ≡ false =
-    false_from_ne_true (is_pull_by n e.call) (λ own. both_ways (is_there (next s h n)) was (ap (store_ready s h) (sym (pull_of n e.call own)) ∙ follows.is_ready)) in
-    false_from_ne_true (is_there (next s (h ++ e ∷ []) n)) (λ on. both_ways (is_there (next s h n)) was (next_was_there s h e l ships nacks n other on))
+    false_from_ne_true (is_pull_by n e.call) (λ own. both_ways (is_some (next s h n)) was (ap (store_ready s h) (sym (pull_of n e.call own)) ∙ follows.is_ready)) in
+    false_from_ne_true (is_some (next s (h ++ e ∷ []) n)) (λ on. both_ways (is_some (next s h n)) was (next_was_there s h e l ships nacks n other on))
 
 -- A look waits for a version of an id that it lacks.
 
@@ -175,7 +176,7 @@ waiting_goes_on (inbox requests) h e (TakeReply number) (Reply to) whole l was o
 waiting_goes_on (store s) h e (Pull sub) (Handout to) whole l was off =
     let both = and_parts (sub == to) _ was in
     and_from (sub == to) _ both.0
-    (ap not (pull_waits s h e sub l (ships_none e.call to off) (nacks_none e.call to off) (not-true (is_there (next s h sub)) both.1)))
+    (ap not (pull_waits s h e sub l (ships_none e.call to off) (nacks_none e.call to off) (not-true (is_some (next s h sub)) both.1)))
 waiting_goes_on (store s) h e (Look g ids dry) (Version region v) whole l was off = look_waits s whole h e l g ids dry region v off was
 waiting_goes_on _ h e _ _ whole l was off = absurd (cc)
 
@@ -192,7 +193,7 @@ next_same s h e g writes ships =
     let same : (v p : ℕ) → is_shipped (h ++ e ∷ []) g v p ≡ is_shipped h g v p = λ v p. shipped_kept h e g v p (ships v p) in
     let can : (v p : ℕ) → can_ship s (h ++ e ∷ []) g v p ≡ can_ship s h g v p = λ v p i.
     is_replica s g && (has_part s.kind (find (λ (r : Row). r.version == v) (rows_same i)) p
-    && (not (same v p i) && (not (is_table s.kind) || list_all (λ (r : Row). leb v r.version || same r.version 1 i) (rows_same i)))) in
+    && (not (same v p i) && (not (facts_of s.kind).ordered || list_all (λ (r : Row). leb v r.version || same r.version 1 i) (rows_same i)))) in
     λ i. find (λ (x : ℕ × ℕ). can x.0 x.1 i) (flat_map (shipments s.kind) (rows_same i))
 
 pub none_left_goes_on : NoneLeftGoesOn

@@ -1,6 +1,7 @@
 -- The table of an inbox that starts with the given requests.
-use Rattle.std.specs.Prelude.{ℕ, ◌+◌, ◌-◌, Bool, true, false, cond, not, ◌&&◌, List, [], ◌∷◌, ◌++◌, length, ◌==◌, nat_lt, nat_le, Option, None, Some, filter, flat_map, count_by, slice_get}
+use Rattle.std.specs.Prelude.{ℕ, ◌+◌, ◌-◌, Bool, true, false, cond, not, ◌&&◌, List, [], ◌∷◌, ◌++◌, length, ◌==◌, nat_lt, nat_le, Option, None, filter, flat_map, sum_by, slice_get}
 use Rattle.std.specs.List.{list_any, range_with_len}
+use Rattle.std.specs.Option.{option_map_or}
 use Rattle.anti_kind.specs.declared.call.Call.{Call}
 use Rattle.anti_kind.specs.declared.call.Call.TheVariants.{Post, Take, Repost, TakeReply}
 use Rattle.anti_kind.specs.declared.call.Reply.{Reply}
@@ -32,8 +33,7 @@ is_call kinds.Call = true
 is_call _ = false
 
 abbrev pub is_call_message : Option Message → Bool
-is_call_message None = false
-is_call_message (Some m) = is_call m.kind
+is_call_message found = option_map_or (λ m. is_call m.kind) found false
 
 -- Deliveries are numbers of messages: the requests, then one for each post of a call or send and one for each repost.
 abbrev pub delivered : Call → Reply → List ℕ
@@ -44,13 +44,9 @@ delivered _ _ = []
 abbrev pub deliveries : List Message → List Entry → List ℕ
 deliveries requests h = range_with_len 1 (length requests) ++ flat_map (λ e. delivered e.call e.reply) h
 
-abbrev pub got : ℕ → Reply → Bool
-got n (Got number m) = number == n
-got n _ = false
-
 abbrev pub takes : ℕ → Call → Reply → Bool
-takes n (Take nth) reply = got n reply
-takes n _ reply = false
+takes n (Take nth) (Got number m) = number == n
+takes n _ _ = false
 
 -- whether the message numbered n was taken
 abbrev pub is_taken : List Entry → ℕ → Bool
@@ -84,21 +80,18 @@ reply_is_taken h n = list_any (λ e. takes_reply n e.call) h
 
 -- what is got of the message of that number
 abbrev pub got_of : ℕ → Option Message → Reply
-got_of n None = Done
-got_of n (Some m) = Got n m
+got_of n found = option_map_or (Got n) found Done
 
--- what the nth free delivery hands out
+-- what a free delivery hands out
 abbrev pub handed : List Message → Option ℕ → Reply
-handed ms None = Done
-handed ms (Some n) = got_of n (numbered ms n)
+handed ms delivery = option_map_or (λ n. got_of n (numbered ms n)) delivery Done
 
 -- The table, first of a post by the kind of its message.
 
 abbrev pub post_ready : List Message → List Entry → MessageKind → ℕ → Bool
-post_ready requests h kinds.Call to = true
-post_ready requests h kinds.Send to = true
 post_ready requests h kinds.Reply to = is_call_message (numbered (messages requests h) to) && (is_taken h to && not (has_reply h to))
 post_ready requests h kinds.Request to = false
+post_ready requests h _ to = true
 
 abbrev pub post_due : List Message → List Entry → MessageKind → Reply
 post_due requests h kinds.Reply = Done
@@ -128,19 +121,9 @@ inbox_need (Take nth) = 0
 inbox_need (TakeReply n) = 0
 inbox_need _ = 1
 
--- The units reserved: one for each message that was not taken, one for each call that has no reply, and one for each call whose
--- reply was not taken.
-abbrev pub numbers : List Message → List Entry → List ℕ
-numbers requests h = range_with_len 1 (length (messages requests h))
-
-abbrev pub untaken : List Message → List Entry → ℕ
-untaken requests h = count_by (λ n. not (is_taken h n)) (numbers requests h)
-
-abbrev pub unanswered : List Message → List Entry → ℕ
-unanswered requests h = count_by (λ n. is_call_message (numbered (messages requests h) n) && not (has_reply h n)) (numbers requests h)
-
-abbrev pub unheard : List Message → List Entry → ℕ
-unheard requests h = count_by (λ n. is_call_message (numbered (messages requests h) n) && not (reply_is_taken h n)) (numbers requests h)
+-- The units reserved for a message: one until it is taken, and for a call one until it has a reply and one until the reply is taken.
+abbrev pub owed_for : List Message → List Entry → ℕ → ℕ
+owed_for ms h n = cond (is_taken h n) 0 1 + cond (is_call_message (numbered ms n)) (cond (has_reply h n) 0 1 + cond (reply_is_taken h n) 0 1) 0
 
 abbrev pub inbox_owed : List Message → List Entry → ℕ
-inbox_owed requests h = untaken requests h + (unanswered requests h + unheard requests h)
+inbox_owed requests h = sum_by (owed_for (messages requests h) h) (range_with_len 1 (length (messages requests h)))

@@ -1,6 +1,5 @@
 -- The kinds of store: what the stores of each do, and its word in documents.
-use Rattle.std.specs.Prelude.{ℕ, Bool, true, false, List, [], ◌∷◌, codes, find, Option}
-use Rattle.std.specs.Option.{option_map_or}
+use Rattle.std.specs.Prelude.{ℕ, true, false, List, [], ◌∷◌, codes, find, Option, unwrap_or}
 use Rattle.std.specs.Str.{bytes_eq}
 use Rattle.anti_kind.specs.declared.store_kind.Facts.{Facts}
 use Rattle.anti_kind.specs.declared.store_kind.StoreKind.{StoreKind}
@@ -32,4 +31,4 @@ abbrev pub kind_named : List ℕ → Option StoreKind
 kind_named word = find (λ kind. bytes_eq word (word_of kind)) kinds
 
 abbrev pub kind_of : List ℕ → StoreKind
-kind_of word = option_map_or (λ kind. kind) (kind_named word) Kv
+kind_of word = unwrap_or (kind_named word) Kv

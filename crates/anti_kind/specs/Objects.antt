@@ -3,10 +3,10 @@ use Rattle.std.specs.Prelude.{◌≡◌, ℕ, ◌+◌, ◌<◌, max, Bool, true,
 use Rattle.anti_ids.specs.declared.limits.TheConstants.{MOST_UNITS}
 use Rattle.anti_kind.specs.declared.call.Call.{Call}
 use Rattle.anti_kind.specs.declared.call.Reply.{Reply}
-use Rattle.anti_kind.specs.declared.call.Reply.TheVariants.{Shown}
 use Rattle.anti_kind.specs.declared.entry.Entry.{Entry}
 use Rattle.anti_kind.specs.declared.message.Message.{Message}
 use Rattle.anti_kind.specs.Store.{Store, store_ready, store_due, store_need, store_owed}
+use Rattle.anti_kind.specs.Replies.{shown}
 use Rattle.anti_kind.specs.Inbox.{inbox_ready, inbox_due, inbox_need, inbox_owed}
 
 -- what an object starts as
@@ -29,8 +29,7 @@ need (inbox requests) h c = inbox_need c
 
 -- Units: an entry weighs one, but one with more than one row a unit for each row.
 abbrev pub weight : Reply → ℕ
-weight (Shown shown) = max 1 (length shown.items)
-weight _ = 1
+weight reply = max 1 (length (shown reply))
 
 -- the units of the entries that were made
 abbrev pub held : List Entry → ℕ

@@ -3,7 +3,7 @@ use Rattle.std.specs.Prelude.{ℕ, List, [], Bool, ◌≡◌, ◌<◌, ◌≤◌
 use Rattle.anti_ids.specs.Names.{is_plain}
 use Rattle.anti_ids.specs.declared.limits.TheConstants.{MOST_REGIONS, MOST_REQUESTS}
 use Rattle.anti_kind.specs.declared.store_kind.StoreKind.TheVariants.{Kv, Table, Blob, Queue, Topic}
-use Rattle.anti_kind.specs.Store.{Store, store_of, is_queue}
+use Rattle.anti_kind.specs.Store.{Store, store_of}
 use Rattle.anti_kind.specs.declared.store_kind.Sub.{Sub}
 use Rattle.anti_kind.specs.declared.store_kind.StoreKind.{StoreKind}
 use Rattle.anti_kind.specs.Kinds.{facts_of}
@@ -31,7 +31,7 @@ abbrev pub is_pulled : StoreKind → Bool
 is_pulled kind = (facts_of kind).pulled
 
 abbrev pub HasTries : StoreKind → ℕ → Type 0
-HasTries kind tries = AreTries (is_queue kind) tries
+HasTries kind tries = AreTries (facts_of kind).tried tries
 
 -- a store with one to eight replicas in different regions, subscriptions to plain channels at these, and, in a queue, tries
 pub record IsStore (s : Store) : Type 0 where

@@ -1,6 +1,7 @@
 -- The tables of the five kinds of store: which calls are ready after a history, what they are due, and the units that they need.
-use Rattle.std.specs.Prelude.{ℕ, ◌+◌, ◌*◌, max, Bool, true, false, cond, not, ◌&&◌, ◌||◌, List, [], ◌∷◌, ◌++◌, length, take, ◌==◌, nat_lt, nat_le, bytes_eq, Option, None, Some, find, filter, count_by, sum_by, slice_get, decimal}
+use Rattle.std.specs.Prelude.{ℕ, ◌+◌, ◌*◌, max, Bool, true, false, cond, not, ◌&&◌, ◌||◌, List, [], ◌∷◌, ◌++◌, length, take, ◌==◌, nat_lt, nat_le, bytes_eq, Option, None, Some, is_some, unwrap_or, option_and_then, find, filter, count_by, sum_by, slice_get, decimal}
 use Rattle.std.specs.List.{list_any, list_all}
+use Rattle.std.specs.Option.{option_map_or}
 use Rattle.std.specs.Ordering.{nat_cmp, is_lt}
 use Rattle.std.specs.Cmp.Lexicographic.{slice_cmp}
 use Rattle.anti_ids.specs.Ascii.{hash}
@@ -33,29 +34,11 @@ abbrev pub store_of : StoreKind → ℕ → List ℕ → List Sub → ℕ → St
 store_of kind number regions subs tries =
     record { kind = kind; number = number; regions = regions; subs = subs; tries = tries; shows = shows_of kind }
 
--- Kinds.
-
-abbrev pub has_keys : StoreKind → Bool
-has_keys kind = (facts_of kind).keyed
-
-abbrev pub is_scanned : StoreKind → Bool
-is_scanned kind = (facts_of kind).scanned
-
-abbrev pub is_table : StoreKind → Bool
-is_table kind = (facts_of kind).ordered
-
-abbrev pub is_queue : StoreKind → Bool
-is_queue kind = (facts_of kind).tried
-
-abbrev pub is_topic : StoreKind → Bool
-is_topic kind = (facts_of kind).polled
-
 -- Writing.
 
 -- the key that a write gets: the given one, but in a queue and a topic c#n for the nth write to the channel c
 abbrev pub key_for : StoreKind → List Entry → List ℕ → List ℕ
-key_for kind h key =
-    cond (has_keys kind) key (key ++ hash ∷ decimal (count_by (is_in key) (rows h) + 1))
+key_for kind h key = cond (facts_of kind).keyed key (key ++ hash ∷ decimal (count_by (is_in key) (rows h) + 1))
 
 -- Shipping.
 
@@ -64,8 +47,7 @@ is_replica s g = list_any (λ region. region == g) s.regions
 
 -- whether a part is one of a row that was found
 abbrev pub has_part : StoreKind → Option Row → ℕ → Bool
-has_part kind None p = false
-has_part kind (Some r) p = nat_le 1 p && nat_le p (parts_of kind r.value)
+has_part kind found p = option_map_or (λ r. nat_le 1 p && nat_le p (parts_of kind r.value)) found false
 
 -- whether all versions below v were shipped to g
 abbrev pub is_next : List Entry → ℕ → ℕ → Bool
@@ -73,7 +55,7 @@ is_next h g v = list_all (λ r. nat_le v r.version || is_shipped h g r.version 1
 
 abbrev pub can_ship : Store → List Entry → ℕ → ℕ → ℕ → Bool
 can_ship s h g v p =
-    is_replica s g && (has_part s.kind (row_of h v) p && (not (is_shipped h g v p) && (not (is_table s.kind) || is_next h g v)))
+    is_replica s g && (has_part s.kind (row_of h v) p && (not (is_shipped h g v p) && (not (facts_of s.kind).ordered || is_next h g v)))
 
 -- Looking.
 
@@ -82,14 +64,6 @@ is_visible s h g id = nat_le id.version (s.shows h g id.key)
 
 abbrev pub is_written : List Entry → WriteId → Bool
 is_written h id = list_any (λ r. (r.version == id.version) && bytes_eq r.key id.key) (rows h)
-
--- the ids that are not visible at g
-abbrev pub missing : Store → List Entry → ℕ → List WriteId → List WriteId
-missing s h g ids = filter (λ id. not (is_visible s h g id)) ids
-
--- the ids that nothing in the history wrote
-abbrev pub unwritten : List Entry → List WriteId → List WriteId
-unwritten h ids = filter (λ id. not (is_written h id)) ids
 
 -- whether every id is of this store, and the look is dry, or nothing is missing, or something is unwritten
 abbrev pub can_look : Store → List Entry → ℕ → List WriteId → Bool → Bool
@@ -101,13 +75,9 @@ can_look s h g ids dry =
 abbrev pub absent : List ℕ → Row
 absent k = record { key = k; version = 0; value = []; lineage = [] }
 
-abbrev pub or_absent : List ℕ → Option Row → Row
-or_absent k None = absent k
-or_absent k (Some r) = r
-
 -- the row that g shows for the key k
 abbrev pub shown_row : Store → List Entry → ℕ → List ℕ → Row
-shown_row s h g k = or_absent k (row_of h (s.shows h g k))
+shown_row s h g k = unwrap_or (row_of h (s.shows h g k)) (absent k)
 
 -- a row put among rows that ascend by the bytes of their keys
 abbrev pub by_key : Row → List Row → List Row
@@ -118,12 +88,9 @@ abbrev pub sorted : List Row → List Row
 sorted [] = []
 sorted (r ∷ rest) = by_key r (sorted rest)
 
-abbrev pub has_prefix : List ℕ → Row → Bool
-has_prefix prefix r = bytes_eq prefix (take (length prefix) r.key)
-
 -- the rows that g shows for all keys with the prefix, ascending by the bytes of the key
 abbrev pub scanned : Store → List Entry → ℕ → List ℕ → List Row
-scanned s h g prefix = sorted (filter (λ r. has_prefix prefix r && (s.shows h g r.key == r.version)) (rows h))
+scanned s h g prefix = sorted (filter (λ r. bytes_eq prefix (take (length prefix) r.key) && (s.shows h g r.key == r.version)) (rows h))
 
 -- Handing out: a queue's messages and a topic's cells.
 
@@ -174,27 +141,16 @@ cells h channel = filter (is_in channel) (rows h)
 abbrev pub cursor : List Entry → ℕ → ℕ
 cursor h n = count_by (λ e. is_pull_by n e.call) h
 
--- a cell, where it is whole at the region
-abbrev pub if_whole : Store → List Entry → ℕ → Option Row → Option Row
-if_whole s h g None = None
-if_whole s h g (Some r) = cond (is_whole s.kind h g r) (Some r) None
-
--- what the subscription numbered n would pull: the first that is free, where messages are tried, else the next cell, where cells are polled
+-- what the subscription numbered n would pull: the first that is free, where messages are tried, else the next cell, where cells are
+-- polled and it is whole
 abbrev pub next_of : Bool → Bool → Store → List Entry → ℕ → Sub → Option Row
 next_of true polled s h n sub = find (is_free s h sub) (rows h)
-next_of false true s h n sub = if_whole s h sub.region (slice_get (cells h sub.channel) (cursor h n))
+next_of false true s h n sub =
+    option_and_then (λ r. cond (is_whole s.kind h sub.region r) (Some r) None) (slice_get (cells h sub.channel) (cursor h n))
 next_of false false s h n sub = None
 
-abbrev pub pulled_next : Store → List Entry → ℕ → Option Sub → Option Row
-pulled_next s h n None = None
-pulled_next s h n (Some sub) = next_of (is_queue s.kind) (is_topic s.kind) s h n sub
-
 abbrev pub next : Store → List Entry → ℕ → Option Row
-next s h n = pulled_next s h n (slice_get s.subs n)
-
-abbrev pub is_there : Option Row → Bool
-is_there None = false
-is_there (Some r) = true
+next s h n = option_and_then (next_of (facts_of s.kind).tried (facts_of s.kind).polled s h n) (slice_get s.subs n)
 
 -- whether the subscription pulled the cell of version v
 abbrev pub was_pulled : List Entry → ℕ → ℕ → Bool
@@ -203,55 +159,48 @@ was_pulled h n v = list_any (λ e. is_pull_by n e.call && gives v e.reply) h
 -- The tables.
 
 abbrev pub store_ready : Store → List Entry → Call → Bool
-store_ready s h (Write key value lineage) = has_keys s.kind || is_plain key
+store_ready s h (Write key value lineage) = (facts_of s.kind).keyed || is_plain key
 store_ready s h (Ship g v p) = can_ship s h g v p
 store_ready s h (Again g v p) = is_shipped h g v p
 store_ready s h (Look g ids dry) = can_look s h g ids dry
-store_ready s h (Read g k) = has_keys s.kind && is_replica s g
-store_ready s h (Scan g prefix) = is_scanned s.kind && is_replica s g
-store_ready s h (Poll g k) = is_topic s.kind && is_replica s g
-store_ready s h (Pull n) = is_there (next s h n)
-store_ready s h (Repull n v) = is_topic s.kind && was_pulled h n v
-store_ready s h (Ack v) = is_queue s.kind && is_out h v
-store_ready s h (Nack v) = is_queue s.kind && is_out h v
+store_ready s h (Read g k) = (facts_of s.kind).keyed && is_replica s g
+store_ready s h (Scan g prefix) = (facts_of s.kind).scanned && is_replica s g
+store_ready s h (Poll g k) = (facts_of s.kind).polled && is_replica s g
+store_ready s h (Pull n) = is_some (next s h n)
+store_ready s h (Repull n v) = (facts_of s.kind).polled && was_pulled h n v
+store_ready s h (Ack v) = (facts_of s.kind).tried && is_out h v
+store_ready s h (Nack v) = (facts_of s.kind).tried && is_out h v
 store_ready s h _ = false
 
 abbrev pub store_due : Store → List Entry → Call → Reply
 store_due s h (Write key value lineage) = Written (key_for s.kind h key) (length (rows h) + 1)
 store_due s h (Ship g v p) = Moved
 store_due s h (Again g v p) = Moved
-store_due s h (Look g ids dry) = Missing (missing s h g ids) (unwritten h ids)
+store_due s h (Look g ids dry) = Missing (filter (λ id. not (is_visible s h g id)) ids) (filter (λ id. not (is_written h id)) ids)
 store_due s h (Read g k) = Shown (plain (shown_row s h g k ∷ []))
 store_due s h (Scan g prefix) = Shown (plain (scanned s h g prefix))
 store_due s h (Poll g k) = Shown (plain (shown_row s h g k ∷ []))
-store_due s h (Pull n) = Pulled (or_absent [] (next s h n))
-store_due s h (Repull n v) = Pulled (or_absent [] (row_of h v))
+store_due s h (Pull n) = Pulled (unwrap_or (next s h n) (absent []))
+store_due s h (Repull n v) = Pulled (unwrap_or (row_of h v) (absent []))
 store_due s h _ = Done
 
 abbrev pub store_need : Store → List Entry → Call → ℕ
 store_need s h (Write key value lineage) = 1 + length s.regions * parts_of s.kind value
 store_need s h (Ship g v p) = 0
 store_need s h (Scan g prefix) = max 1 (length (scanned s h g prefix))
-store_need s h (Pull n) = cond (is_queue s.kind) 2 1
+store_need s h (Pull n) = cond (facts_of s.kind).tried 2 1
 store_need s h (Ack v) = 0
 store_need s h (Nack v) = 0
 store_need s h _ = 1
 
--- the shipments of a row to g that were not made
-abbrev pub owed_at : Store → List Entry → Row → ℕ → ℕ
-owed_at s h r g = count_by (λ p. not (is_shipped h g r.version p)) (parts s.kind r)
-
--- the shipments of the writes that were not made
+-- the shipments that were not made: of each row, to each region, each part
 abbrev pub owed_shipments : Store → List Entry → ℕ
-owed_shipments s h = sum_by (λ r. sum_by (owed_at s h r) s.regions) (rows h)
+owed_shipments s h = sum_by (λ r. sum_by (λ g. count_by (λ p. not (is_shipped h g r.version p)) (parts s.kind r)) s.regions) (rows h)
 
 -- how many messages are out
 abbrev pub outs : List Entry → ℕ
 outs h = count_by (λ r. is_out h r.version) (rows h)
 
--- the messages of a queue that are out
-abbrev pub owed_messages : Store → List Entry → ℕ
-owed_messages s h = cond (is_queue s.kind) (outs h) 0
-
+-- the units reserved: one for each shipment that was not made, and where messages are tried one for each that is out
 abbrev pub store_owed : Store → List Entry → ℕ
-store_owed s h = owed_shipments s h + owed_messages s h
+store_owed s h = owed_shipments s h + cond (facts_of s.kind).tried (outs h) 0

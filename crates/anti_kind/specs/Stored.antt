@@ -18,15 +18,11 @@ abbrev pub stored : Call → Reply → List WriteId
 stored (Write key value lineage) reply = lineage
 stored _ reply = []
 
--- the row of a write, from its value, the lineage kept beside it, and its reply
-abbrev pub written : List ℕ → List WriteId → Reply → List Row
-written value lineage (Written key version) = record { key = key; version = version; value = value; lineage = lineage } ∷ []
-written value lineage _ = []
-
 -- the row that a call with its reply wrote, none for most calls
 abbrev pub wrote : Call → Reply → List Row
-wrote (Write key value lineage) reply = written value (stored (Write key value lineage) reply) reply
-wrote _ reply = []
+wrote (Write name value lineage) (Written key version) =
+    record { key = key; version = version; value = value; lineage = stored (Write name value lineage) (Written key version) } ∷ []
+wrote _ _ = []
 
 -- what a history wrote, in its order
 abbrev pub rows : List Entry → List Row

@@ -8,13 +8,14 @@ use Rattle.std.proofs.lemmas.Option.{slice_get_past, slice_get_cases, slice_get_
 use Rattle.std.proofs.lemmas.List.Elements.{All-nil, All-cons, All-head, All-append, All-filter, All-map, All-weaker, filter_passes}
 use Rattle.std.proofs.lemmas.List.Sums.{sum_by-le}
 use Rattle.std.proofs.lemmas.List.Concat.{length-flat_map, flat_map-cons}
+use Rattle.anti_kind.specs.Kinds.{facts_of}
 use Rattle.anti_kind.specs.declared.message.Message.{Message}
 use Rattle.anti_kind.specs.declared.message.MessageKind.TheVariants as kinds
 use Rattle.anti_kind.specs.declared.store_kind.Sub.{Sub}
 use Rattle.anti_ids.specs.Names.{is_plain}
 use Rattle.anti_kind.specs.declared.store_kind.StoreKind.{StoreKind}
 use Rattle.anti_kind.proofs.FactLaws.{keyed_or_pulled, tries_fit}
-use Rattle.anti_kind.specs.Store.{store_of, has_keys, is_queue}
+use Rattle.anti_kind.specs.Store.{store_of}
 use Rattle.anti_kind.specs.Starts.{is_pulled, IsStart, IsStore}
 use Rattle.anti_kind.specs.Objects.{Start, store}
 use Rattle.anti_kind.specs.Fulls.{ShowsStay}
@@ -140,22 +141,22 @@ module _ (app : App) (o : ℕ) (s : StoreDef) (sound : IsTrue (is_sound app)) (f
   store_sound = store_is (length app.regions.items) o s (subs_on app o) (app_known app sound).few_regions (store_found app o s sound found) all_held
 
   -- a store that is read by its keys has no subscription
-  pub none_on : has_keys s.kind ≡ true → subs_on app o ≡ []
+  pub none_on : (facts_of s.kind).keyed ≡ true → subs_on app o ≡ []
   none_on keyed =
       ap (map (sub_of app)) (no_elements (filter (is_on o) app.subs.items)
       (All-weaker IsOn (λ (sub : SubDef). ⊥) (λ sub on. keyed_or_pulled s.kind keyed on.1) (filter (is_on o) app.subs.items) all_on))
 
 -- the start of a store, by its kind
 pub start_by : (kind : StoreKind) (number : ℕ) (s : StoreDef) (subs : List Sub) → s.kind ≡ kind
-    → start_with number s subs ≡ store (store_of kind number s.replicas.items subs (cond (is_queue kind) s.tries 0))
-start_by kind number s subs is = ap (λ (k : StoreKind). store (store_of k number s.replicas.items subs (cond (is_queue k) s.tries 0))) is
+    → start_with number s subs ≡ store (store_of kind number s.replicas.items subs (cond (facts_of kind).tried s.tries 0))
+start_by kind number s subs is = ap (λ (k : StoreKind). store (store_of k number s.replicas.items subs (cond (facts_of k).tried s.tries 0))) is
 
 -- the same of one without subscriptions
-pub start_alone : (kind : StoreKind) (number : ℕ) (s : StoreDef) (subs : List Sub) → s.kind ≡ kind → has_keys kind ≡ true → (has_keys s.kind ≡ true → subs ≡ [])
-    → start_with number s subs ≡ store (store_of kind number s.replicas.items [] (cond (is_queue kind) s.tries 0))
+pub start_alone : (kind : StoreKind) (number : ℕ) (s : StoreDef) (subs : List Sub) → s.kind ≡ kind → (facts_of kind).keyed ≡ true → ((facts_of s.kind).keyed ≡ true → subs ≡ [])
+    → start_with number s subs ≡ store (store_of kind number s.replicas.items [] (cond (facts_of kind).tried s.tries 0))
 start_alone kind number s subs is keyed none =
     start_by kind number s subs is
-    ∙ ap (λ (xs : List Sub). store (store_of kind number s.replicas.items xs (cond (is_queue kind) s.tries 0))) (none (ap has_keys is ∙ keyed))
+    ∙ ap (λ (xs : List Sub). store (store_of kind number s.replicas.items xs (cond (facts_of kind).tried s.tries 0))) (none (ap (λ (k : StoreKind). (facts_of k).keyed) is ∙ keyed))
 
 -- ---- inboxes
 

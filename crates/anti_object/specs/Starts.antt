@@ -2,9 +2,10 @@
 use Rattle.std.specs.Prelude.{ℕ, cond, List, [], ◌∷◌, nat_eq, Option, None, Some, option_map, slice_get, flat_map, if◌then◌else◌}
 use Rattle.std.specs.Option.{option_and_then}
 use Rattle.anti_ids.specs.List.{plain}
+use Rattle.anti_kind.specs.Kinds.{facts_of}
 use Rattle.anti_kind.specs.declared.message.Message.{Message}
 use Rattle.anti_kind.specs.declared.message.MessageKind.TheVariants as kinds
-use Rattle.anti_kind.specs.Store.{store_of, is_queue}
+use Rattle.anti_kind.specs.Store.{store_of}
 use Rattle.anti_kind.specs.Objects.{Start, store, inbox}
 use Rattle.anti_app.specs.declared.app.App.{App}
 use Rattle.anti_app.specs.declared.app.StoreDef.{StoreDef}
@@ -31,7 +32,7 @@ requests_to app s service = flat_map (message_of s service) app.requests.items
 
 -- only a queue has tries
 abbrev pub tries_of : StoreDef → ℕ
-tries_of s = cond (is_queue s.kind) s.tries 0
+tries_of s = cond (facts_of s.kind).tried s.tries 0
 
 abbrev pub store_start : App → ℕ → StoreDef → Start
 store_start app number s = store (store_of s.kind number s.replicas.items (subs_on app number) (tries_of s))

@@ -1,9 +1,9 @@
+ghost use Rattle.anti_kind.specs.Kinds.{facts_of};
 ghost use Rattle.std.specs.Prelude.{◌≡◌, ◌++◌, ◌∷◌, [], None, Some, IfOk, MatchOption, OnOk, IsTrue, true};
 ghost use Rattle.anti_ids.specs.List.{plain};
 ghost use Rattle.anti_app.specs.Sound.{is_sound};
 ghost use Rattle.anti_object.specs.Starts.{message_of, message_to, requests_to, start_of};
 ghost use Rattle.anti_kind.specs.Starts.{IsStart};
-ghost use Rattle.anti_kind.specs.Store.{has_keys};
 ghost use Rattle.anti_object.specs.Standing.{IsNew, IsNewStore, start_with};
 
 use crate::object::Object;
@@ -45,7 +45,7 @@ impl Object {
 // The store of a number, with these subscriptions. A store whose keys are read has none.
 fn store_of(alloc: Global, number: u32, store: &StoreDef, subs: &[Sub]) -> Result<Object, NoMemory>
     requires start { IsStart (start_with number store.now subs.now) }
-    requires keyed { has_keys store.now.kind ≡ true → subs.now ≡ [] }
+    requires keyed { (facts_of store.now.kind).keyed ≡ true → subs.now ≡ [] }
     ensures { IfOk result (IsNewStore number store.now subs.now) }
 {
     let regions = store.replicas.as_slice();

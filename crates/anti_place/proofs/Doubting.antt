@@ -5,6 +5,7 @@ use Rattle.std.proofs.lemmas.Bool.{or_left, or_right}
 use Rattle.std.proofs.lemmas.Slice.Eq.{bytes_eq-Decides}
 use Rattle.std.specs.List.{list_any}
 use Rattle.std.specs.Str.{bytes_eq}
+use Rattle.anti_lang.specs.Blocks.{lines_of}
 use Rattle.anti_lang.specs.Program.{Step, Block, End, Then, Write, Append, Remove, Transfer, Barrier, DryRun, Read, Scan, Poll, Call, Send, Nack, Root, Stop, Repeat, IfAbsent}
 use Rattle.anti_place.specs.declared.doubt.Doubt.{Doubt}
 use Rattle.anti_place.specs.declared.doubt.Doubt.TheVariants.{Always, Unsettled, Rows}
@@ -116,7 +117,8 @@ module _ (names : List (List ℕ)) where
         (step_named line first parts.0) (block_named (line + height first) rest parts.1)
 
   body_named : (body : Block) → AreNamed names (reads_of body) → AllNamed names (paths body)
-  body_named body named = all_turns (block_paths 1 body) _ (block_named 1 body named) ((tt, tt), tt)
+  body_named body named =
+      all_turns (block_paths 1 body) ((record { line = length (lines_of body) + 1; statement = Nack } ∷ []) ∷ []) (block_named 1 body named) ((tt, tt), tt)
 
   -- those that are left are named
   still_named : (statement : Step) (s : State) → AreNamed names s.rows → AreNamed names (reads_in statement) → AreNamed names (changed statement s).rows

@@ -19,29 +19,17 @@ abbrev pub is_some_left : State → Bool
 is_some_left s = list_any (λ x. true) s.rows
 
 -- how a statement changes it
-abbrev pub settling : Bool → State → State
-settling unsettled s = record { rows = s.rows; unsettled = unsettled }
-
-abbrev pub read_into : List ℕ → State → State
-read_into x s = record { rows = x ∷ s.rows; unsettled = s.unsettled }
-
-abbrev pub transferred : List ℕ → State → State
-transferred x s = record { rows = filter (λ y. not (bytes_eq x y)) s.rows; unsettled = true }
-
-abbrev pub fresh : State
-fresh = record { rows = []; unsettled = false }
-
 abbrev pub changed : Step → State → State
-changed (Write store key value variable false) s = settling true s
-changed (Append x) s = settling true s
-changed (Transfer x) s = transferred x s
-changed (Call service handler value x) s = settling true s
-changed Barrier s = settling false s
-changed (Read store key x) s = read_into x s
-changed (Scan store prefix x) s = read_into x s
-changed (Poll store key x) s = read_into x s
-changed Root s = fresh
-changed Stop s = fresh
+changed (Write store key value variable false) s = record s { unsettled = true }
+changed (Append x) s = record s { unsettled = true }
+changed (Transfer x) s = record { rows = filter (λ y. not (bytes_eq x y)) s.rows; unsettled = true }
+changed (Call service handler value x) s = record s { unsettled = true }
+changed Barrier s = record s { unsettled = false }
+changed (Read store key x) s = record s { rows = x ∷ s.rows }
+changed (Scan store prefix x) s = record s { rows = x ∷ s.rows }
+changed (Poll store key x) s = record s { rows = x ∷ s.rows }
+changed Root s = record { rows = []; unsettled = false }
+changed Stop s = record { rows = []; unsettled = false }
 changed statement s = s
 
 -- ---- what a statement needs
@@ -77,8 +65,7 @@ Path = List Spot
 
 -- each of these ways, and behind it each of those
 abbrev pub in_turn : List Path → List Path → List Path
-in_turn [] those = []
-in_turn (path ∷ these) those = map (λ further. path ++ further) those ++ in_turn these those
+in_turn these those = flat_map (λ path. map (λ further. path ++ further) those) these
 
 -- once or twice through a block; one that has no turn is passed
 abbrev pub turned : ℕ → List Path → List Path

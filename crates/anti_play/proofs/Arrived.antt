@@ -7,18 +7,19 @@ use Rattle.std.proofs.lemmas.List.Elements.{All-contains_itself, All-weaker}
 use Rattle.std.proofs.lemmas.List.Folds.{list_any_at}
 use Rattle.std.proofs.lemmas.List.FromFn.{get_or-range_with_len, length-range_with_len}
 use Rattle.std.proofs.lemmas.List.Sums.{list_all-from_AllPass}
+use Rattle.anti_kind.specs.Kinds.{facts_of}
 use Rattle.anti_kind.specs.declared.entry.Entry.{Entry}
 use Rattle.anti_kind.specs.declared.row.Row.{Row}
 use Rattle.anti_kind.specs.declared.store_kind.StoreKind.{StoreKind}
 use Rattle.anti_kind.specs.Objects.{store, IsLegal}
-use Rattle.anti_kind.specs.Store.{Store, can_ship, has_part, is_next, is_replica, is_table}
+use Rattle.anti_kind.specs.Store.{Store, can_ship, has_part, is_next, is_replica}
 use Rattle.anti_kind.specs.Stored.{is_shipped, is_whole, parts, parts_of, row_of, rows}
 use Rattle.anti_kind.proofs.FactLaws.{ordered_whole}
 use Rattle.anti_kind.proofs.Rows.{row_in}
 use Rattle.anti_play.specs.Over.{IsEverywhere}
 
 -- a row of a table has one part
-one_part : (kind : StoreKind) (r : Row) → is_table kind ≡ true → Contains (parts kind r) 1
+one_part : (kind : StoreKind) (r : Row) → (facts_of kind).ordered ≡ true → Contains (parts kind r) 1
 one_part kind r is = subst (λ (n : ℕ). Contains (range_with_len 1 n) 1) (sym (ordered_whole kind r.value is)) (0, omega arith, refl)
 
 -- a part of a row is counted from 1
@@ -52,9 +53,9 @@ module _ (s : Store) (h : List Entry) (legal : IsLegal (store s) h) where
 
     -- what could be shipped next was shipped
     shipped_by : (r : Row) → Contains (rows h) r → (p : ℕ) → Contains (parts s.kind r) p
-        → (not (is_table s.kind) || is_next h g r.version) ≡ true → is_shipped h g r.version p ≡ true
+        → (not (facts_of s.kind).ordered || is_next h g r.version) ≡ true → is_shipped h g r.version p ≡ true
     shipped_by r written p part turn =
-        was_true (is_shipped h g r.version p) (not (is_table s.kind) || is_next h g r.version)
+        was_true (is_shipped h g r.version p) (not (facts_of s.kind).ordered || is_next h g r.version)
         (the_other (has_part s.kind (row_of h r.version) p) _
         (the_other (is_replica s g) _ (none r written p part) replica_is) (part_is r written p part))
         turn
@@ -70,21 +71,21 @@ module _ (s : Store) (h : List Entry) (legal : IsLegal (store s) h) where
         (rows h) (All-contains_itself (rows h)))
 
     -- so all its versions were shipped, one after another
-    table_shipped : is_table s.kind ≡ true → (n : ℕ) → (r : Row) → Contains (rows h) r → r.version ≤ n → is_shipped h g r.version 1 ≡ true
+    table_shipped : (facts_of s.kind).ordered ≡ true → (n : ℕ) → (r : Row) → Contains (rows h) r → r.version ≤ n → is_shipped h g r.version 1 ≡ true
     table_shipped table zero r written within =
-        shipped_by r written 1 (one_part s.kind r table) (or_right (not (is_table s.kind)) _ (next_is r.version (λ x there low. absurd (omega arith))))
+        shipped_by r written 1 (one_part s.kind r table) (or_right (not (facts_of s.kind).ordered) _ (next_is r.version (λ x there low. absurd (omega arith))))
     table_shipped table (suc n) r written within =
         shipped_by r written 1 (one_part s.kind r table)
-        (or_right (not (is_table s.kind)) _ (next_is r.version (λ x there low. table_shipped table n x there (omega arith))))
+        (or_right (not (facts_of s.kind).ordered) _ (next_is r.version (λ x there low. table_shipped table n x there (omega arith))))
 
     -- nothing holds a shipment back but those that were made
-    in_turn : (r : Row) → Contains (rows h) r → (not (is_table s.kind) || is_next h g r.version) ≡ true
-    in_turn r written = by_kind (is_table s.kind) refl
+    in_turn : (r : Row) → Contains (rows h) r → (not (facts_of s.kind).ordered || is_next h g r.version) ≡ true
+    in_turn r written = by_kind (facts_of s.kind).ordered refl
       where
-        by_kind : (b : Bool) → is_table s.kind ≡ b → (not (is_table s.kind) || is_next h g r.version) ≡ true
-        by_kind false off = or_left (not (is_table s.kind)) (is_next h g r.version) (ap not off)
+        by_kind : (b : Bool) → (facts_of s.kind).ordered ≡ b → (not (facts_of s.kind).ordered || is_next h g r.version) ≡ true
+        by_kind false off = or_left (not (facts_of s.kind).ordered) (is_next h g r.version) (ap not off)
         by_kind true table =
-            or_right (not (is_table s.kind)) (is_next h g r.version)
+            or_right (not (facts_of s.kind).ordered) (is_next h g r.version)
             (next_is r.version (λ x there low. table_shipped table r.version x there (omega arith)))
 
     is_here : (r : Row) → Contains (rows h) r → is_whole s.kind h g r ≡ true

@@ -1,10 +1,10 @@
 -- What a pull makes starts the handler of its subscription.
-use Rattle.std.proofs.Common.{◌≡◌, ℕ, true, List, [], refl, sym, ◌∙◌, subst, eq-eqb}
+use Rattle.std.proofs.Common.{◌≡◌, ℕ, true, List, [], refl, sym, ◌∙◌, subst, eq-eqb, unwrap_or}
 use Rattle.std.specs.Prelude.{Some, option_and_then, slice_get}
 use Rattle.anti_kind.specs.declared.call.Call.TheVariants as calls
 use Rattle.anti_kind.specs.declared.entry.Entry.{Entry}
 use Rattle.anti_kind.specs.Objects.{Start, store, inbox, ready}
-use Rattle.anti_kind.specs.Store.{next, or_absent}
+use Rattle.anti_kind.specs.Store.{next, absent}
 use Rattle.anti_kind.specs.Stored.{row_of}
 use Rattle.anti_app.specs.declared.app.App.{App}
 use Rattle.anti_app.specs.declared.app.SubDef.{SubDef}
@@ -30,9 +30,9 @@ module _ (app : App) (trace : List Entry) (number : ℕ) (sub : SubDef) (there :
   pull_by : (start : Start) → start_of app sub.store ≡ Some start → ready start h (calls.Pull position) ≡ true
       → StartsHandlerOf app sub (next_entry start h (bearing trace sub.store (calls.Pull position)))
   pull_by (store s) at on = record {
-    row = or_absent [] (next s h position);
+    row = unwrap_or (next s h position) (absent []);
     reply = refl;
-    role = pulled_known app (next_entry (store s) h (bearing trace sub.store (calls.Pull position))) position (or_absent [] (next s h position)) sub
+    role = pulled_known app (next_entry (store s) h (bearing trace sub.store (calls.Pull position))) position (unwrap_or (next s h position) (absent [])) sub
         (store_in_front app sub.store s at) refl refl (sub_back app sub.store number sub there (eq-eqb sub.store sub.store refl));
   }
   pull_by (inbox requests) at on = absurd (cc)
@@ -40,9 +40,9 @@ module _ (app : App) (trace : List Entry) (number : ℕ) (sub : SubDef) (there :
   repull_by : (version : ℕ) (start : Start) → start_of app sub.store ≡ Some start → ready start h (calls.Repull position version) ≡ true
       → StartsHandlerOf app sub (next_entry start h (bearing trace sub.store (calls.Repull position version)))
   repull_by version (store s) at on = record {
-    row = or_absent [] (row_of h version);
+    row = unwrap_or (row_of h version) (absent []);
     reply = refl;
-    role = repulled_known app (next_entry (store s) h (bearing trace sub.store (calls.Repull position version))) position version (or_absent [] (row_of h version)) sub
+    role = repulled_known app (next_entry (store s) h (bearing trace sub.store (calls.Repull position version))) position version (unwrap_or (row_of h version) (absent [])) sub
         (store_in_front app sub.store s at) refl refl (sub_back app sub.store number sub there (eq-eqb sub.store sub.store refl));
   }
   repull_by version (inbox requests) at on = absurd (cc)

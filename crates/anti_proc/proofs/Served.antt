@@ -8,6 +8,7 @@ use Rattle.std.proofs.lemmas.List.Elements.{All-head, All-tail}
 use Rattle.std.proofs.lemmas.List.Folds.{list_all-append}
 use Rattle.std.proofs.lemmas.Slice.Eq.{bytes_eq-Decides}
 use Rattle.anti_ids.specs.Names.{is_name}
+use Rattle.anti_kind.specs.Kinds.{facts_of}
 use Rattle.anti_kind.specs.declared.store_kind.StoreKind.{StoreKind}
 use Rattle.anti_lang.specs.Blocks.{lines_of, step_lines}
 use Rattle.anti_lang.specs.Lines.{Line, OpenRepeat, OpenIf, Close}
@@ -18,7 +19,6 @@ use Rattle.anti_app.specs.declared.app.App.{App}
 use Rattle.anti_app.specs.declared.app.HandlerDef.{HandlerDef}
 use Rattle.anti_app.specs.declared.app.ServiceDef.{ServiceDef}
 use Rattle.anti_app.specs.declared.app.StoreDef.{StoreDef}
-use Rattle.anti_kind.specs.Store.{has_keys, is_scanned, is_topic}
 use Rattle.anti_app.specs.Sound.{fits_services, fits_stores, is_near, is_served, is_stored, serves}
 use Rattle.anti_app.specs.Objects.{has_named, body_among, body_in, body_of, has_handler, inbox_of, service_among, store_among, store_names, store_number}
 use Rattle.anti_app.proofs.SoundLemmas.{SoundApp, SoundBody, SoundHandler, SoundService, SoundStore}
@@ -149,11 +149,11 @@ module _ (app : App) where
       step_fit : (step : Step) → Fits (step_lines step) → StepFits app (IsStore app) HasInbox step
       step_fit (program.Write store key value variable untracked) fits = store_there store (and_parts (is_stored app.stores.items store) true fits.0).0
       step_fit (program.Read store key variable) fits =
-          store_there store (near_stored has_keys app.stores.items store region (and_parts (is_near has_keys app.stores.items store region) true fits.0).0)
+          store_there store (near_stored (λ (kind : StoreKind). (facts_of kind).keyed) app.stores.items store region (and_parts (is_near (λ (kind : StoreKind). (facts_of kind).keyed) app.stores.items store region) true fits.0).0)
       step_fit (program.Scan store prefix variable) fits =
-          store_there store (near_stored is_scanned app.stores.items store region (and_parts (is_near is_scanned app.stores.items store region) true fits.0).0)
+          store_there store (near_stored (λ (kind : StoreKind). (facts_of kind).scanned) app.stores.items store region (and_parts (is_near (λ (kind : StoreKind). (facts_of kind).scanned) app.stores.items store region) true fits.0).0)
       step_fit (program.Poll store key variable) fits =
-          store_there store (near_stored is_topic app.stores.items store region (and_parts (is_near is_topic app.stores.items store region) true fits.0).0)
+          store_there store (near_stored (λ (kind : StoreKind). (facts_of kind).polled) app.stores.items store region (and_parts (is_near (λ (kind : StoreKind). (facts_of kind).polled) app.stores.items store region) true fits.0).0)
       step_fit (program.Call service handler value variable) fits =
           inbox_there service handler (and_parts (is_served app.services.items service handler) true fits.1).0
       step_fit (program.Send service handler value) fits = inbox_there service handler (and_parts (is_served app.services.items service handler) true fits.1).0

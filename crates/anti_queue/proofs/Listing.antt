@@ -1,5 +1,5 @@
 -- The messages that are free for a subscription after one entry more.
-use Rattle.std.proofs.Common.{◌≡◌, ℕ, suc, ◌+◌, ◌-◌, ◌<◌, ◌≤◌, Bool, true, false, not, cond, ◌&&◌, List, [], ◌∷◌, ◌++◌, length, map, filter, get_or, take, drop, count_by, Option, Some, None, All, slice_get, find, refl, sym, ap, subst, ◌∙◌, inl, ltb, append-nil, arith}
+use Rattle.std.proofs.Common.{◌≡◌, ℕ, suc, ◌+◌, ◌-◌, ◌<◌, ◌≤◌, Bool, true, false, not, cond, ◌&&◌, List, [], ◌∷◌, ◌++◌, length, map, filter, get_or, take, drop, count_by, Option, Some, None, All, slice_get, find, refl, sym, ap, subst, ◌∙◌, inl, ltb, append-nil, arith, option_and_then}
 use Rattle.std.specs.Prelude.{Contains}
 use Rattle.std.specs.VecDeque.{deque_capacity}
 use Rattle.std.proofs.lemmas.List.{map-append, length-map, length-take-le, length-drop, take-append-drop, drop_more, get_or-take, get_or-drop}
@@ -7,13 +7,14 @@ use Rattle.std.specs.Option.{option_map}
 use Rattle.std.proofs.lemmas.Option.{slice_get-map, slice_get_within, get_or_from_slice_get}
 use Rattle.std.proofs.lemmas.List.Elements.{filter-append, filter_agree, All-filter, All-map}
 use Rattle.std.proofs.lemmas.List.Sums.{length-filter, sum_by-cons}
+use Rattle.anti_kind.specs.Kinds.{facts_of}
 use Rattle.anti_kind.specs.declared.entry.Entry.{Entry}
 use Rattle.anti_kind.specs.declared.row.Row.{Row}
 use Rattle.anti_kind.specs.declared.store_kind.Sub.{Sub}
 use Rattle.anti_kind.specs.declared.store_kind.StoreKind.{StoreKind}
 use Rattle.anti_kind.specs.declared.store_kind.StoreKind.TheVariants.{Queue}
 use Rattle.anti_kind.specs.Stored.{rows, row_of, is_shipped, is_whole, is_in}
-use Rattle.anti_kind.specs.Store.{Store, is_queue, is_topic, pulls, is_acked, is_out, is_free, next_of, pulled_next, next}
+use Rattle.anti_kind.specs.Store.{Store, pulls, is_acked, is_out, is_free, next_of, next}
 use Rattle.anti_kind.specs.Starts.{queue_store}
 use Rattle.anti_kind.specs.Cells.{is_row_in}
 use Rattle.anti_kind.specs.Objects.{store, IsLegal}
@@ -251,10 +252,10 @@ module _ (s : Store) (h : List Entry) (l : IsLegal (store s) h) where
     pub next_is : HaveFree s h m.list.items → (x : Subscriber) → slice_get m.list.items n ≡ Some x → next s h n ≡ row_of h (get_or x.free.versions.items 0 0)
     next_is free x is =
         let has : HasFree s h x = subst (HasFree s h) (get_or_from_slice_get m.list.items n x x is) (free n x (slice_get_within m.list.items n x is)) in
-        ap (pulled_next s h n) (sub_is (Some x) is)
-        ∙ ap (λ (k : StoreKind). next_of (is_queue k) (is_topic k) s h n x.sub) kind
+        ap (option_and_then (next_of (facts_of s.kind).tried (facts_of s.kind).polled s h n)) (sub_is (Some x) is)
+        ∙ ap (λ (k : StoreKind). next_of (facts_of k).tried (facts_of k).polled s h n x.sub) kind
         ∙ next_free (is_free s h x.sub)
         ∙ ap (λ (vs : List ℕ). row_of h (get_or vs 0 0)) (sym has.items)
 
     pub next_none : slice_get m.list.items n ≡ None → next s h n ≡ row_of h 0
-    next_none is = ap (pulled_next s h n) (sub_is None is) ∙ sym (row_of_none s h l 0 (inl refl))
+    next_none is = ap (option_and_then (next_of (facts_of s.kind).tried (facts_of s.kind).polled s h n)) (sub_is None is) ∙ sym (row_of_none s h l 0 (inl refl))

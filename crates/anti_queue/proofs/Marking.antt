@@ -4,6 +4,7 @@ use Rattle.std.proofs.lemmas.Bool.{and_left, cases_lt, cases_eq}
 use Rattle.std.proofs.lemmas.List.{length_push, length-set, get_or_append_left, get_or_push, get_or-set_same, get_or-set_other}
 use Rattle.std.proofs.lemmas.List.Folds.{list_any-append}
 use Rattle.std.proofs.lemmas.List.Sums.{sum_by-cons}
+use Rattle.anti_kind.specs.Kinds.{facts_of}
 use Rattle.anti_kind.specs.declared.call.Call.{Call}
 use Rattle.anti_kind.specs.declared.call.Call.TheVariants.{Pull, Ack, Nack}
 use Rattle.anti_kind.specs.declared.call.Reply.{Reply}
@@ -11,7 +12,7 @@ use Rattle.anti_kind.specs.declared.call.Reply.TheVariants.{Pulled}
 use Rattle.anti_kind.specs.declared.entry.Entry.{Entry}
 use Rattle.anti_kind.specs.declared.row.Row.{Row}
 use Rattle.anti_kind.specs.Stored.{rows}
-use Rattle.anti_kind.specs.Store.{Store, is_queue, is_pull, is_ack, is_nack, gives, pulls, settles, is_acked, is_out, outs}
+use Rattle.anti_kind.specs.Store.{Store, is_pull, is_ack, is_nack, gives, pulls, settles, is_acked, is_out, outs}
 use Rattle.anti_kind.specs.Objects.{store, IsLegal}
 use Rattle.anti_kind.proofs.Handed.{Counted, counted, settles_by, settles_none, pulls_kept, settles_kept, pulls_up, out_kept, not_out_then}
 use Rattle.anti_kind.proofs.Rows.{or_false}
@@ -60,7 +61,7 @@ module _ (h : List Entry) (e : Entry) where
     pub pull_others : (v : ℕ) → (r.version ≡ v → ⊥) → SameMarks h (h ++ e ∷ []) v
     pull_others v differs = same_marks v (pulling v ∙ ne_eqb r.version v differs) (settling v)
 
-    pub pull_marks : (s : Store) → is_queue s.kind ≡ true → IsLegal (store s) h → is_out h r.version ≡ false → (x : MessageState) → IsMessage h r.version x → IsMessage (h ++ e ∷ []) r.version (pulled x)
+    pub pull_marks : (s : Store) → (facts_of s.kind).tried ≡ true → IsLegal (store s) h → is_out h r.version ≡ false → (x : MessageState) → IsMessage h r.version x → IsMessage (h ++ e ∷ []) r.version (pulled x)
     pull_marks s queue l off x was =
         let v : ℕ = r.version in
         let up : pulls (h ++ e ∷ []) v ≡ pulls h v + 1 = pulls_up h e v (pulling v ∙ eq-eqb v v refl) in
@@ -136,7 +137,7 @@ none_acked v (e ∷ h) none =
     by_test true b first off = absurd (omega (arith, first))
     by_test false b first off = off
 
-pub unwritten_marks : (s : Store) → is_queue s.kind ≡ true → (h : List Entry) → IsLegal (store s) h → (v : ℕ) → length (rows h) < v → IsMessage h v new_message
+pub unwritten_marks : (s : Store) → (facts_of s.kind).tried ≡ true → (h : List Entry) → IsLegal (store s) h → (v : ℕ) → length (rows h) < v → IsMessage h v new_message
 unwritten_marks s queue h l v above =
     let count : Counted h v = counted s queue h l v in
     let pulls_none : pulls h v ≡ 0 = ⊎_elim (λ (none : pulls h v < 1). omega arith) (λ (some : 1 ≤ pulls h v). absurd (omega (arith, (count.within some).1))) (cases_lt (pulls h v) 1) in

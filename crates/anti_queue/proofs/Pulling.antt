@@ -1,5 +1,5 @@
 -- Messages that came to a region, are handed out, done, or given back.
-use Rattle.std.proofs.Common.{◌≡◌, ℕ, ◌+◌, ◌-◌, ◌<◌, ◌≤◌, true, false, not, List, [], ◌∷◌, ◌++◌, length, get_or, Option, Some, slice_get, refl, sym, ap, subst, ◌∙◌, ⊎_elim, ◌==◌, ltb, leb-true, eqb-true, arith}
+use Rattle.std.proofs.Common.{◌≡◌, ℕ, ◌+◌, ◌-◌, ◌<◌, ◌≤◌, true, false, not, List, [], ◌∷◌, ◌++◌, length, get_or, Option, Some, slice_get, refl, sym, ap, subst, ◌∙◌, ⊎_elim, ◌==◌, ltb, leb-true, eqb-true, arith, is_some, unwrap_or}
 use Rattle.std.proofs.lemmas.Bool.{and_parts, cases_eq, ltb-true}
 use Rattle.anti_ids.specs.declared.limits.TheConstants.{MOST_UNITS}
 use Rattle.anti_kind.specs.declared.actor.Actor.TheVariants.{Newborn}
@@ -10,10 +10,10 @@ use Rattle.anti_kind.specs.declared.entry.Entry.{Entry}
 use Rattle.anti_kind.specs.declared.row.Row.{Row}
 use Rattle.anti_kind.specs.declared.store_kind.Sub.{Sub}
 use Rattle.anti_kind.specs.Stored.{rows, row_of, is_whole, is_in}
-use Rattle.anti_kind.specs.Store.{Store, is_pull, is_out, is_acked, is_free, pulls, next, is_there, or_absent, store_ready, store_due, owed_shipments, outs}
+use Rattle.anti_kind.specs.Store.{Store, is_pull, is_out, is_acked, is_free, pulls, next, store_ready, store_due, owed_shipments, outs, absent}
 use Rattle.anti_kind.specs.Objects.{held, Follows, IsLegal}
 use Rattle.anti_kind.specs.Machines.{StandsFor, MayMake}
-use Rattle.anti_kind.proofs.Handed.{Found, find_found, is_there_some, next_found, free_not_out, settles_by, outs_other, outs_pull, outs_ack, outs_nack, outs_settle, out_within}
+use Rattle.anti_kind.proofs.Handed.{Found, find_found, some_there, next_found, free_not_out, settles_by, outs_other, outs_pull, outs_ack, outs_nack, outs_settle, out_within}
 use Rattle.anti_kind.proofs.Rows.{is_write, is_shipping, or_false, rows_other, shipped_other, version_at}
 use Rattle.anti_kind.proofs.Shipped.{ready_ship, version_within}
 use Rattle.anti_replicas.specs.declared.replicas.Replicas.{Replicas}
@@ -38,9 +38,9 @@ pub record IsNext (m : Queue) (h : List Entry) (n v : ℕ) (r : Row) (sub : Sub)
   pub found : Found (is_free (its_store m) h sub) (rows h) r
   pub version : r.version ≡ v
 
-pub next_row : (m : Queue) (h : List Entry) (n v : ℕ) → next (its_store m) h n ≡ row_of h v → is_there (next (its_store m) h n) ≡ true → (r : Row) × (sub : Sub) × IsNext m h n v r sub
+pub next_row : (m : Queue) (h : List Entry) (n v : ℕ) → next (its_store m) h n ≡ row_of h v → is_some (next (its_store m) h n) ≡ true → (r : Row) × (sub : Sub) × IsNext m h n v r sub
 next_row m h n v is there =
-    let some : (r : Row) × (next (its_store m) h n ≡ Some r) = is_there_some (next (its_store m) h n) there in
+    let some : (r : Row) × (next (its_store m) h n ≡ Some r) = some_there (next (its_store m) h n) there in
     let got : (sub : Sub) × Found (is_free (its_store m) h sub) (rows h) some.0 = next_found (its_store m) h n (slice_get (subs_of m.subscribers) n) some.0 refl some.1 in
     let at : Found (λ (x : Row). x.version == v) (rows h) some.0 = find_found (λ (x : Row). x.version == v) (rows h) some.0 (sym is ∙ some.1) in
     (some.0, got.0, record { is = some.1; found = got.1; version = eqb-true some.0.version v at.passes })
@@ -111,11 +111,11 @@ module _ (m n : Queue) (b : Replicas) (ms : MessageStates) (h : List Entry) (e :
   pub stands_pulled : (sub v : ℕ) → e.call ≡ Pull sub → next (its_store m) h sub ≡ row_of h v → Sorted v → Changes pulled v m.messages ms → ms.out ≡ m.messages.out + 1 → QueueStands n (h ++ e ∷ [])
   stands_pulled sub v is next_is sorted changes more =
       let s : Store = its_store m in
-      let there : is_there (next s h sub) ≡ true = ap (λ (c : Call). store_ready s h c) (sym is) ∙ f.is_ready in
+      let there : is_some (next s h sub) ≡ true = ap (λ (c : Call). store_ready s h c) (sym is) ∙ f.is_ready in
       let got : (r : Row) × (x : Sub) × IsNext m h sub v r x = next_row m h sub v next_is there in
       let r : Row = got.0 in
       let within : (1 ≤ v) × (v ≤ length (rows h)) = next_within m h sub v r got.1 at.legal got.2 in
-      let reply : e.reply ≡ Pulled r = f.reply ∙ ap (λ (c : Call). store_due s h c) is ∙ ap (λ (o : Option Row). Pulled (or_absent [] o)) got.2.is in
+      let reply : e.reply ≡ Pulled r = f.reply ∙ ap (λ (c : Call). store_due s h c) is ∙ ap (λ (o : Option Row). Pulled (unwrap_or o (absent []))) got.2.is in
       let off : is_out h r.version ≡ false = free_not_out s h got.1 r got.2.found.passes in
       let same : (w : ℕ) → (v ≡ w → ⊥) → SameMarks h (h ++ e ∷ []) w = λ w differs. pull_others h e sub r is reply w (λ eq. differs (sym got.2.version ∙ eq)) in
       let one : (x : MessageState) → IsMessage h v x → IsMessage (h ++ e ∷ []) v (pulled x) =

@@ -2,9 +2,10 @@
 use Rattle.std.proofs.Common.{◌≡◌, ℕ, ◌+◌, ◌-◌, ◌<◌, ◌≤◌, true, false, List, length, get_or, Some, slice_get, subst, ◌⊎◌, ⊎_elim, arith}
 use Rattle.std.proofs.lemmas.Bool.{false_from_ne_true}
 use Rattle.std.proofs.lemmas.Option.{slice_get_within, get_or_from_slice_get}
+use Rattle.anti_kind.specs.Kinds.{facts_of}
 use Rattle.anti_kind.specs.declared.entry.Entry.{Entry}
 use Rattle.anti_kind.specs.Stored.{rows}
-use Rattle.anti_kind.specs.Store.{Store, is_queue, is_out}
+use Rattle.anti_kind.specs.Store.{Store, is_out}
 use Rattle.anti_kind.specs.Objects.{store, IsLegal}
 use Rattle.anti_kind.proofs.Handed.{out_within}
 use Rattle.anti_queue.specs.declared.message_states.MessageState.{MessageState}
@@ -20,7 +21,7 @@ message_is m h are v x first is =
     subst (λ (n : ℕ). IsMessage h n x) number (subst (IsMessage h (v - 1 + 1)) at (are.each (v - 1) x short))
 
 -- a version that was not written is not out
-pub never_out : (s : Store) (h : List Entry) → is_queue s.kind ≡ true → IsLegal (store s) h → (v : ℕ) → (v ≡ 0) ⊎ (length (rows h) < v) → is_out h v ≡ false
+pub never_out : (s : Store) (h : List Entry) → (facts_of s.kind).tried ≡ true → IsLegal (store s) h → (v : ℕ) → (v ≡ 0) ⊎ (length (rows h) < v) → is_out h v ≡ false
 never_out s h queue l v outside =
     false_from_ne_true (is_out h v) (λ out.
     let within : (1 ≤ v) × (v ≤ length (rows h)) = out_within s queue h l v out in

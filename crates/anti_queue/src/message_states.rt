@@ -1,8 +1,9 @@
 ghost use Rattle.std.specs.Prelude.{◌≡◌, ◌+◌, ◌-◌, ◌<◌, ◌≤◌, true, List, [], ◌∷◌, ◌++◌, ◌⊎◌, length, OnOk, IfSome, IfNone, slice_get};
 ghost use Rattle.std.specs.Vec.{vec_len, vec_capacity};
+ghost use Rattle.anti_kind.specs.Kinds.{facts_of};
 ghost use Rattle.anti_kind.specs.declared.entry.Entry.{Entry};
 ghost use Rattle.anti_kind.specs.Stored.{rows};
-ghost use Rattle.anti_kind.specs.Store.{Store, is_queue, is_out};
+ghost use Rattle.anti_kind.specs.Store.{Store, is_out};
 ghost use Rattle.anti_kind.specs.Objects.{store, IsLegal};
 
 use anti_ids::NoMemory;
@@ -58,7 +59,7 @@ impl MessageStates {
     }
 
     pub(crate) fn is_out(&self, version: u64) -> bool
-        ensures { (s : Store) (h : List Entry) → is_queue s.kind ≡ true → IsLegal (store s) h
+        ensures { (s : Store) (h : List Entry) → (facts_of s.kind).tried ≡ true → IsLegal (store s) h
             → AreMessages self.now h → result ≡ is_out h version }
     {
         match self.at(version) {

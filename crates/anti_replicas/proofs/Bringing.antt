@@ -8,13 +8,14 @@ use Rattle.std.proofs.lemmas.List.Folds.{Any-from_list_any, list_all_at}
 use Rattle.std.proofs.lemmas.List.Sums.{prefix_len-le-length, prefix_len_passes, prefix_len_stops, AllPass-from_list_all, list_all-from_AllPass}
 use Rattle.std.proofs.lemmas.Option.{slice_get_within, slice_get-get_or, get_or_from_slice_get}
 use Rattle.anti_ids.specs.declared.id.WriteId.{WriteId}
+use Rattle.anti_kind.specs.Kinds.{facts_of}
 use Rattle.anti_kind.specs.declared.entry.Entry.{Entry}
 use Rattle.anti_kind.specs.declared.row.Row.{Row}
 use Rattle.anti_kind.specs.declared.store_kind.StoreKind.{StoreKind}
 use Rattle.anti_kind.proofs.FactLaws.{one_is_whole}
 use Rattle.anti_kind.specs.Stored.{rows, row_of, is_shipped, parts_of, parts, is_whole, shows_of}
 use Rattle.anti_kind.specs.Shipments.{upto_of, shipment, shipments, next_shipment}
-use Rattle.anti_kind.specs.Store.{Store, absent, has_part, is_replica, is_table, is_next, is_written, can_ship}
+use Rattle.anti_kind.specs.Store.{Store, absent, has_part, is_replica, is_next, is_written, can_ship}
 use Rattle.anti_kind.specs.Objects.{store, IsLegal}
 use Rattle.anti_kind.proofs.Rows.{version_at, row_of_at}
 use Rattle.anti_kind.proofs.Showing.{greatest_least}
@@ -140,7 +141,7 @@ shows_below s h l g id below =
 
 -- A table is shipped in the order of its versions.
 
-module _ (s : Store) (h : List Entry) (l : IsLegal (store s) h) (g v : ℕ) (table : is_table s.kind ≡ true) (few : v ≤ length (rows h)) where
+module _ (s : Store) (h : List Entry) (l : IsLegal (store s) h) (g v : ℕ) (table : (facts_of s.kind).ordered ≡ true) (few : v ≤ length (rows h)) where
   table_whole : (r : Row) → is_whole s.kind h g r ≡ is_shipped h g r.version 1
   table_whole r = one_is_whole s.kind h g r table ∙ and_true (is_shipped h g r.version 1)
 
@@ -171,11 +172,11 @@ module _ (s : Store) (h : List Entry) (l : IsLegal (store s) h) (g v : ℕ) (tab
       (cases_lt (upto_of s.kind h g) (v - 1))
 
 -- so the version behind what a region has is the next, whatever the kind
-pub first_is_next : (s : Store) (h : List Entry) → IsLegal (store s) h → (g v : ℕ) → v ≤ length (rows h) → v - 1 ≤ upto_of s.kind h g → (not (is_table s.kind) || is_next h g v) ≡ true
-first_is_next s h l g v few low = by_order (is_table s.kind) refl where
-  by_order : (ordered : Bool) → is_table s.kind ≡ ordered → (not (is_table s.kind) || is_next h g v) ≡ true
-  by_order true is = or_right (not (is_table s.kind)) _ (sym (next_upto s h l g v is few) ∙ le-leb (v - 1) (upto_of s.kind h g) low)
-  by_order false is = or_left (not (is_table s.kind)) _ (ap not is)
+pub first_is_next : (s : Store) (h : List Entry) → IsLegal (store s) h → (g v : ℕ) → v ≤ length (rows h) → v - 1 ≤ upto_of s.kind h g → (not (facts_of s.kind).ordered || is_next h g v) ≡ true
+first_is_next s h l g v few low = by_order (facts_of s.kind).ordered refl where
+  by_order : (ordered : Bool) → (facts_of s.kind).ordered ≡ ordered → (not (facts_of s.kind).ordered || is_next h g v) ≡ true
+  by_order true is = or_right (not (facts_of s.kind).ordered) _ (sym (next_upto s h l g v is few) ∙ le-leb (v - 1) (upto_of s.kind h g) low)
+  by_order false is = or_left (not (facts_of s.kind).ordered) _ (ap not is)
 
 -- The next shipment.
 
@@ -211,9 +212,9 @@ module _ (m : Replicas) (s : Store) (h : List Entry) (at : At m s h) (g : ℕ) (
       (find_numbers (λ p. can s h g (shipment r.version p)) (λ p. not (is_shipped h g r.version p)) (parts_of s.kind r.value) (λ p first last.
       let has : has_part s.kind (row_of h r.version) p ≡ true =
       ap (λ (o : Option Row). has_part s.kind o p) row ∙ and_from (leb 1 p) _ (le-leb 1 p first) (le-leb p (parts_of s.kind r.value) last) in
-      let next : (not (is_table s.kind) || is_next h g r.version) ≡ true = first_is_next s h at.legal g r.version (omega arith) (omega arith) in
-      ap (λ (b : Bool). b && (has_part s.kind (row_of h r.version) p && (not (is_shipped h g r.version p) && (not (is_table s.kind) || is_next h g r.version)))) replica
-      ∙ ap (λ (b : Bool). b && (not (is_shipped h g r.version p) && (not (is_table s.kind) || is_next h g r.version))) has
+      let next : (not (facts_of s.kind).ordered || is_next h g r.version) ≡ true = first_is_next s h at.legal g r.version (omega arith) (omega arith) in
+      ap (λ (b : Bool). b && (has_part s.kind (row_of h r.version) p && (not (is_shipped h g r.version p) && (not (facts_of s.kind).ordered || is_next h g r.version)))) replica
+      ∙ ap (λ (b : Bool). b && (not (is_shipped h g r.version p) && (not (facts_of s.kind).ordered || is_next h g r.version))) has
       ∙ ap (λ (b : Bool). not (is_shipped h g r.version p) && b) next
       ∙ and_true (not (is_shipped h g r.version p))))
 

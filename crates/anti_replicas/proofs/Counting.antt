@@ -11,12 +11,13 @@ use Rattle.std.proofs.lemmas.Map.Text.{is_eq-slice_cmp}
 use Rattle.std.proofs.lemmas.Slice.Eq.{bytes_eq-Decides}
 use Rattle.anti_ids.specs.Names.{is_plain}
 use Rattle.anti_ids.specs.declared.id.WriteId.{WriteId}
+use Rattle.anti_kind.specs.Kinds.{facts_of}
 use Rattle.anti_kind.specs.declared.call.Call.{Call}
 use Rattle.anti_kind.specs.declared.call.Call.TheVariants.{Write}
 use Rattle.anti_kind.specs.declared.entry.Entry.{Entry}
 use Rattle.anti_kind.specs.declared.row.Row.{Row}
 use Rattle.anti_kind.specs.Stored.{rows, channel_of, is_in}
-use Rattle.anti_kind.specs.Store.{Store, has_keys, key_for, store_ready}
+use Rattle.anti_kind.specs.Store.{Store, key_for, store_ready}
 use Rattle.anti_kind.specs.Cells.{cell_key}
 use Rattle.anti_kind.specs.Objects.{store, Follows, IsLegal}
 use Rattle.anti_kind.proofs.Cells.{channel_of_cell}
@@ -36,12 +37,12 @@ few_writes s h l c = omega (arith, count_by-le-length (is_in c) (rows h), rows_l
 
 -- A write to a channel is one of its own, and no other's.
 
-plain_channel : (s : Store) → has_keys s.kind ≡ false → (h : List Entry) (e : Entry) (key value : List ℕ) (lineage : List WriteId) → Follows (store s) h e → e.call ≡ Write key value lineage → is_plain key ≡ true
+plain_channel : (s : Store) → (facts_of s.kind).keyed ≡ false → (h : List Entry) (e : Entry) (key value : List ℕ) (lineage : List WriteId) → Follows (store s) h e → e.call ≡ Write key value lineage → is_plain key ≡ true
 plain_channel s keyless h e key value lineage f is =
-    ⊎_elim (λ (keys : has_keys s.kind ≡ true). absurd (both_ways (has_keys s.kind) keyless keys)) (λ (plain : is_plain key ≡ true). plain)
-    (or_cases (has_keys s.kind) (is_plain key) (ap (λ (c : Call). store_ready s h c) (sym is) ∙ f.is_ready))
+    ⊎_elim (λ (keys : (facts_of s.kind).keyed ≡ true). absurd (both_ways (facts_of s.kind).keyed keyless keys)) (λ (plain : is_plain key ≡ true). plain)
+    (or_cases (facts_of s.kind).keyed (is_plain key) (ap (λ (c : Call). store_ready s h c) (sym is) ∙ f.is_ready))
 
-pub count_write : (s : Store) → has_keys s.kind ≡ false → (h : List Entry) (e : Entry) (key value : List ℕ) (lineage : List WriteId) → Follows (store s) h e → e.call ≡ Write key value lineage → (c : List ℕ)
+pub count_write : (s : Store) → (facts_of s.kind).keyed ≡ false → (h : List Entry) (e : Entry) (key value : List ℕ) (lineage : List WriteId) → Follows (store s) h e → e.call ≡ Write key value lineage → (c : List ℕ)
     → count_by (is_in c) (rows (h ++ e ∷ [])) ≡ count_by (is_in c) (rows h) + cond (bytes_eq key c) 1 0
 count_write s keyless h e key value lineage f is c =
     let n : ℕ = count_by (is_in key) (rows h) + 1 in
@@ -69,7 +70,7 @@ module _ (m n : Channels) (key : List ℕ) (v : ℕ) (updates : Updates (slice_c
     by_test c false off = refl
     by_test c true on = fresh ∙ sym (ap (count_at m) (sym ((bytes_eq-Decides key c).0 on)) ∙ no_count (place_of m key) none)
 
-  pub added : v ≡ min (count_at m key + 1) (2 ^ 64 - 1) → (s : Store) (h : List Entry) (e : Entry) (value : List ℕ) (lineage : List WriteId) → IsLegal (store s) h → Follows (store s) h e → has_keys s.kind ≡ false → e.call ≡ Write key value lineage → Counts m h
+  pub added : v ≡ min (count_at m key + 1) (2 ^ 64 - 1) → (s : Store) (h : List Entry) (e : Entry) (value : List ℕ) (lineage : List WriteId) → IsLegal (store s) h → Follows (store s) h e → (facts_of s.kind).keyed ≡ false → e.call ≡ Write key value lineage → Counts m h
       → Counts n (h ++ e ∷ [])
   added up s h e value lineage l f keyless is counts = record { counted = counted } where
     by_test : (c : List ℕ) (b : Bool) → bytes_eq key c ≡ b → cond b v (count_at m c) ≡ count_by (is_in c) (rows h) + cond b 1 0
@@ -82,6 +83,6 @@ module _ (m n : Channels) (key : List ℕ) (v : ℕ) (updates : Updates (slice_c
     counted c = count_now c ∙ by_test c (bytes_eq key c) refl ∙ sym (count_write s keyless h e key value lineage f is c)
 
 -- The key of the next write to a channel.
-pub next_key_is : (m : Channels) (s : Store) (h : List Entry) → Counts m h → has_keys s.kind ≡ false → (c : List ℕ) → cell_key c (count_at m c + 1) ≡ key_for s.kind h c
+pub next_key_is : (m : Channels) (s : Store) (h : List Entry) → Counts m h → (facts_of s.kind).keyed ≡ false → (c : List ℕ) → cell_key c (count_at m c + 1) ≡ key_for s.kind h c
 next_key_is m s h counts keyless c =
     ap (λ (n : ℕ). cell_key c (n + 1)) (counts.counted c) ∙ sym (ap (λ (b : Bool). cond b c (cell_key c (count_by (is_in c) (rows h) + 1))) keyless)

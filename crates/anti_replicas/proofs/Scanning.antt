@@ -21,7 +21,7 @@ use Rattle.anti_ids.specs.Each.{Each}
 use Rattle.anti_kind.specs.declared.entry.Entry.{Entry}
 use Rattle.anti_kind.specs.declared.row.Row.{Row}
 use Rattle.anti_kind.specs.Stored.{rows, row_of, is_whole, shows_of}
-use Rattle.anti_kind.specs.Store.{Store, by_key, sorted, has_prefix, scanned, is_there}
+use Rattle.anti_kind.specs.Store.{Store, by_key, sorted, scanned}
 use Rattle.anti_kind.specs.Objects.{store}
 use Rattle.anti_kind.proofs.Bounds.{held_within}
 use Rattle.anti_kind.proofs.Finding.{Found, find_found}
@@ -212,7 +212,7 @@ zero_both false = refl
 
 module _ (shows : List ℕ → ℕ) (prefix : List ℕ) where
   abbrev in_scan : Row → Bool
-  in_scan r = has_prefix prefix r && (shows r.key == r.version)
+  in_scan r = bytes_eq prefix (take (length prefix) r.key) && (shows r.key == r.version)
 
   none_later : (n : ℕ) (rs : List Row) → Numbered n rs → (r : Row) → r.version ≤ n → shows r.key ≡ r.version → at_key (filter in_scan rs) r.key ≡ None
   none_later n rs all r low is = find_filter (λ x. bytes_eq x.key r.key) in_scan rs ∙ later n rs all low where
@@ -221,7 +221,7 @@ module _ (shows : List ℕ → ℕ) (prefix : List ℕ) where
     later n (x ∷ rs) all low =
         let off : (in_scan x && bytes_eq x.key r.key) ≡ false = false_from_ne_true (in_scan x && bytes_eq x.key r.key) (λ on.
         let both = and_parts (in_scan x) (bytes_eq x.key r.key) on in
-        let shown : shows x.key ≡ x.version = eqb-true (shows x.key) x.version (and_parts (has_prefix prefix x) _ both.0).1 in
+        let shown : shows x.key ≡ x.version = eqb-true (shows x.key) x.version (and_parts (bytes_eq prefix (take (length prefix) x.key)) _ both.0).1 in
         let key : x.key ≡ r.key = bytes_same x.key r.key both.1 in
         omega (arith, all.0, shown, ap shows key)) in
         rw off (later (n + 1) rs all.1 (omega arith))
@@ -232,7 +232,7 @@ module _ (shows : List ℕ → ℕ) (prefix : List ℕ) where
     by_test : (b : Bool) → in_scan r ≡ b → Distinct (filter in_scan rs) → Distinct (cond b (r ∷ filter in_scan rs) (filter in_scan rs))
     by_test false off rest = rest
     by_test true on rest =
-        (none_later (n + 1) rs all.1 r (omega (arith, all.0)) (eqb-true (shows r.key) r.version (and_parts (has_prefix prefix r) _ on).1), rest)
+        (none_later (n + 1) rs all.1 r (omega (arith, all.0)) (eqb-true (shows r.key) r.version (and_parts (bytes_eq prefix (take (length prefix) r.key)) _ on).1), rest)
 
 -- What a scan at the region g finds.
 module _ (m : Replicas) (s : Store) (h : List Entry) (at : At m s h) (g : ℕ) (low : g < 8) (prefix : List ℕ) where
@@ -422,7 +422,7 @@ module _ (m : Replicas) (s : Store) (h : List Entry) (at : At m s h) (g : ℕ) (
   none_scanned n [] all = refl
   none_scanned n (r ∷ rs) all =
       let off : in_scan (λ k. shows_of s.kind h g k) prefix r ≡ false =
-      and_right (has_prefix prefix r) _ (ne_eqb (shows_of s.kind h g r.key) r.version (λ same. omega (arith, all.0, same, shows_nothing m s h at g r.key above))) in
+      and_right (bytes_eq prefix (take (length prefix) r.key)) _ (ne_eqb (shows_of s.kind h g r.key) r.version (λ same. omega (arith, all.0, same, shows_nothing m s h at g r.key above))) in
       rw off (none_scanned (n + 1) rs all.1)
 
   pub scans_nothing : scanned (showing_whole s) h g prefix ≡ []
@@ -443,6 +443,6 @@ scanned_few m s h at g prefix =
     let found : List Row = filter test (rows h) in
     omega (arith, length_permutation found (sorted found) (sorted_permutes found), length-filter test (rows h), count_by-le-length test (rows h), rows_held h, held_within (store s) h at.sane at.legal)
 
-pub length_before : (o : Option Row) (rest : List Row) → is_there o ≡ true → length (before o rest) ≡ length rest + 1
+pub length_before : (o : Option Row) (rest : List Row) → is_some o ≡ true → length (before o rest) ≡ length rest + 1
 length_before None rest there = absurd (cc)
 length_before (Some r) rest there = omega arith

@@ -7,6 +7,7 @@ use Rattle.std.proofs.lemmas.List.{map_push, length_push, length-map, get_or-map
 use Rattle.std.proofs.lemmas.List.Sums.{prefix_len_passes}
 use Rattle.anti_ids.specs.declared.limits.TheConstants.{MOST_UNITS}
 use Rattle.anti_ids.specs.declared.id.WriteId.{WriteId}
+use Rattle.anti_kind.specs.Kinds.{facts_of}
 use Rattle.anti_kind.specs.declared.call.Call.{Call}
 use Rattle.anti_kind.specs.declared.call.Call.TheVariants.{Write, Ship}
 use Rattle.anti_kind.specs.declared.entry.Entry.{Entry}
@@ -14,7 +15,7 @@ use Rattle.anti_kind.specs.declared.row.Row.{Row}
 use Rattle.anti_kind.specs.declared.store_kind.StoreKind.{StoreKind}
 use Rattle.anti_kind.specs.Stored.{rows, is_shipped, parts_of, is_whole, shows_of}
 use Rattle.anti_kind.specs.Shipments.{upto_of}
-use Rattle.anti_kind.specs.Store.{Store, absent, key_for, store_due, owed_shipments, owed_messages}
+use Rattle.anti_kind.specs.Store.{Store, absent, key_for, store_due, owed_shipments, outs}
 use Rattle.anti_kind.specs.Objects.{store, Follows, IsLegal, weight, held}
 use Rattle.anti_kind.proofs.Histories.{held_more, legal_more}
 use Rattle.anti_kind.proofs.Bounds.{held_within}
@@ -386,7 +387,7 @@ shippable m g v p may =
     let there = its_part m s h at v p can.shipment.part in
     let low : g < 8 = replica_below m s h at g can.shipment.replica in
     let owes : 1 ≤ owed_shipments s h = ship_owed s h g v p at.sane at.legal may.1.is_ready in
-    let units : held h + (owed_shipments s h + owed_messages s h) + 0 ≤ MOST_UNITS = leb-true _ _ may.1.fits in
+    let units : held h + (owed_shipments s h + cond (facts_of s.kind).tried (outs h) 0) + 0 ≤ MOST_UNITS = leb-true _ _ may.1.fits in
     record {
       region = low;
       first = there.0;
@@ -405,7 +406,7 @@ writable m value lineage may =
     let s : Store = may.0 in
     let h : List Entry = may.2.history in
     let at : At m s h = may.2.stands_for in
-    let units : held h + (owed_shipments s h + owed_messages s h) + (1 + length s.regions * parts_of s.kind value) ≤ MOST_UNITS = leb-true _ _ may.2.fits in
+    let units : held h + (owed_shipments s h + cond (facts_of s.kind).tried (outs h) 0) + (1 + length s.regions * parts_of s.kind value) ≤ MOST_UNITS = leb-true _ _ may.2.fits in
     let same : m.replicas * parts_of m.kind value ≡ length s.regions * parts_of s.kind value =
     ap (λ (x : ℕ). x * parts_of m.kind value) at.state.replicas_are ∙ ap (λ (kind : StoreKind). length s.regions * parts_of kind value) at.state.kind_is in
     omega (arith, at.state.held_is, at.state.owed_is)

@@ -1,11 +1,12 @@
 -- The words of the base's clauses: which histories it stands for, and which calls may change it.
 use Rattle.std.specs.Prelude.{◌≡◌, ℕ, List, [], true}
 use Rattle.anti_ids.specs.declared.id.WriteId.{WriteId}
+use Rattle.anti_kind.specs.Kinds.{facts_of}
 use Rattle.anti_kind.specs.declared.call.Call.{Call}
 use Rattle.anti_kind.specs.declared.call.Call.TheVariants.{Write, Look, Ship, Again}
 use Rattle.anti_kind.specs.declared.entry.Entry.{Entry}
 use Rattle.anti_kind.specs.declared.store_kind.StoreKind.{StoreKind}
-use Rattle.anti_kind.specs.Store.{Store, has_keys, store_of}
+use Rattle.anti_kind.specs.Store.{Store, store_of}
 use Rattle.anti_kind.specs.Objects.{store}
 use Rattle.anti_kind.specs.Machines.{StandsFor, MayMake}
 use Rattle.anti_replicas.specs.declared.replicas.Replicas.{Replicas}
@@ -50,7 +51,7 @@ keyed kind number regions = store_of kind number regions [] 0
 abbrev pub MayKeyed : Replicas → Call → Type 0
 MayKeyed m c =
     (kind : StoreKind) × (number : ℕ) × (regions : List ℕ)
-    × MayMake (store (keyed kind number regions)) (Stands m (keyed kind number regions)) c × (has_keys kind ≡ true)
+    × MayMake (store (keyed kind number regions)) (Stands m (keyed kind number regions)) c × ((facts_of kind).keyed ≡ true)
 
 -- after some history of some store for which m stands the call is ready and fits
 abbrev pub MayPass : Replicas → Call → Type 0

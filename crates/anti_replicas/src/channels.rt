@@ -1,9 +1,10 @@
 ghost use Rattle.std.specs.Prelude.{◌≡◌, true, false, ℕ, List, [], ◌∷◌, ◌++◌, Some, OnOk};
 ghost use Rattle.anti_ids.specs.Names.{is_plain};
 ghost use Rattle.anti_ids.specs.declared.id.WriteId.{WriteId};
+ghost use Rattle.anti_kind.specs.Kinds.{facts_of};
 ghost use Rattle.anti_kind.specs.declared.call.Call.TheVariants.{Write};
 ghost use Rattle.anti_kind.specs.declared.entry.Entry.{Entry};
-ghost use Rattle.anti_kind.specs.Store.{Store, has_keys, key_for};
+ghost use Rattle.anti_kind.specs.Store.{Store, key_for};
 ghost use Rattle.anti_kind.specs.Objects.{store, Follows, IsLegal};
 ghost use Rattle.anti_replicas.specs.Channels.{count_at, HasChannel, Counts};
 
@@ -41,7 +42,7 @@ impl Channels {
     /// The key that the next write to the channel gets.
     pub fn next_key(&self, channel: &Name) -> Option<Name>
         ensures { (s : Store) (h : List Entry) → IsLegal (store s) h → Counts self.now h
-            → has_keys s.kind ≡ false → is_plain channel.now ≡ true
+            → (facts_of s.kind).keyed ≡ false → is_plain channel.now ≡ true
             → result ≡ Some (key_for s.kind h channel.now) }
     {
         cell_key(channel, self.count(channel).saturating_add(1))
@@ -65,7 +66,7 @@ impl Channels {
     pub fn add(&mut self, channel: &Name)
         requires { HasChannel self.old channel.now }
         ensures { (s : Store) (h : List Entry) (e : Entry) (value : List ℕ) (lineage : List WriteId)
-            → IsLegal (store s) h → Follows (store s) h e → has_keys s.kind ≡ false
+            → IsLegal (store s) h → Follows (store s) h e → (facts_of s.kind).keyed ≡ false
             → e.call ≡ Write channel.now value lineage → Counts self.old h
             → Counts self.new (h ++ e ∷ []) }
     {

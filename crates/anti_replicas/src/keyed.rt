@@ -1,9 +1,10 @@
 ghost use Rattle.std.specs.Prelude.{◌≡◌, ℕ, true, List, [], ◌∷◌, ◌++◌, IfOk, IsOk, OnErr, OnOk};
+ghost use Rattle.anti_kind.specs.Kinds.{facts_of};
 ghost use Rattle.anti_kind.specs.declared.entry.Entry.{Entry};
 ghost use Rattle.anti_kind.specs.declared.store_kind.StoreKind.{StoreKind};
 ghost use Rattle.anti_kind.specs.Objects.{store, Follows};
 ghost use Rattle.anti_kind.specs.Shipments.{IsShip};
-ghost use Rattle.anti_kind.specs.Store.{Store, has_keys, is_scanned, store_due, store_ready};
+ghost use Rattle.anti_kind.specs.Store.{Store, store_due, store_ready};
 
 use crate::replicas::Replicas;
 use anti_ids::NoMemory;
@@ -16,7 +17,7 @@ impl Replicas {
 
     // Whether all keys with a prefix are read at once.
     fn is_scanned(&self) -> bool
-        ensures { (s : Store) (h : List Entry) → At self.now s h → result ≡ is_scanned s.kind }
+        ensures { (s : Store) (h : List Entry) → At self.now s h → result ≡ (facts_of s.kind).scanned }
     {
         self.kind.facts().scanned
     }
@@ -24,7 +25,7 @@ impl Replicas {
     /// Whether a call is ready, in a store that is read by keys.
     pub fn keyed_ready(&self, c: &Call) -> bool
         ensures { (kind : StoreKind) (number : ℕ) (regions : List ℕ) (h : List Entry) → At self.now (keyed kind number regions) h
-            → has_keys kind ≡ true → result ≡ store_ready (keyed kind number regions) h c.now }
+            → (facts_of kind).keyed ≡ true → result ≡ store_ready (keyed kind number regions) h c.now }
     {
         match c {
             Call::Write { .. } => true,
@@ -39,7 +40,7 @@ impl Replicas {
     pub fn keyed_due(&self, c: &Call) -> Result<Reply, NoMemory>
         requires { MayKeyed self.now c.now }
         ensures due { (kind : StoreKind) (number : ℕ) (regions : List ℕ) (h : List Entry) → At self.now (keyed kind number regions) h
-            → has_keys kind ≡ true → IfOk result (λ r. r ≡ store_due (keyed kind number regions) h c.now) }
+            → (facts_of kind).keyed ≡ true → IfOk result (λ r. r ≡ store_due (keyed kind number regions) h c.now) }
         ensures ship { IsShip c.now → IsOk result }
     {
         match c {
@@ -59,7 +60,7 @@ impl Replicas {
     pub fn keyed_apply(&mut self, c: &Call) -> Result<(), NoMemory>
         requires { MayKeyed self.old c.now }
         ensures stands { (kind : StoreKind) (number : ℕ) (regions : List ℕ) (h : List Entry) (e : Entry)
-            → At self.old (keyed kind number regions) h → has_keys kind ≡ true
+            → At self.old (keyed kind number regions) h → (facts_of kind).keyed ≡ true
             → Follows (store (keyed kind number regions)) h e → e.call ≡ c.now
             → OnOk result (Stands self.new (keyed kind number regions) (h ++ e ∷ [])) }
         ensures err { (s : Store) (h : List Entry) → Stands self.old s h → OnErr result (Stands self.new s h) }

@@ -1,11 +1,11 @@
-ghost use Rattle.std.specs.Prelude.{◌≡◌, ◌<◌, ◌≤◌, ◌&&◌, ◌==◌, nat_le, List, length, IfOk, OnOk};
+ghost use Rattle.std.specs.Prelude.{◌≡◌, ◌<◌, ◌≤◌, ◌&&◌, ◌==◌, not, nat_le, List, length, filter, IfOk, OnOk};
 ghost use Rattle.std.specs.List.{list_all, list_any};
 ghost use Rattle.anti_ids.specs.declared.id.WriteId.{WriteId};
 ghost use Rattle.anti_ids.specs.Ids.{with_id};
 ghost use Rattle.anti_kind.specs.declared.call.Reply.TheVariants.{Missing};
 ghost use Rattle.anti_kind.specs.declared.entry.Entry.{Entry};
 ghost use Rattle.anti_kind.specs.Shipments.{upto_of};
-ghost use Rattle.anti_kind.specs.Store.{Store, is_visible, is_written, missing, unwritten, can_look};
+ghost use Rattle.anti_kind.specs.Store.{Store, is_visible, is_written, can_look};
 
 use crate::replicas::Replicas;
 use anti_ids::{Copies, Lineage, LineageRefused, MOST_IDS, NoMemory, WriteId};
@@ -81,7 +81,7 @@ impl Replicas {
     /// The ids that are not visible at the region. Where none is visible, as before anything is shipped, they are all, and take no memory.
     pub fn missing(&self, region: u32, ids: &Lineage) -> Result<Lineage, NoMemory>
         ensures { (s : Store) (h : List Entry) → At self.now s h
-            → IfOk result (λ l. l ≡ missing (showing_whole s) h region ids.now) }
+            → IfOk result (λ l. l ≡ filter (λ id. not (is_visible (showing_whole s) h region id)) ids.now) }
     {
         if self.shows_some(region, ids) {
             return self.some_missing(region, ids);
@@ -93,7 +93,7 @@ impl Replicas {
     // The ids that are not visible at the region, one after another.
     fn some_missing(&self, region: u32, ids: &Lineage) -> Result<Lineage, NoMemory>
         ensures { (s : Store) (h : List Entry) → At self.now s h
-            → IfOk result (λ l. l ≡ missing (showing_whole s) h region ids.now) }
+            → IfOk result (λ l. l ≡ filter (λ id. not (is_visible (showing_whole s) h region id)) ids.now) }
     {
         let mut found = Lineage::root(self.alloc);
         for id in ids.iter() {
@@ -107,7 +107,7 @@ impl Replicas {
     /// The ids that nobody wrote.
     pub fn unwritten(&self, ids: &Lineage) -> Result<Lineage, NoMemory>
         ensures { (s : Store) (h : List Entry) → At self.now s h
-            → IfOk result (λ l. l ≡ unwritten h ids.now) }
+            → IfOk result (λ l. l ≡ filter (λ id. not (is_written h id)) ids.now) }
     {
         let mut found = Lineage::root(self.alloc);
         for id in ids.iter() {
@@ -169,7 +169,8 @@ impl Replicas {
     /// The reply to a look: the ids that are not visible at the region, and those that nobody wrote.
     pub fn look(&self, region: u32, ids: &Lineage) -> Result<Reply, NoMemory>
         ensures { (s : Store) (h : List Entry) → At self.now s h
-            → IfOk result (λ reply. reply ≡ Missing (missing (showing_whole s) h region ids.now) (unwritten h ids.now)) }
+            → IfOk result (λ reply. reply ≡ Missing (filter (λ id. not (is_visible (showing_whole s) h region id)) ids.now)
+            (filter (λ id. not (is_written h id)) ids.now)) }
     {
         let missing = Handle::new(self.alloc, self.missing(region, ids)?)?;
         let unwritten = Handle::new(self.alloc, self.unwritten(ids)?)?;

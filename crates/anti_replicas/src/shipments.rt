@@ -1,10 +1,11 @@
 ghost use Rattle.std.specs.Prelude.{◌≡◌, ◌+◌, ◌<◌, ◌≤◌, not, ◌||◌, List, [], ◌∷◌, ◌++◌, drop, length};
 ghost use Rattle.std.specs.List.{prefix_len};
+ghost use Rattle.anti_kind.specs.Kinds.{facts_of};
 ghost use Rattle.anti_kind.specs.declared.call.Call.TheVariants.{Ship};
 ghost use Rattle.anti_kind.specs.declared.entry.Entry.{Entry};
 ghost use Rattle.anti_kind.specs.Stored.{rows, row_of, is_shipped};
 ghost use Rattle.anti_kind.specs.Shipments.{upto_of, next_shipment};
-ghost use Rattle.anti_kind.specs.Store.{Store, is_table, has_part, is_next, can_ship};
+ghost use Rattle.anti_kind.specs.Store.{Store, has_part, is_next, can_ship};
 ghost use Rattle.anti_kind.specs.Objects.{store, Follows};
 ghost use Rattle.anti_replicas.specs.inner.Marks.{has_all};
 
@@ -61,7 +62,7 @@ impl Replicas {
     fn is_next(&self, region: u32, version: u64) -> bool
         ensures { (s : Store) (h : List Entry) → At self.now s h
             → version ≤ length (rows h)
-            → result ≡ (not (is_table s.kind) || is_next h region version) }
+            → result ≡ (not (facts_of s.kind).ordered || is_next h region version) }
     {
         if !self.kind.facts().ordered {
             return true;

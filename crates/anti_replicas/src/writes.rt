@@ -1,9 +1,9 @@
-ghost use Rattle.std.specs.Prelude.{◌≡◌, ℕ, ◌+◌, ◌-◌, ◌*◌, ◌≤◌, ◌⊎◌, ◌<◌, List, [], ◌∷◌, ◌++◌, length, IfOk, OnOk, OnErr, IfSome, IfNone, slice_get};
+ghost use Rattle.std.specs.Prelude.{◌≡◌, ℕ, ◌+◌, ◌-◌, ◌*◌, ◌≤◌, ◌⊎◌, ◌<◌, List, [], ◌∷◌, ◌++◌, length, IfOk, OnOk, OnErr, IfSome, IfNone, slice_get, is_some};
 ghost use Rattle.anti_kind.specs.declared.call.Call.TheVariants.{Write};
 ghost use Rattle.anti_kind.specs.declared.entry.Entry.{Entry};
 ghost use Rattle.anti_ids.specs.declared.limits.TheConstants.{MOST_UNITS};
 ghost use Rattle.anti_kind.specs.Stored.{rows, row_of, parts_of};
-ghost use Rattle.anti_kind.specs.Store.{Store, key_for, is_there};
+ghost use Rattle.anti_kind.specs.Store.{Store, key_for};
 ghost use Rattle.anti_kind.specs.Objects.{store, Follows};
 
 use crate::kept_write::{KeptWrite, MARKS};
@@ -39,7 +39,7 @@ impl Replicas {
     /// Whether the version was written.
     pub fn is_version(&self, version: u64) -> bool
         ensures { (s : Store) (h : List Entry) → At self.now s h
-            → result ≡ is_there (row_of h version) }
+            → result ≡ is_some (row_of h version) }
     {
         match self.kept_at(version) {
             Some(_) => true,

@@ -1,5 +1,5 @@
 -- Counts that are those of the lists of a run, and of the answers of its spans, are the counts of what is told of it.
-use Rattle.std.proofs.Common.{◌≡◌, ℕ, List, length, refl}
+use Rattle.std.proofs.Common.{◌≡◌, ℕ, List, length, count_by, refl}
 use Rattle.anti_kind.specs.declared.entry.Entry.{Entry}
 use Rattle.anti_app.specs.declared.app.App.{App}
 use Rattle.anti_proc.specs.Looks.{is_look}
@@ -9,7 +9,7 @@ use Rattle.law_causal.specs.Words.{reads}
 use Rattle.anti_order.specs.Tallies.{AreCountsOf}
 use Rattle.anti_order.specs.declared.answer_counts.AnswerCounts.{AnswerCounts}
 use Rattle.anti_report.specs.Report.{Told}
-use Rattle.anti_report.specs.RunCounts.{calls_counted, ends_counted, is_fine, is_ship, is_write, run_counts}
+use Rattle.anti_report.specs.RunCounts.{calls_counted, is_fine, is_ship, is_write, run_counts}
 use Rattle.anti_report.specs.Tallies.{AreRunCountsOf}
 use Rattle.anti_report.specs.declared.run_counts.RunCounts.{RunCounts}
 
@@ -22,7 +22,7 @@ counts_with entries ends spans = record {
   looks = calls_counted is_look entries;
   ships = calls_counted is_ship entries;
   processes = length ends;
-  fine = ends_counted is_fine ends;
+  fine = count_by (λ p. is_fine p.end) ends;
   spans = spans;
 }
 

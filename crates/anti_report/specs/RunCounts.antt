@@ -6,7 +6,6 @@ use Rattle.anti_kind.specs.declared.entry.Entry.{Entry}
 use Rattle.anti_proc.specs.Looks.{is_look}
 use Rattle.anti_proc.specs.declared.end.End.{End}
 use Rattle.anti_proc.specs.declared.end.End.TheVariants.{Fine}
-use Rattle.anti_trace.specs.declared.ends.ProcessEnd.{ProcessEnd}
 use Rattle.law_causal.specs.Words.{reads}
 use Rattle.anti_order.specs.Counts.{how_many, is_lossy, is_ordered, is_unguarded}
 use Rattle.anti_report.specs.Report.{Told}
@@ -24,12 +23,9 @@ abbrev pub is_fine : Option End → Bool
 is_fine (Some Fine) = true
 is_fine end = false
 
--- how many entries have such a call, and how many processes ended so
+-- how many entries have such a call
 abbrev pub calls_counted : (Call → Bool) → List Entry → ℕ
 calls_counted test entries = count_by (λ e. test e.call) entries
-
-abbrev pub ends_counted : (Option End → Bool) → List ProcessEnd → ℕ
-ends_counted test ends = count_by (λ p. test p.end) ends
 
 -- the counts of what is told of a run
 abbrev pub run_counts : Told → RunCounts
@@ -40,10 +36,6 @@ run_counts t = record {
   looks = calls_counted is_look t.entries;
   ships = calls_counted is_ship t.entries;
   processes = length t.ends;
-  fine = ends_counted is_fine t.ends;
-  spans = record {
-    ordered = how_many is_ordered t.spans;
-    unguarded = how_many is_unguarded t.spans;
-    lossy = how_many is_lossy t.spans;
-  };
+  fine = count_by (λ p. is_fine p.end) t.ends;
+  spans = record { ordered = how_many is_ordered t.spans; unguarded = how_many is_unguarded t.spans; lossy = how_many is_lossy t.spans };
 }

@@ -1,10 +1,10 @@
-ghost use Rattle.std.specs.Prelude.{◌≡◌, ℕ, List, IfOk, IsTrue};
+ghost use Rattle.std.specs.Prelude.{◌≡◌, ℕ, List, count_by, IfOk, IsTrue};
 ghost use Rattle.anti_app.specs.Sound.{is_sound};
 ghost use Rattle.anti_proc.specs.Looks.{is_look};
 ghost use Rattle.anti_trace.specs.Ends.{ends_of};
 ghost use Rattle.anti_trace.specs.Legal.{IsLegalTrace};
 ghost use Rattle.law_causal.specs.Words.{reads};
-ghost use Rattle.anti_report.specs.RunCounts.{calls_counted, ends_counted, is_fine, is_ship, is_write};
+ghost use Rattle.anti_report.specs.RunCounts.{calls_counted, is_fine, is_ship, is_write};
 ghost use Rattle.anti_report.specs.Tallies.{AreRunCountsOf};
 
 use anti_app::App;
@@ -76,7 +76,7 @@ fn count_ships(entries: &[Entry]) -> usize
 
 // How many processes came to the end of their bodies.
 fn count_fine(ends: &[ProcessEnd]) -> usize
-    ensures { result ≡ ends_counted is_fine ends.now }
+    ensures { result ≡ count_by (λ p. is_fine p.end) ends.now }
 {
     ends.iter()
         .filter(|process| process.end == Some(End::Fine))

@@ -14,7 +14,7 @@ use Rattle.anti_kind.specs.declared.call.Reply.TheVariants.{Missing}
 use Rattle.anti_kind.specs.declared.entry.Entry.{Entry}
 use Rattle.anti_kind.specs.declared.port.Answer.{Answer}
 use Rattle.anti_kind.specs.declared.port.Answer.TheVariants as port
-use Rattle.anti_kind.specs.Store.{Store, is_replica, is_visible, is_written, missing, unwritten, can_look}
+use Rattle.anti_kind.specs.Store.{Store, is_replica, is_visible, is_written, can_look}
 use Rattle.anti_kind.specs.Objects.{Start, store, inbox, Follows}
 use Rattle.anti_kind.specs.Ports.{View, Answered}
 use Rattle.anti_kind.specs.Entries.{entry_of}
@@ -74,8 +74,8 @@ pub record Named (region : ℕ) (ids : List WriteId) (dry : Bool) (named nobody 
   pub start : Store
   pub history : List Entry
   pub is_ready : can_look start history region ids dry ≡ true
-  pub missing_is : named ≡ missing start history region ids
-  pub unwritten_is : nobody ≡ unwritten history ids
+  pub missing_is : named ≡ filter (λ i. not (is_visible start history region i)) ids
+  pub unwritten_is : nobody ≡ filter (λ i. not (is_written history i)) ids
 
 pub named_by : (start : Option Start) (who : Caller) (object region : ℕ) (ids : List WriteId) (dry : Bool) (old new : View) (place stamp : ℕ) (named nobody : List WriteId)
     → Answered start (asking who object (Look region ids dry)) old new (port.Made place stamp (Missing named nobody)) → Named region ids dry named nobody
@@ -83,7 +83,7 @@ named_by None who object region ids dry old new place stamp named nobody a = let
 named_by (Some (store s)) who object region ids dry old new place stamp named nobody a =
     let h = a.0.0 in
     let f : Follows (store s) h (entry_of (asking who object (Look region ids dry)) a.0.1.0 place stamp (Missing named nobody)) = a.0.1.1.follows in
-    let said : Missing named nobody ≡ Missing (missing s h region ids) (unwritten h ids) = f.reply in
+    let said : Missing named nobody ≡ Missing (filter (λ i. not (is_visible s h region i)) ids) (filter (λ i. not (is_written h i)) ids) = f.reply in
     record { start = s; history = h; is_ready = f.is_ready; missing_is = cc; unwritten_is = cc }
 named_by (Some (inbox requests)) who object region ids dry old new place stamp named nobody a =
     let f : Follows (inbox requests) a.0.0 (entry_of (asking who object (Look region ids dry)) a.0.1.0 place stamp (Missing named nobody)) = a.0.1.1.follows in

@@ -1,5 +1,5 @@
 -- What a topic tells of its subscriptions: the cell that comes next, and which were pulled.
-use Rattle.std.proofs.Common.{◌≡◌, ℕ, ◌+◌, ◌-◌, ◌^◌, ◌<◌, ◌≤◌, min, true, false, ◌&&◌, List, get_or, slice_get, Some, None, refl, sym, ap, ◌∙◌, inl, leb, arith}
+use Rattle.std.proofs.Common.{◌≡◌, ℕ, ◌+◌, ◌-◌, ◌^◌, ◌<◌, ◌≤◌, min, true, false, ◌&&◌, List, get_or, slice_get, Some, None, refl, sym, ap, ◌∙◌, inl, leb, arith, option_and_then}
 use Rattle.std.proofs.lemmas.Bool.{and_left, and_right, le-leb, lt-leb}
 use Rattle.std.proofs.lemmas.List.Sums.{count_by-le-length}
 use Rattle.std.proofs.lemmas.Option.{slice_get_within, get_or_from_slice_get}
@@ -8,9 +8,9 @@ use Rattle.anti_kind.specs.declared.entry.Entry.{Entry}
 use Rattle.anti_kind.specs.declared.store_kind.Sub.{Sub}
 use Rattle.anti_kind.specs.declared.store_kind.StoreKind.TheVariants.{Topic as topic_kind}
 use Rattle.anti_kind.specs.Stored.{row_of, shows_of}
-use Rattle.anti_kind.specs.Store.{is_pull_by, cursor, if_whole, pulled_next, next, was_pulled, cells}
+use Rattle.anti_kind.specs.Store.{is_pull_by, cursor, next, was_pulled, cells, next_of}
 use Rattle.anti_kind.specs.Cells.{cell_key, is_cell}
-use Rattle.anti_kind.proofs.Cells.{next_cell}
+use Rattle.anti_kind.proofs.Cells.{next_cell, if_whole}
 use Rattle.anti_kind.proofs.Histories.{few_entries}
 use Rattle.anti_kind.proofs.Pulls.{no_sub_pulled, pulled_by_last}
 use Rattle.anti_kind.proofs.Rows.{row_of_none}
@@ -30,7 +30,7 @@ module _ (m : Topic) (h : List Entry) (at : At m h) where
   -- A subscription that the store has not.
 
   pub next_absent : (n : ℕ) → slice_get m.subs.items n ≡ None → next (its_store m) h n ≡ row_of h 0
-  next_absent n none = ap (pulled_next (its_store m) h n) none ∙ sym (row_of_none (its_store m) h at.legal 0 (inl refl))
+  next_absent n none = ap (option_and_then (next_of false true (its_store m) h n)) none ∙ sym (row_of_none (its_store m) h at.legal 0 (inl refl))
 
   pub pulled_absent : (n v : ℕ) → slice_get m.subs.items n ≡ None → false ≡ was_pulled h n v
   pulled_absent n v none = sym (no_sub_pulled (its_store m) n none h at.legal v)
@@ -57,7 +57,7 @@ module _ (m : Topic) (h : List Entry) (at : At m h) where
         → next (its_store m) h n ≡ row_of h (shows_of topic_kind h sub.region (cell_key sub.channel number))
     next_shown number is =
         let one : number ≡ cursor h n + 1 = next_number number is in
-        ap (pulled_next (its_store m) h n) has
+        ap (option_and_then (next_of false true (its_store m) h n)) has
         ∙ ap (λ (i : ℕ). if_whole (its_store m) h sub.region (slice_get (cells h sub.channel) i)) (omega (arith, one))
         ∙ next_cell (its_store m) refl h at.legal sub.region sub.channel channel_plain number (omega (arith, one)) (omega (arith, number_small number is))
 

@@ -1,5 +1,5 @@
 -- A topic that made one call more stands for the history with that call.
-use Rattle.std.proofs.Common.{◌≡◌, ℕ, zero, suc, ◌+◌, ◌<◌, ◌≤◌, Bool, true, false, cond, List, [], ◌∷◌, ◌++◌, length, get_or, set, replicate, filter, slice_get, Some, refl, sym, ap, ap₂, subst, ◌∙◌, ⊎_elim, ◌==◌, eq-eqb, ne_eqb, eqb-true, arith}
+use Rattle.std.proofs.Common.{◌≡◌, ℕ, zero, suc, ◌+◌, ◌<◌, ◌≤◌, Bool, true, false, cond, List, [], ◌∷◌, ◌++◌, length, get_or, set, replicate, filter, slice_get, Some, refl, sym, ap, ap₂, subst, ◌∙◌, ⊎_elim, ◌==◌, eq-eqb, ne_eqb, eqb-true, arith, option_and_then}
 use Rattle.std.proofs.lemmas.Bool.{cases_eq}
 use Rattle.std.proofs.lemmas.List.{get_or_append_left, get_or-replicate, get_or-set_same, get_or-set_other, length-set, length-replicate}
 use Rattle.std.proofs.lemmas.Option.{slice_get_within, slice_get-get_or, get_or_from_slice_get}
@@ -9,13 +9,13 @@ use Rattle.anti_kind.specs.declared.entry.Entry.{Entry}
 use Rattle.anti_kind.specs.declared.row.Row.{Row}
 use Rattle.anti_kind.specs.declared.store_kind.Sub.{Sub}
 use Rattle.anti_kind.specs.Stored.{wrote, rows, row_of, is_in}
-use Rattle.anti_kind.specs.Store.{Store, absent, is_pull, is_pull_by, cursor, pulled_next, next, store_ready, store_due, cells}
+use Rattle.anti_kind.specs.Store.{Store, absent, is_pull, is_pull_by, cursor, next, store_ready, store_due, cells, next_of}
 use Rattle.anti_kind.specs.Starts.{topic_store}
 use Rattle.anti_kind.specs.Cells.{nth_version, last_pulled}
 use Rattle.anti_kind.specs.Objects.{Follows, weight}
 use Rattle.anti_kind.proofs.Cells.{cells_more, cells_other}
 use Rattle.anti_kind.proofs.Finding.{Found, find_found}
-use Rattle.anti_kind.proofs.Handed.{is_there_some}
+use Rattle.anti_kind.proofs.Handed.{some_there}
 use Rattle.anti_kind.proofs.Pulls.{cursor_more, are_pulled, nth_version_is}
 use Rattle.anti_kind.proofs.Rows.{is_write}
 use Rattle.anti_kind.proofs.Sources.{whole_given}
@@ -97,7 +97,7 @@ module _ (m : Topic) (h : List Entry) (e : Entry) (at : At m h) (f : Follows (it
 
   module _ (number version : ℕ) (is : e.call ≡ Pull number) (next_is : next (its_store m) h number ≡ row_of h version) where
     the_next : (r : Row) × (next (its_store m) h number ≡ Some r)
-    the_next = is_there_some (next (its_store m) h number) (ap (λ (c : Call). store_ready (its_store m) h c) (sym is) ∙ f.is_ready)
+    the_next = some_there (next (its_store m) h number) (ap (λ (c : Call). store_ready (its_store m) h c) (sym is) ∙ f.is_ready)
 
     cursor_moved : (sub : Sub) (place : PullCursor) → slice_get m.subs.items number ≡ Some sub → IsCursor h number sub.channel place
         → IsCursor (h ++ e ∷ []) number sub.channel (moved place version)
@@ -106,7 +106,7 @@ module _ (m : Topic) (h : List Entry) (e : Entry) (at : At m h) (f : Follows (it
         let rs : List Row = cells h sub.channel in
         let i : ℕ = cursor h number in
         let found : Found (λ (x : Row). x.version == version) (rows h) r = find_found (λ (x : Row). x.version == version) (rows h) r (sym next_is ∙ the_next.1) in
-        let cell : slice_get rs i ≡ Some r = whole_given (its_store m) h sub.region (slice_get rs i) r (ap (pulled_next (its_store m) h number) (sym has) ∙ the_next.1) in
+        let cell : slice_get rs i ≡ Some r = whole_given (its_store m) h sub.region (slice_get rs i) r (ap (option_and_then (next_of false true (its_store m) h number)) (sym has) ∙ the_next.1) in
         let up : cursor (h ++ e ∷ []) number ≡ i + 1 =
         cursor_more h e number ∙ ap (λ (c : Call). i + cond (is_pull_by number c) 1 0) is ∙ ap (λ (b : Bool). i + cond b 1 0) (eq-eqb number number refl) in
         let last : last_pulled (h ++ e ∷ []) number sub.channel ≡ version =

@@ -1,9 +1,9 @@
-ghost use Rattle.std.specs.Prelude.{◌≡◌, ◌<◌, ◌≤◌, true, List, [], ◌∷◌, ◌++◌, length, None, Some, slice_get, IfOk, IfSome, IfNone};
+ghost use Rattle.std.specs.Prelude.{◌≡◌, ◌<◌, ◌≤◌, true, List, [], ◌∷◌, ◌++◌, length, None, Some, slice_get, IfOk, IfSome, IfNone, is_some, unwrap_or};
 ghost use Rattle.anti_kind.specs.declared.call.Call.TheVariants.{Pull};
 ghost use Rattle.anti_kind.specs.declared.call.Reply.TheVariants.{Pulled};
 ghost use Rattle.anti_kind.specs.declared.entry.Entry.{Entry};
 ghost use Rattle.anti_kind.specs.Stored.{row_of};
-ghost use Rattle.anti_kind.specs.Store.{next, was_pulled, is_there, or_absent};
+ghost use Rattle.anti_kind.specs.Store.{absent, next, was_pulled};
 ghost use Rattle.anti_kind.specs.Objects.{Follows};
 ghost use Rattle.anti_kind.specs.Machines.{MayMake};
 
@@ -70,9 +70,9 @@ impl Topic {
 
     // The reply that hands out the cell of a version.
     pub(crate) fn cell_of(&self, version: u64) -> Result<Reply, NoMemory>
-        requires { (h : List Entry) × At self.now h × (is_there (row_of h version) ≡ true) }
+        requires { (h : List Entry) × At self.now h × (is_some (row_of h version) ≡ true) }
         ensures { (h : List Entry) → At self.now h
-            → IfOk result (λ reply. reply ≡ Pulled (or_absent [] (row_of h version))) }
+            → IfOk result (λ reply. reply ≡ Pulled (unwrap_or (row_of h version) (absent []))) }
     {
         match self.base.written_row(version)? {
             Some(row) => Ok(Reply::Pulled(Handle::new(self.base.allocator(), row)?)),

@@ -1,5 +1,5 @@
 -- What a known call of an object is due is known too.
-use Rattle.std.proofs.Common.{◌≡◌, ◌⊎◌, ⊎_elim, ℕ, zero, suc, ◌+◌, ◌-◌, ◌<◌, ◌≤◌, ◌^◌, Bool, true, false, not, cond, List, [], ◌∷◌, ◌++◌, length, get_or, refl, sym, ap, ◌∙◌, subst, arith, length-append}
+use Rattle.std.proofs.Common.{◌≡◌, ◌⊎◌, ⊎_elim, ℕ, zero, suc, ◌+◌, ◌-◌, ◌<◌, ◌≤◌, ◌^◌, Bool, true, false, not, cond, List, [], ◌∷◌, ◌++◌, length, get_or, refl, sym, ap, ◌∙◌, subst, arith, length-append, unwrap_or}
 use Rattle.std.specs.Prelude.{All, IsTrue, Option, None, Some, find, flat_map, option_and_then, option_map, slice_get, nat_eq, nat_lt, nat_le, bytes_eq, count_by, decimal, ◌==◌, ◌||◌}
 use Rattle.std.specs.List.{list_all}
 use Rattle.std.specs.Option.{option_map_or}
@@ -17,6 +17,7 @@ use Rattle.std.specs.Int.{is_in_range}
 use Rattle.anti_ids.specs.Names.{is_name, is_name_byte, is_plain, is_plain_byte}
 use Rattle.anti_ids.proofs.IdLemmas.{each_filter}
 use Rattle.anti_ids.specs.declared.limits.TheConstants.{MOST_UNITS}
+use Rattle.anti_kind.specs.Kinds.{facts_of}
 use Rattle.anti_kind.specs.declared.call.Call.{Call}
 use Rattle.anti_kind.specs.declared.call.Call.TheVariants as calls
 use Rattle.anti_kind.specs.declared.entry.Entry.{Entry}
@@ -30,7 +31,7 @@ use Rattle.anti_kind.specs.declared.store_kind.StoreKind.{StoreKind}
 use Rattle.anti_kind.specs.Inbox.{if_to, free, got_of, handed, inbox_due, listed, messages, numbered, post_due, posted, replied}
 use Rattle.anti_kind.specs.Inbox as inboxes
 use Rattle.anti_kind.specs.Objects.{Start, store, IsLegal, ready, due}
-use Rattle.anti_kind.specs.Store.{Store, store_of, absent, has_keys, is_visible, is_written, key_for, next, or_absent, scanned, shown_row, store_due, store_ready}
+use Rattle.anti_kind.specs.Store.{Store, store_of, absent, is_visible, is_written, key_for, next, scanned, shown_row, store_due, store_ready}
 use Rattle.anti_kind.specs.Stored.{is_in, rows, row_of, wrote}
 use Rattle.anti_kind.proofs.Bounds.{length_within}
 use Rattle.anti_kind.proofs.Finding.{Found, find_found}
@@ -118,9 +119,9 @@ cell_named channel n plain few =
 few_cells : (h : List Entry) (key : List ℕ) → length h ≤ MOST_UNITS → count_by (is_in key) (rows h) + 1 < 10 ^ 4
 few_cells h key short = omega (arith, count_by-le-length (is_in key) (rows h), rows_length h)
 
-key_named : (kind : StoreKind) (h : List Entry) (key : List ℕ) → length h ≤ MOST_UNITS → is_name key ≡ true → (has_keys kind || is_plain key) ≡ true
+key_named : (kind : StoreKind) (h : List Entry) (key : List ℕ) → length h ≤ MOST_UNITS → is_name key ≡ true → ((facts_of kind).keyed || is_plain key) ≡ true
     → is_name (key_for kind h key) ≡ true
-key_named kind h key short named is_ready = by_keys (has_keys kind) is_ready
+key_named kind h key short named is_ready = by_keys (facts_of kind).keyed is_ready
   where
     by_keys : (keyed : Bool) → (keyed || is_plain key) ≡ true → is_name (cond keyed key (key ++ 35 ∷ decimal (count_by (is_in key) (rows h) + 1))) ≡ true
     by_keys true is_ready = named
@@ -180,8 +181,8 @@ module _ (app : App) (o : ℕ) where
       store_known (calls.Read g key) call is_ready = shown_known (shown_row s h g key ∷ []) (sources h (calls.Read g key) legal is_ready)
       store_known (calls.Scan g prefix) call is_ready = shown_known (scanned s h g prefix) (sources h (calls.Scan g prefix) legal is_ready)
       store_known (calls.Poll g key) call is_ready = shown_known (shown_row s h g key ∷ []) (sources h (calls.Poll g key) legal is_ready)
-      store_known (calls.Pull n) call is_ready = source_known (or_absent [] (next s h n)) (sources h (calls.Pull n) legal is_ready)
-      store_known (calls.Repull n v) call is_ready = source_known (or_absent [] (row_of h v)) (sources h (calls.Repull n v) legal is_ready)
+      store_known (calls.Pull n) call is_ready = source_known (unwrap_or (next s h n) (absent [])) (sources h (calls.Pull n) legal is_ready)
+      store_known (calls.Repull n v) call is_ready = source_known (unwrap_or (row_of h v) (absent [])) (sources h (calls.Repull n v) legal is_ready)
       store_known _ call is_ready = tt
 
   -- ---- an inbox

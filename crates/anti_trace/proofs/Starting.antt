@@ -1,9 +1,10 @@
 -- An entry that may come next at its object, by whose call a process is born, starts one.
-use Rattle.std.proofs.Common.{◌≡◌, ℕ, ◌-◌, ◌≤◌, Bool, true, false, not, cond, List, [], ◌∷◌, length, get_or, refl, sym, ap, ◌∙◌, subst, arith}
+use Rattle.std.proofs.Common.{◌≡◌, ℕ, ◌-◌, ◌≤◌, Bool, true, false, not, cond, List, [], ◌∷◌, length, get_or, refl, sym, ap, ◌∙◌, subst, arith, is_some, unwrap_or}
 use Rattle.std.specs.Prelude.{IsTrue, Option, None, Some, nat_le, option_map, option_and_then, slice_get}
 use Rattle.std.proofs.lemmas.Bool.{and_parts, leb-true, lt-ltb}
 use Rattle.std.proofs.lemmas.List.Elements.{All-filter}
 use Rattle.std.proofs.lemmas.Option.{slice_get-get_or}
+use Rattle.anti_kind.specs.Kinds.{facts_of}
 use Rattle.anti_kind.specs.declared.call.Call.{Call}
 use Rattle.anti_kind.specs.declared.call.Call.TheVariants as calls
 use Rattle.anti_kind.specs.declared.call.Reply.TheVariants.{Got}
@@ -12,7 +13,7 @@ use Rattle.anti_kind.specs.declared.message.Message.{Message}
 use Rattle.anti_kind.specs.declared.store_kind.Sub.{Sub}
 use Rattle.anti_kind.specs.Inbox.{deliveries, free, got_of, handed, inbox_due, inbox_ready, is_taken, messages, numbered}
 use Rattle.anti_kind.specs.Objects.{Start, store, inbox, Follows, IsLegal, due, ready}
-use Rattle.anti_kind.specs.Store.{Store, next, or_absent, pulled_next, is_there, is_topic, store_due, store_of, store_ready, was_pulled}
+use Rattle.anti_kind.specs.Store.{Store, next, store_due, store_of, store_ready, was_pulled, absent, next_of}
 use Rattle.anti_kind.specs.Stored.{row_of}
 use Rattle.anti_kind.proofs.Deliveries.{counted}
 use Rattle.anti_kind.proofs.Pulls.{no_sub_pulled}
@@ -79,10 +80,10 @@ module _ (requests : List Message) (h : List Entry) (legal : IsLegal (inbox requ
 -- ---- what is started
 
 -- a store that has something for a subscription to pull has the subscription
-sub_with : (s : Store) (h : List Entry) (position : ℕ) → is_there (next s h position) ≡ true → (sub : Sub) × (slice_get s.subs position ≡ Some sub)
+sub_with : (s : Store) (h : List Entry) (position : ℕ) → is_some (next s h position) ≡ true → (sub : Sub) × (slice_get s.subs position ≡ Some sub)
 sub_with s h position some = by_sub (slice_get s.subs position) refl some
   where
-    by_sub : (found : Option Sub) → slice_get s.subs position ≡ found → is_there (pulled_next s h position found) ≡ true → (sub : Sub) × (slice_get s.subs position ≡ Some sub)
+    by_sub : (found : Option Sub) → slice_get s.subs position ≡ found → is_some (option_and_then (next_of (facts_of s.kind).tried (facts_of s.kind).polled s h position) found) ≡ true → (sub : Sub) × (slice_get s.subs position ≡ Some sub)
     by_sub None at some = absurd (cc)
     by_sub (Some sub) at some = (sub, at)
 
@@ -110,13 +111,13 @@ module _ (app : App) (sound : IsTrue (is_sound app)) where
         let has : (sub : Sub) × (slice_get it.subs position ≡ Some sub) = sub_with it h position is_ready in
         let def : (def : SubDef) × (sub_on app e.object position ≡ Some def) =
         sub_found app e.object position has.0 (sym (ap (λ (subs : List Sub). slice_get subs position) subs) ∙ has.1) in
-        is_started _ (pulled_known app e position (or_absent [] (next it h position)) def.0 there is is_due def.1)
+        is_started _ (pulled_known app e position (unwrap_or (next it h position) (absent [])) def.0 there is is_due def.1)
     by_pull it subs there legal_there (calls.Repull position version) is bearing is_ready is_due =
-        let was : was_pulled h position version ≡ true = (and_parts (is_topic it.kind) (was_pulled h position version) is_ready).1 in
+        let was : was_pulled h position version ≡ true = (and_parts (facts_of it.kind).polled (was_pulled h position version) is_ready).1 in
         let has : (sub : Sub) × (slice_get it.subs position ≡ Some sub) = sub_of_pulled it h position version legal_there was in
         let def : (def : SubDef) × (sub_on app e.object position ≡ Some def) =
         sub_found app e.object position has.0 (sym (ap (λ (subs : List Sub). slice_get subs position) subs) ∙ has.1) in
-        is_started _ (repulled_known app e position version (or_absent [] (row_of h version)) def.0 there is is_due def.1)
+        is_started _ (repulled_known app e position version (unwrap_or (row_of h version) (absent [])) def.0 there is is_due def.1)
     by_pull it subs there legal_there (calls.Take nth) is bearing is_ready is_due = absurd (cc)
     by_pull it subs there legal_there _ is bearing is_ready is_due = absurd (cc)
 

@@ -30,17 +30,11 @@ rows_in (calls.Repull sub version) (replies.Pulled row) = row ∷ []
 rows_in call reply = []
 
 -- the ids of these rows, and the ids in the lineages that are stored beside them
-abbrev pub ids_shown : ℕ → List Row → List WriteId
-ids_shown o rows = flat_map (λ row. id_at o row.key row.version) rows
-
-abbrev pub ids_beside : List Row → List WriteId
-ids_beside rows = flat_map (λ row. row.lineage) rows
-
 abbrev pub shown : Entry → List WriteId
-shown e = ids_shown e.object (rows_in e.call e.reply)
+shown e = flat_map (λ row. id_at e.object row.key row.version) (rows_in e.call e.reply)
 
 abbrev pub beside : Entry → List WriteId
-beside e = ids_beside (rows_in e.call e.reply)
+beside e = flat_map (λ row. row.lineage) (rows_in e.call e.reply)
 
 -- All ids that come with an answered call: of a write its own, of a row its own and its lineage, of a message its lineage.
 abbrev pub comes_with : App → ℕ → Call → Reply → List WriteId
@@ -81,9 +75,6 @@ reads call = false
 -- Whether a process is to carry, at a call, all that came to it: where it writes, reads, looks or posts.
 abbrev pub hands_all : Call → Bool
 hands_all (calls.Write key value lineage) = true
-hands_all (calls.Read region key) = true
-hands_all (calls.Scan region prefix) = true
-hands_all (calls.Poll region key) = true
 hands_all (calls.Look region ids dry) = true
 hands_all (calls.Post m) = true
-hands_all call = false
+hands_all call = reads call

@@ -9,7 +9,7 @@ use Rattle.anti_kind.specs.declared.call.Call.TheVariants as calls
 use Rattle.anti_kind.specs.declared.call.Reply.TheVariants as replies
 use Rattle.anti_kind.specs.declared.entry.Entry.{Entry}
 use Rattle.anti_kind.specs.Objects.{Follows, store}
-use Rattle.anti_kind.specs.Store.{Store, is_visible, is_written, missing, store_due, unwritten}
+use Rattle.anti_kind.specs.Store.{Store, is_visible, is_written, store_due}
 use Rattle.anti_app.specs.declared.app.App.{App}
 use Rattle.anti_app.specs.Sound.{is_sound}
 use Rattle.anti_object.specs.Starts.{start_of}
@@ -43,7 +43,7 @@ module _ (app : App) (trace : List Entry) (sound : IsTrue (is_sound app)) (legal
         subst (λ (o : ℕ). is_written (entries_on o (take i trace)) v ≡ true) its.1
         (carried_is_written app trace (facts app trace sound legal) i d at v its.0)
 
-    none_missing : missing s here region ids ≡ []
+    none_missing : filter (λ i. not (is_visible s here region i)) ids ≡ []
     none_missing =
         none_kept (λ id. not (is_visible s here region id)) ids (λ w asked.
         ap not (looked_visible app trace legal i d at region ids is s start asked_is_written w asked i (omega arith)))
@@ -51,9 +51,9 @@ module _ (app : App) (trace : List Entry) (sound : IsTrue (is_sound app)) (legal
     found_all : names_none d.reply ≡ true
     found_all =
         let follows : Follows (store s) here d = follows_at app trace legal d.object (store s) start i d at refl in
-        let due : d.reply ≡ replies.Missing (missing s here region ids) (unwritten here ids) =
+        let due : d.reply ≡ replies.Missing (filter (λ i. not (is_visible s here region i)) ids) (filter (λ i. not (is_written here i)) ids) =
         follows.reply ∙ ap (λ (c : Call). store_due s here c) is in
-        ap names_none due ∙ ap (λ (ms : List WriteId). names_none (replies.Missing ms (unwritten here ids))) none_missing
+        ap names_none due ∙ ap (λ (ms : List WriteId). names_none (replies.Missing ms (filter (λ i. not (is_written here i)) ids))) none_missing
 
   -- Each entry waited, where it had to.
   pub has_waited : waits d.call d.reply ≡ true

@@ -2,7 +2,8 @@
 use Rattle.std.specs.Prelude.{◌≡◌, ℕ, ◌≤◌, List, length, map, take}
 use Rattle.anti_kind.specs.declared.entry.Entry.{Entry}
 use Rattle.anti_kind.specs.declared.message.Message.{Message}
-use Rattle.anti_kind.specs.Inbox.{messages, numbers, free}
+use Rattle.anti_kind.specs.Inbox.{messages, free}
+use Rattle.anti_kind.specs.inner.Owing.{numbers}
 use Rattle.anti_kind.specs.Objects.{Start, inbox, held, owed}
 use Rattle.anti_kind.specs.Machines.{StandsFor}
 use Rattle.anti_inbox.specs.declared.inbox.Fate.{Fate}

@@ -1,7 +1,7 @@
-use Rattle.std.proofs.Common.{◌≡◌, ◌+◌, true, max, List, length, sym, ap, ◌∙◌, arith}
+use Rattle.std.proofs.Common.{◌≡◌, ◌+◌, true, max, List, length, sym, ap, ◌∙◌, arith, is_some}
 use Rattle.anti_kind.specs.declared.row.Row.{Row}
 use Rattle.anti_kind.specs.Stored.{row_of}
-use Rattle.anti_kind.specs.Store.{is_there, scanned}
+use Rattle.anti_kind.specs.Store.{scanned}
 use Rattle.anti_replicas.specs.Stores.{showing_whole}
 use Rattle.anti_replicas.specs.inner.Scans.{version_in, before, listed}
 use Rattle.anti_replicas.proofs.Scanning.{listing, scans_nothing, scanned_few, length_before}
@@ -17,8 +17,8 @@ loop-key-preserved-then-is_version c = λ s h at.
     let g = c.args.region in
     let prefix = c.args.prefix.now in
     let rest = listed h g prefix c.next.new.self in
-    let there : is_there (row_of h (version_in g prefix c.in-Some.key.now c.in-Some.versions.now)) ≡ true =
-    ap (λ v. is_there (row_of h v)) (sym c.version_in-version.ensures) ∙ sym (c.is_version.ensures s h at) ∙ c.if-is_version.true in
+    let there : is_some (row_of h (version_in g prefix c.in-Some.key.now c.in-Some.versions.now)) ≡ true =
+    ap (λ v. is_some (row_of h v)) (sym c.version_in-version.ensures) ∙ sym (c.is_version.ensures s h at) ∙ c.if-is_version.true in
     let one : length (before (row_of h (version_in g prefix c.in-Some.key.now c.in-Some.versions.now)) rest) ≡ length rest + 1 = length_before _ rest there in
     let was : c.loop-key.count + length (listed h g prefix c.loop-key.key-iterator) ≡ length (listed h g prefix m.newest.versions.entries) = c.loop-key.invariant s h at in
     let is : length (listed h g prefix m.newest.versions.entries) ≡ length (scanned (showing_whole s) h g prefix) =

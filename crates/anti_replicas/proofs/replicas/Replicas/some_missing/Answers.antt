@@ -1,7 +1,7 @@
-use Rattle.std.proofs.Common.{◌≤◌, List, ◌++◌, length, ap, sym, subst, ◌∙◌, arith}
+use Rattle.std.proofs.Common.{◌≤◌, not, List, ◌++◌, length, filter, ap, sym, subst, ◌∙◌, arith}
 use Rattle.anti_ids.specs.Each.{Each}
 use Rattle.anti_ids.specs.declared.id.WriteId.{WriteId}
-use Rattle.anti_kind.specs.Store.{is_visible, missing}
+use Rattle.anti_kind.specs.Store.{is_visible}
 use Rattle.anti_replicas.specs.Stores.{showing_whole}
 use Rattle.anti_replicas.proofs.Reading.{found_one, length_with}
 use Rattle.anti_replicas.proofs.replicas.Replicas.some_missing.Goals as goal
@@ -15,10 +15,10 @@ loop-id-preserved-in-Continue-1 c =
     let is = c.in_ok-add.ensures in
     record {
       found = λ s h at.
-          ap (λ (xs : List WriteId). xs ++ missing (showing_whole s) h c.args.region rest) is
+          ap (λ (xs : List WriteId). xs ++ filter (λ (i : WriteId). not (is_visible (showing_whole s) h c.args.region i)) rest) is
           ∙ found_one (is_visible (showing_whole s) h c.args.region) found id rest c.args.ids.now c.iter-id-items.ensures.lineage.ascending
           (sym (c.is_visible.ensures s h at) ∙ c.if-not-is_visible.true)
-          (ap (λ (xs : List WriteId). found ++ missing (showing_whole s) h c.args.region xs) (sym steps) ∙ c.loop-id.invariant.found s h at);
+          (ap (λ (xs : List WriteId). found ++ filter (λ (i : WriteId). not (is_visible (showing_whole s) h c.args.region i)) xs) (sym steps) ∙ c.loop-id.invariant.found s h at);
       few = omega (arith, c.loop-id.invariant.few, length_with id found, ap length is, ap length steps);
       written = (subst (λ (xs : List WriteId). Each (λ (i : WriteId). 1 ≤ i.version) xs) steps c.loop-id.invariant.written).1;
     }

@@ -1,15 +1,16 @@
-use Rattle.std.proofs.Common.{◌≡◌, ◌+◌, ◌≤◌, List, ◌++◌, length}
+use Rattle.std.proofs.Common.{◌≡◌, ◌+◌, ◌≤◌, not, List, ◌++◌, length, filter}
 use Rattle.anti_ids.specs.Each.{Each}
 use Rattle.anti_ids.specs.declared.limits.TheConstants.{MOST_IDS}
 use Rattle.anti_kind.specs.declared.entry.Entry.{Entry}
-use Rattle.anti_kind.specs.Store.{Store, missing}
+use Rattle.anti_kind.specs.Store.{Store, is_visible}
 use Rattle.anti_replicas.specs.Stores.{At, showing_whole}
 use Rattle.anti_replicas.proofs.replicas.Replicas.some_missing.Given as goal
 
 abbrev pub invariant-loop-id : goal.invariant-loop-id
 invariant-loop-id l = record {
   found : (s : Store) (h : List Entry) → At l.self s h
-      → l.found ++ missing (showing_whole s) h l.region l.id-iterator ≡ missing (showing_whole s) h l.region l.ids;
+      → l.found ++ filter (λ id. not (is_visible (showing_whole s) h l.region id)) l.id-iterator
+      ≡ filter (λ id. not (is_visible (showing_whole s) h l.region id)) l.ids;
   few : length l.found + length l.id-iterator ≤ MOST_IDS;
   written : Each (λ id. 1 ≤ id.version) l.id-iterator;
 }

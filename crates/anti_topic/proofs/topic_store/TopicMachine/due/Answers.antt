@@ -1,8 +1,8 @@
-use Rattle.std.proofs.Common.{◌≡◌, ℕ, List, Some, true, refl, sym, ap, ap₂, ◌∙◌}
+use Rattle.std.proofs.Common.{◌≡◌, ℕ, List, Some, true, refl, sym, ap, ap₂, ◌∙◌, is_some}
 use Rattle.anti_ids.specs.Names.{is_plain}
 use Rattle.anti_kind.specs.declared.call.Call.{Call}
 use Rattle.anti_kind.specs.declared.call.Reply.TheVariants.{Written}
-use Rattle.anti_kind.specs.Store.{is_there, key_for, store_ready}
+use Rattle.anti_kind.specs.Store.{key_for, store_ready}
 use Rattle.anti_kind.proofs.Sources.{pulled_there}
 use Rattle.anti_topic.specs.TopicStates.{its_store}
 use Rattle.anti_topic.proofs.Pulling.{topic_base}
@@ -13,7 +13,7 @@ cell_of-requires-in-Repull c =
     let m = c.args.self.now in
     let h = c.requires.history in
     let pulled = ap (λ (call : Call). store_ready (its_store m) h call) (sym c.in-Repull.is) ∙ c.requires.is_ready in
-    (h, c.requires.stands_for, ap is_there (pulled_there (its_store m) h c.requires.stands_for.legal c.in-Repull.sub c.in-Repull.version pulled).1)
+    (h, c.requires.stands_for, ap is_some (pulled_there (its_store m) h c.requires.stands_for.legal c.in-Repull.sub c.in-Repull.version pulled).1)
 
 pub returns-in_ok-new-in-Some-clause-due : goal.returns-in_ok-new-in-Some-clause-due
 returns-in_ok-new-in-Some-clause-due c = λ h at.
