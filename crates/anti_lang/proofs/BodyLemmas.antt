@@ -1,12 +1,12 @@
 -- The lines of a body state it, and lines without a fault of their blocks are those of a body.
-use Rattle.std.proofs.Common.{◌≡◌, ℕ, zero, suc, ◌-◌, ◌∙◌, sym, ap, refl, List, [], ◌∷◌, ◌++◌, append_assoc, length, arith}
-use Rattle.std.specs.Prelude.{Bool, true, false, not, ◌||◌, cond, nat_lt, find, Option, Some, None, option_map}
+use Rattle.std.proofs.Common.{◌≡◌, ◌≢◌, ℕ, zero, suc, ◌+◌, ◌-◌, ◌*◌, ◌∙◌, sym, ap, refl, List, [], ◌∷◌, ◌++◌, append_assoc, length, get_or, replicate, arith, sub-one}
+use Rattle.std.specs.Prelude.{Bool, true, false, not, ◌||◌, cond, Option, Some, None}
 use Rattle.std.proofs.lemmas.List.{append-nil}
+use Rattle.std.proofs.lemmas.Option.{none-some}
 use Rattle.anti_lang.specs.Program.{Step, Block, Then, Repeat, IfAbsent, End}
 use Rattle.anti_lang.specs.Lines.{Line, Does, OpenRepeat, OpenIf, Close}
 use Rattle.anti_lang.specs.Blocks.{step_lines, lines_of, behind, wrap, ended, up}
-use Rattle.anti_lang.specs.Parsing.{one_block}
-use Rattle.anti_lang.specs.Faults.{Spot, number, spots_below, outside, around, depth, has_end, is_wrong_in, has_wrong_block, block_fault}
+use Rattle.anti_lang.specs.Faults.{first_wrong, runs, blocks_below, has_end, has_wrong_block, block_fault}
 
 -- the statements of a block in front of the first of some blocks
 abbrev in_front : Block → List Block → List Block
@@ -102,25 +102,45 @@ flat_up (Close ∷ lines) leaves = flat_ended lines (up lines) (flat_up lines le
 pub body_found : (lines : List Line) (block : Block) → AreLeaves lines → up lines ≡ block ∷ [] → lines_of block ≡ lines
 body_found lines block leaves stated = let found : FlatIs (up lines) lines = flat_up lines leaves in rw stated at found
 
+-- the first line is not wrong, nor one behind it
+pub none_wrong : {K : Type 0} (wrong : K → Line → List Line → Bool) (below : K → Line → K) (known : K) (number : ℕ) (line : Line) (lines : List Line)
+    → first_wrong wrong below known number (line ∷ lines) ≡ None
+    → (wrong known line lines ≡ false) × (first_wrong wrong below (below known line) (number + 1) lines ≡ None)
+none_wrong wrong below known number line lines none = first_case (wrong known line lines) number (first_wrong wrong below (below known line) (number + 1) lines) none
+  where
+    first_case : (test : Bool) (number : ℕ) (others : Option ℕ) → cond test (Some number) others ≡ None → (test ≡ false) × (others ≡ None)
+    first_case true number others none = absurd (none-some number (sym none))
+    first_case false number others none = (refl, none)
+
+-- whether the `end` of a block stands in lines in which so many blocks are open in it
+abbrev pub ends : ℕ → List Line → Bool
+ends inner lines = has_end lines (replicate inner 0)
+
+-- how often their lines run does not matter
+pub ends_same : (lines : List Line) (some others : List ℕ) → length some ≡ length others → has_end lines some ≡ has_end lines others
+ends_same [] some others long = refl
+ends_same (Does statement ∷ lines) some others long = ends_same lines some others long
+ends_same (OpenRepeat count ∷ lines) some others long = ends_same lines (count * runs some ∷ some) (count * runs others ∷ others) (ap suc long)
+ends_same (OpenIf variable ∷ lines) some others long = ends_same lines (runs some ∷ some) (runs others ∷ others) (ap suc long)
+ends_same (Close ∷ lines) [] [] long = refl
+ends_same (Close ∷ lines) [] (y ∷ others) long = absurd (omega arith)
+ends_same (Close ∷ lines) (x ∷ some) [] long = absurd (omega arith)
+ends_same (Close ∷ lines) (x ∷ some) (y ∷ others) long = let e : length some ≡ length others = omega arith in ends_same lines some others e
+
+pub ends_repeat : (inner count : ℕ) (lines : List Line) → ends inner (OpenRepeat count ∷ lines) ≡ ends (suc inner) lines
+ends_repeat inner count lines = ends_same lines (count * runs (replicate inner 0) ∷ replicate inner 0) (0 ∷ replicate inner 0) refl
+
+pub ends_if : (inner : ℕ) (variable : List ℕ) (lines : List Line) → ends inner (OpenIf variable ∷ lines) ≡ ends (suc inner) lines
+ends_if inner variable lines = ends_same lines (runs (replicate inner 0) ∷ replicate inner 0) (0 ∷ replicate inner 0) refl
+
+pub ends_close : (inner : ℕ) (lines : List Line) → inner ≢ 0 → ends (inner - 1) lines ≡ ends inner (Close ∷ lines)
+ends_close zero lines some = absurd (some refl)
+ends_close (suc inner) lines some = rw sub-one refl
+
 -- whether lines have the `end` of each of so many blocks
 abbrev closes : ℕ → List Line → Bool
 closes zero lines = true
-closes (suc inner) lines = has_end inner lines
-
--- a test that no element passes
-pub find_none : {X : Type 0} (test : X → Bool) (x : X) (xs : List X) → find test (x ∷ xs) ≡ None → (test x ≡ false) × (find test xs ≡ None)
-find_none test x xs none = first_case (test x) x (find test xs) none
-  where
-    first_case : {X : Type 0} (holds : Bool) (x : X) (others : Option X) → cond holds (Some x) others ≡ None → (holds ≡ false) × (others ≡ None)
-    first_case true x others none = cc
-    first_case false x others none = (refl, none)
-
-pub depth_outside : (lines : List Line) → depth (outside lines) ≡ depth lines - 1
-depth_outside [] = refl
-depth_outside (OpenRepeat count ∷ lines) = omega arith
-depth_outside (OpenIf variable ∷ lines) = omega arith
-depth_outside (Does statement ∷ lines) = omega (arith, depth_outside lines)
-depth_outside (Close ∷ lines) = omega (arith, depth_outside lines)
+closes (suc inner) lines = ends inner lines
 
 length_wrap : (make : Block → Step) (blocks : List Block) (count : ℕ) → length blocks ≡ suc (suc count) → length (wrap make blocks) ≡ suc count
 length_wrap make [] count long = cc
@@ -144,20 +164,13 @@ opened_alone : (end deep : Bool) → (not end || deep) ≡ false → end ≡ tru
 opened_alone true deep right = refl
 opened_alone false deep right = cc
 
--- a line that is not wrong, and the lines behind it
-pub right_first : (above : List Line) (line : Line) (lines : List Line) → find has_wrong_block (spots_below above (line ∷ lines)) ≡ None →
-    (is_wrong_in (around above) line lines ≡ false) × (find has_wrong_block (spots_below (line ∷ above) lines) ≡ None)
-right_first above line lines right =
-    find_none has_wrong_block (record { above = above; line = line; behind = lines }) (spots_below (line ∷ above) lines) right
-
 -- the blocks round a line and the one that it opens have their ends behind it
-closes_more : (inner : ℕ) (line : Line) (lines : List Line) →
-    ((n : ℕ) → has_end n (line ∷ lines) ≡ has_end (suc n) lines) →
-    has_end 0 lines ≡ true → closes inner (line ∷ lines) ≡ true → closes (suc inner) lines ≡ true
+closes_more : (inner : ℕ) (line : Line) (lines : List Line) → ((n : ℕ) → ends n (line ∷ lines) ≡ ends (suc n) lines)
+    → ends 0 lines ≡ true → closes inner (line ∷ lines) ≡ true → closes (suc inner) lines ≡ true
 closes_more zero line lines opens own outer = own
 closes_more (suc inner) line lines opens own outer = sym (opens inner) ∙ outer
 
-closes_less : (inner : ℕ) (lines : List Line) → has_end inner (Close ∷ lines) ≡ true → closes inner lines ≡ true
+closes_less : (inner : ℕ) (lines : List Line) → closes (suc inner) (Close ∷ lines) ≡ true → closes inner lines ≡ true
 closes_less zero lines closed = refl
 closes_less (suc inner) lines closed = closed
 
@@ -165,52 +178,52 @@ closes_same : (inner : ℕ) (statement : Step) (lines : List Line) → closes in
 closes_same zero statement lines closed = refl
 closes_same (suc inner) statement lines closed = closed
 
--- Lines below others state one block more than are open round them, where no block of them is wrong.
-blocks_left : (above lines : List Line) (inner : ℕ) →
-    depth (around above) ≡ inner → closes inner lines ≡ true → find has_wrong_block (spots_below above lines) ≡ None → length (up lines) ≡ suc inner
-blocks_left above [] zero deep closed right = refl
-blocks_left above [] (suc inner) deep closed right = cc
-blocks_left above (Does statement ∷ lines) inner deep closed right =
+-- No block of some lines is wrong below a line, in whose block so many others are open.
+abbrev pub NoneWrong : List ℕ → ℕ → List Line → Type 0
+NoneWrong blocks number lines = first_wrong has_wrong_block blocks_below blocks number lines ≡ None
+
+-- Such lines state one block more than are open round them.
+blocks_left : (blocks : List ℕ) (number : ℕ) (lines : List Line) (inner : ℕ) → length blocks ≡ inner → closes inner lines ≡ true → NoneWrong blocks number lines
+    → length (up lines) ≡ suc inner
+blocks_left blocks number [] zero deep closed right = refl
+blocks_left blocks number [] (suc inner) deep closed right = cc
+blocks_left blocks number (Does statement ∷ lines) inner deep closed right =
     length_behind statement (up lines)
-    ∙ blocks_left (Does statement ∷ above) lines inner deep (closes_same inner statement lines closed)
-    (right_first above (Does statement) lines right).1
-blocks_left above (OpenRepeat count ∷ lines) inner deep closed right =
-    let first = right_first above (OpenRepeat count) lines right in
+    ∙ blocks_left blocks (number + 1) lines inner deep (closes_same inner statement lines closed)
+    (none_wrong has_wrong_block blocks_below blocks number (Does statement) lines right).1
+blocks_left blocks number (OpenRepeat count ∷ lines) inner deep closed right =
+    let first = none_wrong has_wrong_block blocks_below blocks number (OpenRepeat count) lines right in
     length_wrap (Repeat count) (up lines) inner
-    (blocks_left (OpenRepeat count ∷ above) lines (suc inner) (ap suc deep)
-    (closes_more inner (OpenRepeat count) lines (λ n. refl) (opened (has_end 0 lines) _ _ first.0) closed)
+    (blocks_left (count * runs blocks ∷ blocks) (number + 1) lines (suc inner) (ap suc deep)
+    (closes_more inner (OpenRepeat count) lines (λ n. ends_repeat n count lines) (opened (has_end lines []) _ _ first.0) closed)
     first.1)
-blocks_left above (OpenIf variable ∷ lines) inner deep closed right =
-    let first = right_first above (OpenIf variable) lines right in
+blocks_left blocks number (OpenIf variable ∷ lines) inner deep closed right =
+    let first = none_wrong has_wrong_block blocks_below blocks number (OpenIf variable) lines right in
     length_wrap (IfAbsent variable) (up lines) inner
-    (blocks_left (OpenIf variable ∷ above) lines (suc inner) (ap suc deep)
-    (closes_more inner (OpenIf variable) lines (λ n. refl) (opened_alone (has_end 0 lines) _ first.0) closed)
+    (blocks_left (runs blocks ∷ blocks) (number + 1) lines (suc inner) (ap suc deep)
+    (closes_more inner (OpenIf variable) lines (λ n. ends_if n variable lines) (opened_alone (has_end lines []) _ first.0) closed)
     first.1)
-blocks_left above (Close ∷ lines) zero deep closed right =
-    let fine : not (nat_lt 0 (depth (around above))) ≡ false = (right_first above Close lines right).0 in
-    let wrong : not (nat_lt 0 0) ≡ false = rw deep at fine in
-    cc
-blocks_left above (Close ∷ lines) (suc inner) deep closed right =
+blocks_left [] number (Close ∷ lines) inner deep closed right =
+    let wrong : true ≡ false = (none_wrong has_wrong_block blocks_below [] number Close lines right).0 in cc
+blocks_left (outer ∷ blocks) number (Close ∷ lines) zero deep closed right = absurd (omega arith)
+blocks_left (outer ∷ blocks) number (Close ∷ lines) (suc inner) deep closed right =
+    let fewer : length blocks ≡ inner = omega arith in
     length_ended (up lines) inner
-    (blocks_left (Close ∷ above) lines inner (depth_outside (around above) ∙ omega arith) (closes_less inner lines closed)
-    (right_first above Close lines right).1)
+    (blocks_left blocks (number + 1) lines inner fewer (closes_less inner lines closed)
+    (none_wrong has_wrong_block blocks_below (outer ∷ blocks) number Close lines right).1)
 
-pub none_found : (found : Option Spot) → option_map number found ≡ None → found ≡ None
-none_found None none = refl
-none_found (Some spot) none = cc
-
-one_of : (blocks : List Block) → length blocks ≡ 1 → blocks ≡ one_block blocks ∷ []
+one_of : (blocks : List Block) → length blocks ≡ 1 → blocks ≡ get_or blocks 0 End ∷ []
 one_of [] long = absurd (omega arith)
 one_of (block ∷ []) long = refl
 one_of (block ∷ outer ∷ blocks) long = absurd (omega arith)
 
 -- Lines of which no block is wrong state one body.
-pub body_stated : (lines : List Line) → block_fault lines ≡ None → up lines ≡ one_block (up lines) ∷ []
+pub body_stated : (lines : List Line) → block_fault lines ≡ None → up lines ≡ get_or (up lines) 0 End ∷ []
 unfolding block_fault
-body_stated lines right = one_of (up lines) (blocks_left [] lines 0 refl refl (none_found _ right))
+body_stated lines right = one_of (up lines) (blocks_left [] 1 lines 0 refl refl right)
 
 -- The body that lines state has these lines, where no block is wrong.
 pub body_of_lines : (lines : List Line) → AreLeaves lines → block_fault lines ≡ None →
     (block : Block) × (up lines ≡ block ∷ []) × (lines_of block ≡ lines)
 body_of_lines lines leaves right =
-    (one_block (up lines), body_stated lines right, body_found lines (one_block (up lines)) leaves (body_stated lines right))
+    (get_or (up lines) 0 End, body_stated lines right, body_found lines (get_or (up lines) 0 End) leaves (body_stated lines right))

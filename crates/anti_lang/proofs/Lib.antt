@@ -4,8 +4,8 @@ pub mod PlainLemmas
 pub mod PlainNames
 pub mod TurnLemmas
 pub mod ReadLemmas
-pub mod LoneLines
 pub mod WordLemmas
+pub mod OtherWords
 pub mod LineLemmas
 pub mod SpacedLemmas
 pub mod BuildLemmas

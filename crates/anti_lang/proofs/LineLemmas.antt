@@ -1,213 +1,208 @@
--- A line is read from its spelling and from no other words.
-use Rattle.std.proofs.Common.{◌≡◌, ℕ, List, [], ◌∷◌, Bool, true, false, cond, ◌&&◌, Option, Some, None, option_map, refl, sym, ap, ◌∙◌}
+-- Words that state a line are its spelling.
+use Rattle.std.proofs.Common.{◌≡◌, ℕ, List, [], ◌∷◌, Bool, true, false, cond, ◌&&◌, Option, Some, None, option_map, refl, sym, subst}
 use Rattle.std.specs.Prelude.{codes, decimal}
-use Rattle.std.specs.Option.{option_and_then}
+use Rattle.std.specs.List.{list_all}
+use Rattle.std.specs.Map.{lookup}
 use Rattle.std.specs.Str.{bytes_eq}
+use Rattle.std.proofs.lemmas.Bool.{and_parts}
+use Rattle.std.proofs.lemmas.Option.{none-some, same_Some}
 use Rattle.anti_ids.specs.Names.{is_name, is_plain}
-use Rattle.anti_lang.specs.Texts.{is_variable}
-use Rattle.anti_lang.specs.Keywords.{keyword_text, keywords, keyword_among, keyword_of}
-use Rattle.anti_lang.specs.Vocabulary.{key_fits, value_fits, key_of, value_of, count_of}
-use Rattle.anti_lang.specs.Program.{Step, Write, Append, Remove, Transfer, Barrier, DryRun, Read, Scan, Poll, Call, Send, Reply, Nack, Root, Stop, Repeat, IfAbsent}
-use Rattle.anti_lang.specs.Lines.{Line, Does, OpenRepeat, OpenIf, Close, fits, opens_none, statement_fits, held_fits, joined, held_of, written, write_form, read_form, scan_form, poll_form, call_form, send_form, if_form, one_word_form, no_word_form, form_of, fitting, read_line}
-use Rattle.anti_lang.specs.Printing.{spelling, held_words}
-use Rattle.anti_lang.specs.declared.keyword.Keyword.{Keyword}
-use Rattle.anti_lang.specs.declared.keyword.Keyword.TheVariants as keyword
-use Rattle.anti_lang.proofs.WordLemmas.{both, found, same, key_found, value_found, count_found, key_again, value_again, count_again, name_no_dollar, plain_no_dollar}
+use Rattle.anti_ids.specs.Decimals.{decimal_in}
+use Rattle.anti_ids.specs.declared.limits.TheConstants.{MOST_TURNS}
+use Rattle.anti_lang.specs.Texts.{plain_name, is_variable, variable_of}
+use Rattle.anti_lang.specs.Vocabulary.{key_of, value_of}
+use Rattle.anti_lang.specs.Program.{Step, Write, Append, Remove, Transfer, Barrier, DryRun, Read, Scan, Poll, Call, Send, Reply, Nack, Root, Stop}
+use Rattle.anti_lang.specs.Lines.{Line, Does, OpenRepeat, OpenIf, are_as, written, write_form, rows_form, call_form, send_form, if_form, one_word, forms, lone_lines, read_line}
+use Rattle.anti_lang.specs.Printing.{key_text, value_text, spelling, held_words}
+use Rattle.anti_lang.proofs.SpacedLemmas.{is_word, plain_word, name_word}
+use Rattle.anti_lang.proofs.WordLemmas.{IsOf, found, found_if, found_by, found_then, same, plain_read, variable_word, variable_read, key_read, value_read, count_read}
+use Rattle.anti_lang.proofs.BodyLemmas.{IsLeaf}
 
--- a word that is a keyword is its text
-keyword_case : (test : Bool) (k l : Keyword) (more : Option Keyword) (word : List ℕ) → (test ≡ true → word ≡ keyword_text k)
-    → (more ≡ Some l → word ≡ keyword_text l) → cond test (Some k) more ≡ Some l → word ≡ keyword_text l
-keyword_case true k l more word h g e = let f : k ≡ l = cc in h refl ∙ ap keyword_text f
-keyword_case false k l more word h g e = g e
+-- Words that state a line are its spelling, each has a byte and no space, and it is no statement with a block.
+pub record IsStated (texts : List (List ℕ)) (line : Line) : Type 0 where
+  pub spelled : texts ≡ spelling line
+  pub are_words : list_all is_word texts ≡ true
+  pub leaf : IsLeaf line
 
-among_found : (ks : List Keyword) (word : List ℕ) (l : Keyword) → keyword_among ks word ≡ Some l → word ≡ keyword_text l
-among_found [] word l h = absurd (cc)
-among_found (k ∷ ks) word l h =
-    keyword_case (bytes_eq word (keyword_text k)) k l (keyword_among ks word) word (same word (keyword_text k)) (among_found ks word l) h
+-- a form states its lines so, behind this first word
+abbrev States : List ℕ → (List (List ℕ) → Option Line) → Type 0
+States first form = (rest : List (List ℕ)) (line : Line) → form rest ≡ Some line → IsStated (first ∷ rest) line
 
-keyword_found : (word : List ℕ) (l : Keyword) → keyword_of word ≡ Some l → word ≡ keyword_text l
-unfolding keyword_of
-keyword_found word l h = among_found keywords word l h
+-- a line that is another
+stated_as : (texts : List (List ℕ)) (line other : Line) → line ≡ other → IsStated texts line → IsStated texts other
+stated_as texts line other same stated = subst (λ (l : Line). IsStated texts l) same stated
 
--- what the words behind a write's value say is spelled so
-pub held_found : (words : List (List ℕ)) (held : Option (List ℕ) × Bool) → held_of words ≡ Some held → held_words held.0 held.1 ≡ words
-held_found [] held h = let e : (None, false) ≡ held = cc in rw (← e) refl
-held_found (joint ∷ variable ∷ []) held h =
-    let here = found (bytes_eq joint (codes "as")) (Some variable, false) held h in
-    rw (← here.1, same joint (codes "as") here.0) refl
-held_found (joint ∷ variable ∷ last ∷ []) held h =
-    let here = found (bytes_eq joint (codes "as") && bytes_eq last (codes "untracked")) (Some variable, true) held h in
-    let tests = both (bytes_eq joint (codes "as")) (bytes_eq last (codes "untracked")) here.0 in
-    rw (← here.1, same joint (codes "as") tests.0, same last (codes "untracked") tests.1) refl
-held_found _ held h = absurd (cc)
+as_found : (joint variable : List ℕ) → are_as joint variable ≡ true → (joint ≡ codes "as") × (is_word variable ≡ true)
+as_found joint variable h =
+    let parts = and_parts (bytes_eq joint (codes "as")) (is_variable variable) h in
+    (same joint (codes "as") parts.0, variable_word variable parts.1)
 
-joined_found : (joint : List ℕ) (statement : Step) (line : Line) → joined joint statement ≡ Some line → (joint ≡ codes "as") × (Does statement ≡ line)
-joined_found joint statement line h = let here = found (bytes_eq joint (codes "as")) (Does statement) line h in (same _ _ here.0, here.1)
+written_stated : (store key value : List ℕ) (variable : Option (List ℕ)) (untracked : Bool) (rest : List (List ℕ)) (line : Line)
+    → rest ≡ held_words variable untracked → list_all is_word rest ≡ true → written store key value variable untracked ≡ Some line
+    → IsStated (codes "write" ∷ store ∷ key ∷ value ∷ rest) line
+written_stated store key value variable untracked rest line said are h =
+    let here = found_if (is_plain store) _ line h in
+    let with_key = found_then (λ k. option_map (λ v. Does (Write store k v variable untracked)) (value_of value)) (key_of is_plain key) line here.1 in
+    let with_value = found_by (λ v. Does (Write store with_key.0 v variable untracked)) (value_of value) line with_key.2 in
+    let k = key_read is_plain plain_word key with_key.0 with_key.1 in
+    let v = value_read value with_value.0 with_value.1 in
+    stated_as _ _ line with_value.2
+    (record { spelled = rw (k.0, v.0, said) refl; are_words = rw (plain_word store here.0, k.1, v.1, are) refl; leaf = refl })
 
-written_found : (store key value : List ℕ) (held : Option (List ℕ) × Bool) (words : List (List ℕ)) → held_words held.0 held.1 ≡ words
-    → spelling (written store key value held) ≡ codes "write" ∷ store ∷ key ∷ value ∷ words
-written_found store key value held words e = rw (key_found key, value_found value, e) refl
+write_states : States (codes "write") write_form
+write_states (store ∷ key ∷ value ∷ []) line h = written_stated store key value None false [] line refl refl h
+write_states (store ∷ key ∷ value ∷ joint ∷ variable ∷ []) line h =
+    let here = found_if (are_as joint variable) _ line h in
+    let bound = as_found joint variable here.0 in
+    written_stated store key value (Some variable) false _ line (rw bound.0 refl) (rw (bound.0, bound.1) refl) here.1
+write_states (store ∷ key ∷ value ∷ joint ∷ variable ∷ last ∷ []) line h =
+    let here = found_if (are_as joint variable && bytes_eq last (codes "untracked")) _ line h in
+    let tests = and_parts (are_as joint variable) (bytes_eq last (codes "untracked")) here.0 in
+    let bound = as_found joint variable tests.0 in
+    let end = same last (codes "untracked") tests.1 in
+    written_stated store key value (Some variable) true _ line (rw (bound.0, end) refl) (rw (bound.0, bound.1, end) refl) here.1
+write_states _ line h = absurd (none-some line h)
 
-map_found : (make : (Option (List ℕ) × Bool) → Line) (o : Option (Option (List ℕ) × Bool)) (line : Line) (words : List (List ℕ))
-    → ((held : Option (List ℕ) × Bool) → o ≡ Some held → spelling (make held) ≡ words) → option_map make o ≡ Some line → spelling line ≡ words
-map_found make None line words h e = absurd (cc)
-map_found make (Some held) line words h e = let f : make held ≡ line = cc in ap spelling (sym f) ∙ h held refl
+rows_states : {K : Type 0} (first : List ℕ) (ask : List ℕ → K → List ℕ → Step) (read : List ℕ → Option K) (text : K → List ℕ) → is_word first ≡ true
+    → ((store : List ℕ) (k : K) (variable : List ℕ) → (spelling (Does (ask store k variable)) ≡ first ∷ store ∷ text k ∷ codes "as" ∷ variable ∷ []) × IsLeaf (Does (ask store k variable)))
+    → ((word : List ℕ) (k : K) → read word ≡ Some k → IsOf (text k) word) → States first (rows_form ask read)
+rows_states first ask read text good says reads (store ∷ key ∷ joint ∷ variable ∷ []) line h =
+    let here = found_if (is_plain store && are_as joint variable) _ line h in
+    let tests = and_parts (is_plain store) (are_as joint variable) here.0 in
+    let bound = as_found joint variable tests.1 in
+    let with_key = found_by (λ k. Does (ask store k variable)) (read key) line here.1 in
+    let k = reads key with_key.0 with_key.1 in
+    let said = says store with_key.0 variable in
+    stated_as _ _ line with_key.2
+    (record { spelled = rw (said.0, k.0, bound.0) refl; are_words = rw (good, plain_word store tests.0, k.1, bound.0, bound.1) refl; leaf = said.1 })
+rows_states first ask read text good says reads _ line h = absurd (none-some line h)
 
-write_found : (words : List (List ℕ)) (line : Line) → write_form words ≡ Some line → spelling line ≡ codes "write" ∷ words
-write_found (store ∷ key ∷ value ∷ rest) line h =
-    map_found (written store key value) (held_of rest) line _ (λ held e. written_found store key value held rest (held_found rest held e)) h
-write_found _ line h = absurd (cc)
+call_states : States (codes "call") call_form
+call_states (service ∷ handler ∷ value ∷ joint ∷ variable ∷ []) line h =
+    let here = found_if (is_plain service && (is_plain handler && are_as joint variable)) _ line h in
+    let tests = and_parts (is_plain service) (is_plain handler && are_as joint variable) here.0 in
+    let more = and_parts (is_plain handler) (are_as joint variable) tests.1 in
+    let bound = as_found joint variable more.1 in
+    let with_value = found_by (λ v. Does (Call service handler v variable)) (value_of value) line here.1 in
+    let v = value_read value with_value.0 with_value.1 in
+    stated_as _ _ line with_value.2
+    (record {
+      spelled = rw (v.0, bound.0) refl;
+      are_words = rw (plain_word service tests.0, plain_word handler more.0, v.1, bound.0, bound.1) refl;
+      leaf = refl;
+    })
+call_states _ line h = absurd (none-some line h)
 
-read_form_found : (words : List (List ℕ)) (line : Line) → read_form words ≡ Some line → spelling line ≡ codes "read" ∷ words
-read_form_found (store ∷ key ∷ joint ∷ variable ∷ []) line h =
-    let here = joined_found joint (Read store (key_of key) variable) line h in
-    rw (← here.1, here.0, key_found key) refl
-read_form_found _ line h = absurd (cc)
+send_states : States (codes "send") send_form
+send_states (service ∷ handler ∷ value ∷ []) line h =
+    let here = found_if (is_plain service && is_plain handler) _ line h in
+    let tests = and_parts (is_plain service) (is_plain handler) here.0 in
+    let with_value = found_by (λ v. Does (Send service handler v)) (value_of value) line here.1 in
+    let v = value_read value with_value.0 with_value.1 in
+    stated_as _ _ line with_value.2
+    (record { spelled = rw v.0 refl; are_words = rw (plain_word service tests.0, plain_word handler tests.1, v.1) refl; leaf = refl })
+send_states _ line h = absurd (none-some line h)
 
-scan_found : (words : List (List ℕ)) (line : Line) → scan_form words ≡ Some line → spelling line ≡ codes "scan" ∷ words
-scan_found (store ∷ prefix ∷ joint ∷ variable ∷ []) line h =
-    let here = joined_found joint (Scan store prefix variable) line h in
-    rw (← here.1, here.0) refl
-scan_found _ line h = absurd (cc)
+if_states : States (codes "if") if_form
+if_states (variable ∷ last ∷ []) line h =
+    let here = found (is_variable variable && bytes_eq last (codes "absent")) (OpenIf variable) line h in
+    let tests = and_parts (is_variable variable) (bytes_eq last (codes "absent")) here.0 in
+    let end = same last (codes "absent") tests.1 in
+    stated_as _ _ line here.1 (record { spelled = rw end refl; are_words = rw (variable_word variable tests.0, end) refl; leaf = tt })
+if_states _ line h = absurd (none-some line h)
 
-poll_found : (words : List (List ℕ)) (line : Line) → poll_form words ≡ Some line → spelling line ≡ codes "poll" ∷ words
-poll_found (store ∷ key ∷ joint ∷ variable ∷ []) line h =
-    let here = joined_found joint (Poll store (key_of key) variable) line h in
-    rw (← here.1, here.0, key_found key) refl
-poll_found _ line h = absurd (cc)
+one_word_states : {A : Type 0} (first : List ℕ) (make : A → Line) (read : List ℕ → Option A) (text : A → List ℕ) → is_word first ≡ true
+    → ((x : A) → (spelling (make x) ≡ first ∷ text x ∷ []) × IsLeaf (make x)) → ((word : List ℕ) (x : A) → read word ≡ Some x → IsOf (text x) word)
+    → States first (one_word make read)
+one_word_states first make read text good says reads (word ∷ []) line h =
+    let here = found_by make (read word) line h in
+    let x = reads word here.0 here.1 in
+    let said = says here.0 in
+    stated_as _ _ line here.2 (record { spelled = rw (said.0, x.0) refl; are_words = rw (good, x.1) refl; leaf = said.1 })
+one_word_states first make read text good says reads _ line h = absurd (none-some line h)
 
-call_found : (words : List (List ℕ)) (line : Line) → call_form words ≡ Some line → spelling line ≡ codes "call" ∷ words
-call_found (service ∷ handler ∷ value ∷ joint ∷ variable ∷ []) line h =
-    let here = joined_found joint (Call service handler (value_of value) variable) line h in
-    rw (← here.1, here.0, value_found value) refl
-call_found _ line h = absurd (cc)
+-- what holds of each row
+abbrev Rows : {A : Type 0} → (List ℕ → A → Type 0) → List (List ℕ × A) → Type 0
+Rows P [] = Unit {0}
+Rows P (row ∷ rows) = P row.0 row.1 × Rows P rows
 
-send_found : (words : List (List ℕ)) (line : Line) → send_form words ≡ Some line → spelling line ≡ codes "send" ∷ words
-send_found (service ∷ handler ∷ value ∷ []) line h =
-    let e : Does (Send service handler (value_of value)) ≡ line = cc in
-    rw (← e, value_found value) refl
-send_found _ line h = absurd (cc)
+row_case : {A : Type 0} (P : List ℕ → A → Type 0) (test : Bool) (first word : List ℕ) (here x : A) (more : Option A)
+    → P first here → (test ≡ true → word ≡ first) → (more ≡ Some x → P word x) → cond test (Some here) more ≡ Some x → P word x
+row_case P true first word here x more this is others h = subst (λ (y : _). P word y) (same_Some here x h) (subst (λ (w : List ℕ). P w here) (sym (is refl)) this)
+row_case P false first word here x more this is others h = others h
 
-if_found : (words : List (List ℕ)) (line : Line) → if_form words ≡ Some line → spelling line ≡ codes "if" ∷ words
-if_found (variable ∷ last ∷ []) line h =
-    let here = found (bytes_eq last (codes "absent")) (OpenIf variable) line h in
-    rw (← here.1, same last (codes "absent") here.0) refl
-if_found _ line h = absurd (cc)
+-- it holds of the row that a word has
+row_found : {A : Type 0} (P : List ℕ → A → Type 0) (rows : List (List ℕ × A)) → Rows P rows → (word : List ℕ) (x : A)
+    → lookup (bytes_eq word) rows ≡ Some x → P word x
+row_found P [] all word x h = absurd (none-some x h)
+row_found P (row ∷ rows) all word x h =
+    row_case P (bytes_eq word row.0) row.0 word row.1 x (lookup (bytes_eq word) rows) all.0 (same word row.0) (row_found P rows all.1 word x) h
 
--- a line of one word behind a keyword, and of none
-one_word_found : (first : List ℕ) (make : List ℕ → Option Line) → ((word : List ℕ) (line : Line) → make word ≡ Some line → spelling line ≡ first ∷ word ∷ [])
-    → (words : List (List ℕ)) (line : Line) → one_word_form make words ≡ Some line → spelling line ≡ first ∷ words
-one_word_found first make each (word ∷ []) line h = each word line h
-one_word_found first make each _ line h = absurd (cc)
+forms_state : Rows States forms
+forms_state = (
+  write_states,
+  (
+    one_word_states (codes "append") (λ x. Does (Append x)) variable_of (λ x. x) refl (λ x. (refl, refl)) variable_read,
+    (
+      one_word_states (codes "remove") (λ x. Does (Remove x)) variable_of (λ x. x) refl (λ x. (refl, refl)) variable_read,
+      (
+        one_word_states (codes "transfer") (λ x. Does (Transfer x)) variable_of (λ x. x) refl (λ x. (refl, refl)) variable_read,
+        (
+          rows_states (codes "read") Read (key_of is_plain) key_text refl (λ s k x. (refl, refl)) (key_read is_plain plain_word),
+          (
+            rows_states (codes "scan") Scan plain_name (λ x. x) refl (λ s k x. (refl, refl)) plain_read,
+            (
+              rows_states (codes "poll") Poll (key_of is_name) key_text refl (λ s k x. (refl, refl)) (key_read is_name name_word),
+              (
+                call_states,
+                (
+                  send_states,
+                  (
+                    one_word_states (codes "reply") (λ v. Does (Reply v)) value_of value_text refl (λ v. (refl, refl)) value_read,
+                    (
+                      one_word_states (codes "repeat") OpenRepeat (decimal_in 1 MOST_TURNS) decimal refl (λ n. (refl, tt)) count_read,
+                      (if_states, tt),
+                    ),
+                  ),
+                ),
+              ),
+            ),
+          ),
+        ),
+      ),
+    ),
+  ),
+)
 
-no_word_found : (first : List ℕ) (alone : Line) → spelling alone ≡ first ∷ [] → (words : List (List ℕ)) (line : Line)
-    → no_word_form alone words ≡ Some line → spelling line ≡ first ∷ words
-no_word_found first alone e [] line h = let f : alone ≡ line = cc in ap spelling (sym f) ∙ e
-no_word_found first alone e (word ∷ words) line h = absurd (cc)
+-- a line of one word
+abbrev StatesAlone : List ℕ → Line → Type 0
+StatesAlone word line = IsStated (word ∷ []) line
 
-append_found : (word : List ℕ) (line : Line) → Some (Does (Append word)) ≡ Some line → spelling line ≡ codes "append" ∷ word ∷ []
-append_found word line h = let e : Does (Append word) ≡ line = cc in rw (← e) refl
+lone_state : Rows StatesAlone lone_lines
+lone_state =
+    let statement : (word : List ℕ) (s : Step) → word ∷ [] ≡ spelling (Does s) → list_all is_word (word ∷ []) ≡ true → IsLeaf (Does s) → IsStated (word ∷ []) (Does s) =
+    λ word s said are leaf. record { spelled = said; are_words = are; leaf = leaf } in (
+      statement (codes "barrier") Barrier refl refl refl,
+      (
+        statement (codes "dryrun") DryRun refl refl refl,
+        (
+          statement (codes "nack") Nack refl refl refl,
+          (
+            statement (codes "root") Root refl refl refl,
+            (
+              statement (codes "stop") Stop refl refl refl,
+              (record { spelled = refl; are_words = refl; leaf = tt }, tt),
+            ),
+          ),
+        ),
+      ),
+    )
 
-remove_found : (word : List ℕ) (line : Line) → Some (Does (Remove word)) ≡ Some line → spelling line ≡ codes "remove" ∷ word ∷ []
-remove_found word line h = let e : Does (Remove word) ≡ line = cc in rw (← e) refl
-
-transfer_found : (word : List ℕ) (line : Line) → Some (Does (Transfer word)) ≡ Some line → spelling line ≡ codes "transfer" ∷ word ∷ []
-transfer_found word line h = let e : Does (Transfer word) ≡ line = cc in rw (← e) refl
-
-reply_found : (word : List ℕ) (line : Line) → Some (Does (Reply (value_of word))) ≡ Some line → spelling line ≡ codes "reply" ∷ word ∷ []
-reply_found word line h = let e : Does (Reply (value_of word)) ≡ line = cc in rw (← e, value_found word) refl
-
-repeat_case : (o : Option ℕ) (word : List ℕ) (line : Line) → ((n : ℕ) → o ≡ Some n → decimal n ≡ word)
-    → option_map OpenRepeat o ≡ Some line → spelling line ≡ codes "repeat" ∷ word ∷ []
-repeat_case None word line h e = absurd (cc)
-repeat_case (Some n) word line h e = let f : OpenRepeat n ≡ line = cc in rw (← f, h n refl) refl
-
-repeat_found : (word : List ℕ) (line : Line) → option_map OpenRepeat (count_of word) ≡ Some line → spelling line ≡ codes "repeat" ∷ word ∷ []
-repeat_found word line h = repeat_case (count_of word) word line (count_found word) h
-
-form_found : (k : Keyword) (words : List (List ℕ)) (line : Line) → form_of k words ≡ Some line → spelling line ≡ keyword_text k ∷ words
-form_found keyword.Write words line h = write_found words line h
-form_found keyword.Append words line h = one_word_found _ _ append_found words line h
-form_found keyword.Remove words line h = one_word_found _ _ remove_found words line h
-form_found keyword.Transfer words line h = one_word_found _ _ transfer_found words line h
-form_found keyword.Barrier words line h = no_word_found _ (Does Barrier) refl words line h
-form_found keyword.DryRun words line h = no_word_found _ (Does DryRun) refl words line h
-form_found keyword.Read words line h = read_form_found words line h
-form_found keyword.Scan words line h = scan_found words line h
-form_found keyword.Poll words line h = poll_found words line h
-form_found keyword.Call words line h = call_found words line h
-form_found keyword.Send words line h = send_found words line h
-form_found keyword.Reply words line h = one_word_found _ _ reply_found words line h
-form_found keyword.Nack words line h = no_word_found _ (Does Nack) refl words line h
-form_found keyword.Root words line h = no_word_found _ (Does Root) refl words line h
-form_found keyword.Stop words line h = no_word_found _ (Does Stop) refl words line h
-form_found keyword.Repeat words line h = one_word_found _ _ repeat_found words line h
-form_found keyword.If words line h = if_found words line h
-form_found keyword.End words line h = no_word_found _ Close refl words line h
-
-fitting_found : (o : Option Line) (line : Line) → fitting o ≡ Some line → (o ≡ Some line) × (fits line ≡ true)
-fitting_found None line h = absurd (cc)
-fitting_found (Some other) line h = let here = found (fits other) other line h in (ap Some here.1, ap fits (sym here.1) ∙ here.0)
-
-spelled : (o : Option Keyword) (first : List ℕ) (rest : List (List ℕ)) (line : Line) → ((k : Keyword) → o ≡ Some k → first ≡ keyword_text k)
-    → option_and_then (λ k. form_of k rest) o ≡ Some line → first ∷ rest ≡ spelling line
-spelled None first rest line h e = absurd (cc)
-spelled (Some k) first rest line h e = ap (λ word. word ∷ rest) (h k refl) ∙ sym (form_found k rest line e)
-
--- Words that state a line are its spelling, and it keeps to the forms.
-pub read_found : (words : List (List ℕ)) (line : Line) → read_line words ≡ Some line → (words ≡ spelling line) × (fits line ≡ true)
+-- Words that state a line do so in this way.
+pub read_stated : (texts : List (List ℕ)) (line : Line) → read_line texts ≡ Some line → IsStated texts line
 unfolding read_line
-read_found [] line h = absurd (cc)
-read_found (first ∷ rest) line h =
-    let here = fitting_found (option_and_then (λ k. form_of k rest) (keyword_of first)) line h in
-    (spelled (keyword_of first) first rest line (keyword_found first) here.0, here.1)
-
-held_again : (variable : Option (List ℕ)) (untracked : Bool) → held_fits variable untracked ≡ true → held_of (held_words variable untracked) ≡ Some (variable, untracked)
-held_again None false h = refl
-held_again None true h = absurd (cc)
-held_again (Some variable) false h = refl
-held_again (Some variable) true h = refl
-
--- one part of a test of three or four
-second : (a b c : Bool) → (a && (b && c)) ≡ true → b ≡ true
-second a b c h = (both b c (both a (b && c) h).1).0
-
-third : (a b c : Bool) → (a && (b && c)) ≡ true → c ≡ true
-third a b c h = (both b c (both a (b && c) h).1).1
-
--- A line that keeps to the forms is read from its spelling.
-pub read_again : (line : Line) → fits line ≡ true → read_line (spelling line) ≡ Some line
-unfolding read_line keyword_of
-read_again (Does (Write store key value variable untracked)) h =
-    let good = second (is_plain store) (key_fits is_plain key) (value_fits value && held_fits variable untracked) h in
-    let more = third (is_plain store) (key_fits is_plain key) (value_fits value && held_fits variable untracked) h in
-    let kept = both (value_fits value) (held_fits variable untracked) more in
-    rw (held_again variable untracked kept.1, key_again is_plain plain_no_dollar key good, value_again value kept.0, h) refl
-read_again (Does (Append variable)) h = rw h refl
-read_again (Does (Remove variable)) h = rw h refl
-read_again (Does (Transfer variable)) h = rw h refl
-read_again (Does Barrier) h = refl
-read_again (Does DryRun) h = refl
-read_again (Does (Read store key variable)) h =
-    rw (key_again is_plain plain_no_dollar key (second (is_plain store) (key_fits is_plain key) (is_variable variable) h), h) refl
-read_again (Does (Scan store prefix variable)) h = rw h refl
-read_again (Does (Poll store key variable)) h =
-    rw (key_again is_name name_no_dollar key (second (is_plain store) (key_fits is_name key) (is_variable variable) h), h) refl
-read_again (Does (Call service handler value variable)) h =
-    let good = third (is_plain service) (is_plain handler) (value_fits value && is_variable variable) h in
-    rw (value_again value (both (value_fits value) (is_variable variable) good).0, h) refl
-read_again (Does (Send service handler value)) h =
-    rw (value_again value (third (is_plain service) (is_plain handler) (value_fits value) h), h) refl
-read_again (Does (Reply value)) h = rw (value_again value h, h) refl
-read_again (Does Nack) h = refl
-read_again (Does Root) h = refl
-read_again (Does Stop) h = refl
-read_again (Does (Repeat count block)) h = absurd (cc)
-read_again (Does (IfAbsent variable block)) h = absurd (cc)
-read_again (OpenRepeat count) h = rw (count_again count h, h) refl
-read_again (OpenIf variable) h = rw h refl
-read_again Close h = refl
-
--- A statement in a line that keeps to the forms opens no block.
-pub is_leaf : (statement : Step) → fits (Does statement) ≡ true → opens_none statement ≡ true
-is_leaf statement h = (both (opens_none statement) (statement_fits statement) h).0
+read_stated [] line h = absurd (none-some line h)
+read_stated (word ∷ []) line h = row_found StatesAlone lone_lines lone_state word line h
+read_stated (first ∷ next ∷ rest) line h =
+    let here = found_then (λ form. form (next ∷ rest)) (lookup (bytes_eq first) forms) line h in
+    row_found States forms forms_state first here.0 here.1 (next ∷ rest) line here.2

@@ -3,12 +3,12 @@ use Rattle.std.proofs.Common.{◌≡◌, ℕ, ◌+◌, List, [], ◌∷◌, Bool
 use Rattle.std.specs.Prelude.{position}
 use Rattle.std.specs.Bool.{then_some}
 use Rattle.std.specs.List.{list_all, position_from}
+use Rattle.std.proofs.lemmas.Bool.{and_parts}
 use Rattle.std.proofs.lemmas.Bool.Decides.{nat_tests}
 use Rattle.std.proofs.lemmas.Iterator.Adapters.{position_from-zero}
 use Rattle.anti_ids.specs.Names.{is_plain_byte, is_name_byte, is_name, is_plain, name_of}
 use Rattle.anti_ids.specs.declared.name.NameFault.{NameFault}
 use Rattle.anti_lang.specs.Texts.{plain_name}
-use Rattle.anti_lang.proofs.WordLemmas.{both}
 
 good_first : (good all : Bool) (i : ℕ) (more : Option ℕ) → (all ≡ true → more ≡ None) → (good && all) ≡ true → cond (not good) (Some i) more ≡ None
 good_first true all i more h e = h e
@@ -31,8 +31,8 @@ plain_bytes (x ∷ xs) h = more_first (is_plain_byte x) (nat_eq x 35) _ _ (plain
 
 plain_is_name : (text : List ℕ) → is_plain text ≡ true → name_of text ≡ Ok text
 plain_is_name text h =
-    let some = both (nat_lt 0 (length text)) _ h in
-    let short = both (nat_le (length text) 24) _ some.1 in
+    let some = and_parts (nat_lt 0 (length text)) _ h in
+    let short = and_parts (nat_le (length text) 24) _ some.1 in
     let s : nat_lt 0 (length text) ≡ true = some.0 in
     let l : nat_le (length text) 24 ≡ true = short.0 in
     let m : nat_le (length text) 32 ≡ true = grind (arith, nat_tests) in
@@ -45,8 +45,8 @@ not_some false text h = refl
 
 name_is : (text : List ℕ) → is_name text ≡ true → name_of text ≡ Ok text
 name_is text h =
-    let some = both (nat_lt 0 (length text)) _ h in
-    let short = both (nat_le (length text) 32) _ some.1 in
+    let some = and_parts (nat_lt 0 (length text)) _ h in
+    let short = and_parts (nat_le (length text) 32) _ some.1 in
     let s : nat_lt 0 (length text) ≡ true = some.0 in
     let l : nat_le (length text) 32 ≡ true = short.0 in
     let n : position (λ b. not (is_name_byte b)) text ≡ None = no_bad text short.1 in

@@ -1,13 +1,14 @@
 -- What lines are read as, from the first line on.
 use Rattle.std.proofs.Common.{◌≡◌, ℕ, suc, ◌+◌, ◌<◌, ◌∙◌, sym, ap, refl, List, [], ◌∷◌, ◌++◌, append_assoc, map, length, get_or, drop, drop-cons, add-one}
-use Rattle.std.specs.Prelude.{Option, Some, None, option_map, Result, Ok, Err}
+use Rattle.std.specs.Prelude.{Some, option_map, Result, Ok, Err}
 use Rattle.anti_ids.specs.List.{Listed, plain}
 use Rattle.anti_ids.specs.ListCalls.{pushed}
 use Rattle.anti_lang.specs.Words.{words}
 use Rattle.anti_lang.specs.Lines.{Line, read_line}
 use Rattle.anti_lang.specs.Parses.{line_of}
-use Rattle.anti_lang.specs.Parsing.{and_line, read_or, lines_from}
+use Rattle.anti_lang.specs.Parsing.{read_or, lines_from}
 use Rattle.anti_lang.specs.declared.line.Line as code
+use Rattle.anti_lang.proofs.WordLemmas.{found_by}
 
 -- what is read behind some lines
 abbrev pub and_lines : List Line → Result (List Line) ℕ → Result (List Line) ℕ
@@ -26,18 +27,13 @@ and_no_lines (Err number) = refl
 pub read_to_first : (found : Listed code.Line) (texts : List (List ℕ)) → found ≡ plain [] → ReadTo found texts texts 0 []
 read_to_first found texts empty = record { holds = empty; left = and_no_lines (lines_from 0 texts) }
 
-and_next : (front : List Line) (line : Line) (read : Result (List Line) ℕ) → and_lines front (and_line line read) ≡ and_lines (front ++ line ∷ []) read
-and_next front line (Ok lines) = ap Ok (sym (append_assoc front (line ∷ []) lines))
-and_next front line (Err number) = refl
+and_next : (number : ℕ) (front : List Line) (line : Line) (read : Result (List Line) ℕ) → and_lines front (read_or number (Some line) read) ≡ and_lines (front ++ line ∷ []) read
+and_next number front line (Ok lines) = ap Ok (sym (append_assoc front (line ∷ []) lines))
+and_next number front line (Err failed) = refl
 
 map_next : (front : List Line) (line : Line) → map line_of (front ++ line ∷ []) ≡ map line_of front ++ line_of line ∷ []
 map_next [] line = refl
 map_next (first ∷ front) line = ap (λ ls. line_of first ∷ ls) (map_next front line)
-
--- the line that a line of the code is for
-line_found : (read : Option Line) (line : code.Line) → option_map line_of read ≡ Some line → (stated : Line) × (read ≡ Some stated) × (line ≡ line_of stated)
-line_found None line found = cc
-line_found (Some stated) line found = (stated, refl, cc)
 
 -- the element at an index, and those behind it
 pub here_first : {A : Type 0} (xs : List A) (i : ℕ) (x : A) → i < length xs → x ≡ get_or xs i x → drop i xs ≡ x ∷ drop (i + 1) xs
@@ -49,18 +45,18 @@ pub read_to_next : (found more : Listed code.Line) (texts : List (List ℕ)) (te
     option_map line_of (read_line (words text)) ≡ Some line → more ≡ pushed found line →
     (front : List Line) × ReadTo more texts rest (before + 1) front
 read_to_next found more texts text rest before line read states added =
-    let this = line_found (read_line (words text)) line states in
+    let this = found_by line_of (read_line (words text)) line states in
     let front : List Line = read.0 in (
       front ++ this.0 ∷ [],
       record {
         holds =
             added
             ∙ ap (λ l. pushed l line) read.1.holds
-            ∙ ap (λ l. plain (map line_of front ++ l ∷ [])) this.2
+            ∙ ap (λ l. plain (map line_of front ++ l ∷ [])) (sym this.2)
             ∙ ap plain (sym (map_next front this.0));
         left =
             read.1.left
             ∙ ap (λ l. and_lines front (read_or (before + 1) l (lines_from (before + 1) rest))) this.1
-            ∙ and_next front this.0 (lines_from (before + 1) rest);
+            ∙ and_next (before + 1) front this.0 (lines_from (before + 1) rest);
       },
     )

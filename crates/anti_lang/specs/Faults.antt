@@ -1,5 +1,7 @@
 -- What may be wrong with the blocks and the variables of lines.
-use Rattle.std.specs.Prelude.{ℕ, zero, suc, ◌+◌, ◌*◌, List, [], ◌∷◌, Bool, true, false, not, ◌&&◌, ◌||◌, nat_lt, nat_le, length, filter, find, Option, Some, None, option_map, is_some, if◌then◌else◌}
+use Rattle.std.specs.Prelude.{ℕ, ◌+◌, ◌*◌, List, [], ◌∷◌, Bool, true, false, not, ◌&&◌, ◌||◌, nat_lt, nat_le, length, get_or, drop, find, Option, Some, None, option_map, is_some, if◌then◌else◌}
+use Rattle.std.specs.List.{cons_option}
+use Rattle.std.specs.Option.{option_map_or}
 use Rattle.std.specs.Str.{bytes_eq}
 use Rattle.anti_ids.specs.declared.limits.TheConstants.{MOST_NESTED, MOST_RUNS}
 use Rattle.anti_lang.specs.declared.statement.KeyWord.{KeyWord}
@@ -12,70 +14,39 @@ use Rattle.anti_lang.specs.declared.variable.Variable.{Variable}
 use Rattle.anti_lang.specs.Program.{Write, Append, Remove, Transfer, Read, Scan, Poll, Call, Send, Reply, Root, Stop}
 use Rattle.anti_lang.specs.Lines.{Line, Does, OpenRepeat, OpenIf, Close}
 
--- A line, with the lines above it, the nearest first, and the lines behind it.
-pub record Spot : Type 0 where
-  pub above : List Line
-  pub line : Line
-  pub behind : List Line
+-- The number of the first line that is wrong, going down from a line of this number: the first argument says whether a line is wrong, by
+-- what is known above it and by the lines behind it, and the second what is known below a line.
+abbrev pub first_wrong : {K : Type 0} → (K → Line → List Line → Bool) → (K → Line → K) → K → ℕ → List Line → Option ℕ
+first_wrong wrong below known number [] = None
+first_wrong wrong below known number (line ∷ behind) =
+    if wrong known line behind then Some number else first_wrong wrong below (below known line) (number + 1) behind
 
--- the spots of some lines that stand below others
-abbrev pub spots_below : List Line → List Line → List Spot
-spots_below above [] = []
-spots_below above (line ∷ behind) = record { above = above; line = line; behind = behind } ∷ spots_below (line ∷ above) behind
+-- ---- blocks: of each open block, the innermost first, is known how often its lines run
 
--- the number of a line, counted from 1
-abbrev pub number : Spot → ℕ
-number spot = length spot.above + 1
+-- how often a line runs in open blocks
+abbrev pub runs : List ℕ → ℕ
+runs blocks = get_or blocks 0 1
 
--- The number of the first line that is wrong.
-abbrev pub first_wrong : (Spot → Bool) → List Line → Option ℕ
-first_wrong wrong lines = option_map number (find wrong (spots_below [] lines))
+-- the open blocks below a line
+abbrev pub blocks_below : List ℕ → Line → List ℕ
+blocks_below blocks (OpenRepeat count) = count * runs blocks ∷ blocks
+blocks_below blocks (OpenIf variable) = runs blocks ∷ blocks
+blocks_below blocks Close = drop 1 blocks
+blocks_below blocks (Does statement) = blocks
 
--- the lines above the nearest of these lines that opens a block
-abbrev pub outside : List Line → List Line
-outside [] = []
-outside (OpenRepeat count ∷ above) = above
-outside (OpenIf variable ∷ above) = above
-outside (line ∷ above) = outside above
+-- whether a line stands in a block
+abbrev pub in_block : List ℕ → Bool
+in_block blocks = nat_lt 0 (length blocks)
 
--- Of the lines above a line, the nearest first, those in its block and in the blocks round it. Blocks that have ended are passed over.
-abbrev pub around : List Line → List Line
-around [] = []
-around (Close ∷ above) = outside (around above)
-around (line ∷ above) = line ∷ around above
+-- whether lines have the `end` of a block that is open in front of them, where these more are open in it
+abbrev pub has_end : List Line → List ℕ → Bool
+has_end [] inner = false
+has_end (Close ∷ lines) [] = true
+has_end (line ∷ lines) inner = has_end lines (blocks_below inner line)
 
--- whether a line opens a block
-abbrev pub opens : Line → Bool
-opens (OpenRepeat count) = true
-opens (OpenIf variable) = true
-opens line = false
-
--- how many blocks lines open
-abbrev pub depth : List Line → ℕ
-depth lines = length (filter opens lines)
-
--- whether a line stands in a block, with these lines round it
-abbrev pub in_block : List Line → Bool
-in_block round = nat_lt 0 (depth round)
-
--- the product of the counts of the repeats that lines open
-abbrev pub runs : List Line → ℕ
-runs [] = 1
-runs (OpenRepeat count ∷ lines) = count * runs lines
-runs (line ∷ lines) = runs lines
-
--- whether lines have the `end` of a block that is open in front of them, where so many more are open in it
-abbrev pub has_end : ℕ → List Line → Bool
-has_end inner [] = false
-has_end zero (Close ∷ lines) = true
-has_end (suc inner) (Close ∷ lines) = has_end inner lines
-has_end inner (Does statement ∷ lines) = has_end inner lines
-has_end inner (OpenRepeat count ∷ lines) = has_end (suc inner) lines
-has_end inner (OpenIf variable ∷ lines) = has_end (suc inner) lines
-
--- whether a block may not be opened in the blocks of these lines, above the lines behind
-abbrev pub cannot_open : List Line → List Line → Bool
-cannot_open round behind = not (has_end 0 behind) || nat_le MOST_NESTED (depth round)
+-- whether a block may not be opened in open blocks, above the lines behind
+abbrev pub cannot_open : List ℕ → List Line → Bool
+cannot_open blocks behind = not (has_end behind []) || nat_le MOST_NESTED (length blocks)
 
 -- nothing, or `root` first
 abbrev pub begins_with_root : List Line → Bool
@@ -83,23 +54,32 @@ begins_with_root [] = true
 begins_with_root (Does Root ∷ lines) = true
 begins_with_root lines = false
 
--- whether a line is wrong in the blocks of the lines round it, above the lines behind
-abbrev pub is_wrong_in : List Line → Line → List Line → Bool
-is_wrong_in round (OpenRepeat count) behind = cannot_open round behind || nat_lt MOST_RUNS (count * runs round)
-is_wrong_in round (OpenIf variable) behind = cannot_open round behind
-is_wrong_in round Close behind = not (in_block round)
-is_wrong_in round (Does Root) behind = in_block round
-is_wrong_in round (Does Stop) behind = in_block round || not (begins_with_root behind)
-is_wrong_in round (Does statement) behind = false
-
-abbrev pub has_wrong_block : Spot → Bool
-has_wrong_block spot = is_wrong_in (around spot.above) spot.line spot.behind
+-- whether a line is wrong in open blocks, above the lines behind it
+abbrev pub has_wrong_block : List ℕ → Line → List Line → Bool
+has_wrong_block blocks (OpenRepeat count) behind = cannot_open blocks behind || nat_lt MOST_RUNS (count * runs blocks)
+has_wrong_block blocks (OpenIf variable) behind = cannot_open blocks behind
+has_wrong_block blocks Close behind = not (in_block blocks)
+has_wrong_block blocks (Does Root) behind = in_block blocks
+has_wrong_block blocks (Does Stop) behind = in_block blocks || not (begins_with_root behind)
+has_wrong_block blocks (Does statement) behind = false
 
 -- The first line, counted from 1, at which a block is wrong: it opens a block that has no `end`, or a fifth round another four, or
 -- is a `repeat` whose lines would run more than `MOST_RUNS` times; it is an `end` without a block; it is `root` or `stop` in a block; or it
 -- is `stop` with something other than `root` behind it.
 unfoldable pub block_fault : List Line → Option ℕ
-block_fault = first_wrong has_wrong_block
+block_fault = first_wrong has_wrong_block blocks_below [] 1
+
+-- ---- variables
+
+-- What is known of variables above a line: those that it may use, first, and for each open block those that may be used behind its `end`; and
+-- all that are set.
+pub record Known : Type 0 where
+  pub reach : List (List Variable)
+  pub all : List Variable
+
+-- the variables that a line may use
+abbrev pub near : List (List Variable) → List Variable
+near reach = get_or reach 0 []
 
 -- a variable of this kind
 abbrev pub named : Holds → List ℕ → Variable
@@ -114,74 +94,58 @@ set_by (Does (Poll store key variable)) = Some (named holds.Rows variable)
 set_by (Does (Call service handler value variable)) = Some (named holds.Reply variable)
 set_by line = None
 
--- what a variable holds that may be this one, else what it holds by the other lines
-abbrev pub held_or : List ℕ → Option Variable → Option Holds → Option Holds
-held_or name (Some variable) others = if bytes_eq name variable.name then Some variable.kind else others
-held_or name None others = others
+-- the same below a line: in a block that it opens may be used what may be round it; behind an `end` what might be above the block; in a new
+-- span nothing
+abbrev pub reach_below : List (List Variable) → Line → List (List Variable)
+reach_below reach (OpenRepeat count) = near reach ∷ reach
+reach_below reach (OpenIf variable) = near reach ∷ reach
+reach_below reach Close = drop 1 reach
+reach_below reach (Does Root) = [] ∷ drop 1 reach
+reach_below reach (Does Stop) = [] ∷ drop 1 reach
+reach_below reach line = cons_option (set_by line) (near reach) ∷ drop 1 reach
 
--- What a variable holds that one of some lines sets.
-abbrev pub held_in : List Line → List ℕ → Option Holds
-held_in [] name = None
-held_in (line ∷ lines) name = held_or name (set_by line) (held_in lines name)
+abbrev pub known_below : Known → Line → Known
+known_below known line = record { reach = reach_below known.reach line; all = cons_option (set_by line) known.all }
 
--- whether a line begins a new span
-abbrev pub begins_span : Line → Bool
-begins_span (Does Root) = true
-begins_span (Does Stop) = true
-begins_span line = false
+-- What a variable holds that is one of these.
+abbrev pub held_in : List Variable → List ℕ → Option Holds
+held_in variables name = option_map (λ v. v.kind) (find (λ v. bytes_eq name v.name) variables)
 
--- the first of some lines, up to one that begins a new span
-abbrev pub since_root : List Line → List Line
-since_root [] = []
-since_root (line ∷ above) = if begins_span line then [] else line ∷ since_root above
+-- whether a variable holds this
+abbrev pub is_kind : Holds → Option Holds → Bool
+is_kind holds.Write (Some holds.Write) = true
+is_kind holds.Rows (Some holds.Rows) = true
+is_kind holds.Reply (Some holds.Reply) = true
+is_kind kind held = false
 
--- Of the lines above a line, those whose variables it may use: the lines in its block and in those round it, back to a new span.
-abbrev pub in_reach : List Line → List Line
-in_reach above = since_root (around above)
+abbrev pub key_is_held : List Variable → KeyWord → Bool
+key_is_held variables (key_words.Of variable) = is_some (held_in variables variable)
+key_is_held variables key = true
 
-abbrev pub is_write : Option Holds → Bool
-is_write (Some holds.Write) = true
-is_write kind = false
+abbrev pub value_is_held : List Variable → ValueWord → Bool
+value_is_held variables (value_words.Of variable) = is_some (held_in variables variable)
+value_is_held variables value = true
 
-abbrev pub is_rows : Option Holds → Bool
-is_rows (Some holds.Rows) = true
-is_rows kind = false
+-- whether each variable that a line uses is one of these, and holds what the line needs
+abbrev pub are_held : List Variable → Line → Bool
+are_held variables (Does (Write store key value variable untracked)) = key_is_held variables key && value_is_held variables value
+are_held variables (Does (Append variable)) = is_kind holds.Write (held_in variables variable)
+are_held variables (Does (Remove variable)) = is_kind holds.Write (held_in variables variable)
+are_held variables (Does (Transfer variable)) = is_kind holds.Rows (held_in variables variable)
+are_held variables (Does (Read store key variable)) = key_is_held variables key
+are_held variables (Does (Poll store key variable)) = key_is_held variables key
+are_held variables (Does (Call service handler value variable)) = value_is_held variables value
+are_held variables (Does (Send service handler value)) = value_is_held variables value
+are_held variables (Does (Reply value)) = value_is_held variables value
+are_held variables (OpenIf variable) = is_kind holds.Rows (held_in variables variable)
+are_held variables line = true
 
-abbrev pub key_is_held : List Line → KeyWord → Bool
-key_is_held lines (key_words.Of variable) = is_some (held_in lines variable)
-key_is_held lines key = true
-
-abbrev pub value_is_held : List Line → ValueWord → Bool
-value_is_held lines (value_words.Of variable) = is_some (held_in lines variable)
-value_is_held lines value = true
-
--- Whether some lines set each variable that a line uses, to what the line needs.
-abbrev pub are_held : List Line → Line → Bool
-are_held lines (Does (Write store key value variable untracked)) = key_is_held lines key && value_is_held lines value
-are_held lines (Does (Append variable)) = is_write (held_in lines variable)
-are_held lines (Does (Remove variable)) = is_write (held_in lines variable)
-are_held lines (Does (Transfer variable)) = is_rows (held_in lines variable)
-are_held lines (Does (Read store key variable)) = key_is_held lines key
-are_held lines (Does (Poll store key variable)) = key_is_held lines key
-are_held lines (Does (Call service handler value variable)) = value_is_held lines value
-are_held lines (Does (Send service handler value)) = value_is_held lines value
-are_held lines (Does (Reply value)) = value_is_held lines value
-are_held lines (OpenIf variable) = is_rows (held_in lines variable)
-are_held lines line = true
-
--- whether some lines set the variable too
-abbrev pub is_set_in : List Line → Option Variable → Bool
-is_set_in lines (Some variable) = is_some (held_in lines variable.name)
-is_set_in lines None = false
-
--- whether a line is wrong below the lines above it
-abbrev pub is_wrong_below : List Line → Line → Bool
-is_wrong_below above line = is_set_in above (set_by line) || not (are_held (in_reach above) line)
-
-abbrev pub has_wrong_variable : Spot → Bool
-has_wrong_variable spot = is_wrong_below spot.above spot.line
+-- whether a line sets a variable that is set above it, or uses one that it may not use
+abbrev pub has_wrong_variable : Known → Line → List Line → Bool
+has_wrong_variable known line behind =
+    option_map_or (λ v. is_some (held_in known.all v.name)) (set_by line) false || not (are_held (near known.reach) line)
 
 -- The first line, counted from 1, at which a variable is wrong: it sets a variable that a line above sets already; or it uses one that
 -- holds something else, or that no line above sets where it can be seen: in the same span, and in the line's block or round that.
 unfoldable pub variable_fault : List Line → Option ℕ
-variable_fault = first_wrong has_wrong_variable
+variable_fault = first_wrong has_wrong_variable known_below (record { reach = []; all = [] }) 1

@@ -1,16 +1,13 @@
 pub mod Words
 pub mod Texts
-pub mod Keywords
 pub mod Vocabulary
 pub mod Program
 pub mod Bodies
 pub mod Steps
 pub mod Lines
 pub mod Stated
-pub mod Held
 pub mod Blocks
 pub mod Faults
-pub mod Turns
 pub mod Turned
 pub mod Parsing
 pub mod Printing

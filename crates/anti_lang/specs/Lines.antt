@@ -1,16 +1,15 @@
--- The lines of the language: how each is spelled, what may stand in it, and which line words state.
-use Rattle.std.specs.Prelude.{ℕ, codes, List, [], ◌∷◌, Bool, true, false, not, ◌&&◌, nat_le, Option, Some, None, option_map}
+-- The lines of the language: the form of each, by the words that it has.
+use Rattle.std.specs.Prelude.{ℕ, codes, List, [], ◌∷◌, Bool, true, false, ◌&&◌, Option, Some, None, option_map, if◌then◌else◌}
 use Rattle.std.specs.Bool.{then_some}
+use Rattle.std.specs.Map.{lookup}
 use Rattle.std.specs.Option.{option_and_then}
 use Rattle.std.specs.Str.{bytes_eq}
+use Rattle.anti_ids.specs.Decimals.{decimal_in}
 use Rattle.anti_ids.specs.Names.{is_name, is_plain}
 use Rattle.anti_ids.specs.declared.limits.TheConstants.{MOST_TURNS}
-use Rattle.anti_lang.specs.Texts.{is_variable}
-use Rattle.anti_lang.specs.Keywords.{keyword_of}
-use Rattle.anti_lang.specs.Vocabulary.{key_fits, value_fits, key_of, value_of, count_of}
-use Rattle.anti_lang.specs.Program.{Step, Write, Append, Remove, Transfer, Barrier, DryRun, Read, Scan, Poll, Call, Send, Reply, Nack, Root, Stop, Repeat, IfAbsent}
-use Rattle.anti_lang.specs.declared.keyword.Keyword.{Keyword}
-use Rattle.anti_lang.specs.declared.keyword.Keyword.TheVariants as keywords
+use Rattle.anti_lang.specs.Texts.{plain_name, is_variable, variable_of}
+use Rattle.anti_lang.specs.Vocabulary.{key_of, value_of}
+use Rattle.anti_lang.specs.Program.{Step, Write, Append, Remove, Transfer, Barrier, DryRun, Read, Scan, Poll, Call, Send, Reply, Nack, Root, Stop}
 
 -- A line: a statement that opens no block, the opening of a block, or an `end`.
 pub data Line : Type 0 where
@@ -19,120 +18,79 @@ pub data Line : Type 0 where
   OpenIf : (variable : List ℕ) → Line
   Close : Line
 
--- Whether a statement has no block.
-abbrev pub opens_none : Step → Bool
-opens_none (Repeat count block) = false
-opens_none (IfAbsent variable block) = false
-opens_none statement = true
+-- whether two words are `as` and a variable
+abbrev pub are_as : List ℕ → List ℕ → Bool
+are_as joint variable = bytes_eq joint (codes "as") && is_variable variable
 
--- a variable of a write is a variable, and a write without one is not untracked
-abbrev pub held_fits : Option (List ℕ) → Bool → Bool
-held_fits None untracked = not untracked
-held_fits (Some variable) untracked = is_variable variable
+-- the write of these words, with its variable, and whether it is untracked
+abbrev pub written : List ℕ → List ℕ → List ℕ → Option (List ℕ) → Bool → Option Line
+written store key value variable untracked =
+    if is_plain store then option_and_then (λ k. option_map (λ v. Does (Write store k v variable untracked)) (value_of value)) (key_of is_plain key)
+    else None
 
--- whether each word of a statement is what stands in its place
-abbrev pub statement_fits : Step → Bool
-statement_fits (Write store key value variable untracked) =
-    is_plain store && (key_fits is_plain key && (value_fits value && held_fits variable untracked))
-statement_fits (Append variable) = is_variable variable
-statement_fits (Remove variable) = is_variable variable
-statement_fits (Transfer variable) = is_variable variable
-statement_fits (Read store key variable) = is_plain store && (key_fits is_plain key && is_variable variable)
-statement_fits (Scan store prefix variable) = is_plain store && (is_plain prefix && is_variable variable)
-statement_fits (Poll store key variable) = is_plain store && (key_fits is_name key && is_variable variable)
-statement_fits (Call service handler value variable) =
-    is_plain service && (is_plain handler && (value_fits value && is_variable variable))
-statement_fits (Send service handler value) = is_plain service && (is_plain handler && value_fits value)
-statement_fits (Reply value) = value_fits value
-statement_fits statement = true
-
--- Whether a line keeps to the forms of the language.
-abbrev pub fits : Line → Bool
-fits (Does statement) = opens_none statement && statement_fits statement
-fits (OpenRepeat count) = nat_le 1 count && nat_le count MOST_TURNS
-fits (OpenIf variable) = is_variable variable
-fits Close = true
-
--- a statement, where this word in front of its variable is `as`
-abbrev pub joined : List ℕ → Step → Option Line
-joined word statement = then_some (bytes_eq word (codes "as")) (Does statement)
-
--- what the words behind the value of a write say of its variable
-abbrev pub held_of : List (List ℕ) → Option (Option (List ℕ) × Bool)
-held_of [] = Some (None, false)
-held_of (joint ∷ variable ∷ []) = then_some (bytes_eq joint (codes "as")) (Some variable, false)
-held_of (joint ∷ variable ∷ last ∷ []) = then_some (bytes_eq joint (codes "as") && bytes_eq last (codes "untracked")) (Some variable, true)
-held_of _ = None
-
--- the line of a write of these words, with its variable and whether it is untracked
-abbrev pub written : List ℕ → List ℕ → List ℕ → Option (List ℕ) × Bool → Line
-written store key value held = Does (Write store (key_of key) (value_of value) held.0 held.1)
-
--- The forms, each by the words behind its keyword: the line that they would state, were each what stands in its place.
+-- `STORE KEY VALUE`, `STORE KEY VALUE as VARIABLE`, `STORE KEY VALUE as VARIABLE untracked`
 abbrev pub write_form : List (List ℕ) → Option Line
-write_form (store ∷ key ∷ value ∷ held) = option_map (written store key value) (held_of held)
+write_form (store ∷ key ∷ value ∷ []) = written store key value None false
+write_form (store ∷ key ∷ value ∷ joint ∷ variable ∷ []) =
+    if are_as joint variable then written store key value (Some variable) false else None
+write_form (store ∷ key ∷ value ∷ joint ∷ variable ∷ last ∷ []) =
+    if are_as joint variable && bytes_eq last (codes "untracked") then written store key value (Some variable) true else None
 write_form _ = None
 
-abbrev pub read_form : List (List ℕ) → Option Line
-read_form (store ∷ key ∷ joint ∷ variable ∷ []) = joined joint (Read store (key_of key) variable)
-read_form _ = None
+-- `STORE KEY as VARIABLE`: the statement that asks a store for rows, where the second argument reads the key
+abbrev pub rows_form : {K : Type 0} → (List ℕ → K → List ℕ → Step) → (List ℕ → Option K) → List (List ℕ) → Option Line
+rows_form ask key_in (store ∷ key ∷ joint ∷ variable ∷ []) =
+    if is_plain store && are_as joint variable then option_map (λ k. Does (ask store k variable)) (key_in key) else None
+rows_form ask key_in _ = None
 
-abbrev pub scan_form : List (List ℕ) → Option Line
-scan_form (store ∷ prefix ∷ joint ∷ variable ∷ []) = joined joint (Scan store prefix variable)
-scan_form _ = None
-
-abbrev pub poll_form : List (List ℕ) → Option Line
-poll_form (store ∷ key ∷ joint ∷ variable ∷ []) = joined joint (Poll store (key_of key) variable)
-poll_form _ = None
-
+-- `SERVICE HANDLER VALUE as VARIABLE`
 abbrev pub call_form : List (List ℕ) → Option Line
-call_form (service ∷ handler ∷ value ∷ joint ∷ variable ∷ []) = joined joint (Call service handler (value_of value) variable)
+call_form (service ∷ handler ∷ value ∷ joint ∷ variable ∷ []) =
+    if is_plain service && (is_plain handler && are_as joint variable) then option_map (λ v. Does (Call service handler v variable)) (value_of value)
+    else None
 call_form _ = None
 
+-- `SERVICE HANDLER VALUE`
 abbrev pub send_form : List (List ℕ) → Option Line
-send_form (service ∷ handler ∷ value ∷ []) = Some (Does (Send service handler (value_of value)))
+send_form (service ∷ handler ∷ value ∷ []) =
+    if is_plain service && is_plain handler then option_map (λ v. Does (Send service handler v)) (value_of value) else None
 send_form _ = None
 
+-- `VARIABLE absent`
 abbrev pub if_form : List (List ℕ) → Option Line
-if_form (variable ∷ last ∷ []) = then_some (bytes_eq last (codes "absent")) (OpenIf variable)
+if_form (variable ∷ last ∷ []) = then_some (is_variable variable && bytes_eq last (codes "absent")) (OpenIf variable)
 if_form _ = None
 
--- the form of just one word, and that of no word
-abbrev pub one_word_form : (List ℕ → Option Line) → List (List ℕ) → Option Line
-one_word_form make (word ∷ []) = make word
-one_word_form make _ = None
+-- one word, which the second argument reads
+abbrev pub one_word : {A : Type 0} → (A → Line) → (List ℕ → Option A) → List (List ℕ) → Option Line
+one_word make read (word ∷ []) = option_map make (read word)
+one_word make read _ = None
 
-abbrev pub no_word_form : {L : Type 0} → L → List (List ℕ) → Option L
-no_word_form line [] = Some line
-no_word_form line (_ ∷ _) = None
+-- the first words of lines, each with the form of the words behind it
+abbrev pub forms : List (List ℕ × (List (List ℕ) → Option Line))
+forms =
+    (codes "write", write_form)
+    ∷ (codes "append", one_word (λ x. Does (Append x)) variable_of)
+    ∷ (codes "remove", one_word (λ x. Does (Remove x)) variable_of)
+    ∷ (codes "transfer", one_word (λ x. Does (Transfer x)) variable_of)
+    ∷ (codes "read", rows_form Read (key_of is_plain))
+    ∷ (codes "scan", rows_form Scan plain_name)
+    ∷ (codes "poll", rows_form Poll (key_of is_name))
+    ∷ (codes "call", call_form)
+    ∷ (codes "send", send_form)
+    ∷ (codes "reply", one_word (λ v. Does (Reply v)) value_of)
+    ∷ (codes "repeat", one_word OpenRepeat (decimal_in 1 MOST_TURNS))
+    ∷ (codes "if", if_form)
+    ∷ []
 
--- the form of a keyword
-abbrev pub form_of : Keyword → List (List ℕ) → Option Line
-form_of keywords.Write words = write_form words
-form_of keywords.Append words = one_word_form (λ word. Some (Does (Append word))) words
-form_of keywords.Remove words = one_word_form (λ word. Some (Does (Remove word))) words
-form_of keywords.Transfer words = one_word_form (λ word. Some (Does (Transfer word))) words
-form_of keywords.Barrier words = no_word_form (Does Barrier) words
-form_of keywords.DryRun words = no_word_form (Does DryRun) words
-form_of keywords.Read words = read_form words
-form_of keywords.Scan words = scan_form words
-form_of keywords.Poll words = poll_form words
-form_of keywords.Call words = call_form words
-form_of keywords.Send words = send_form words
-form_of keywords.Reply words = one_word_form (λ word. Some (Does (Reply (value_of word)))) words
-form_of keywords.Nack words = no_word_form (Does Nack) words
-form_of keywords.Root words = no_word_form (Does Root) words
-form_of keywords.Stop words = no_word_form (Does Stop) words
-form_of keywords.Repeat words = one_word_form (λ word. option_map OpenRepeat (count_of word)) words
-form_of keywords.If words = if_form words
-form_of keywords.End words = no_word_form Close words
+-- the lines of one word
+abbrev pub lone_lines : List (List ℕ × Line)
+lone_lines =
+    (codes "barrier", Does Barrier) ∷ (codes "dryrun", Does DryRun) ∷ (codes "nack", Does Nack)
+    ∷ (codes "root", Does Root) ∷ (codes "stop", Does Stop) ∷ (codes "end", Close) ∷ []
 
--- a line, where it keeps to the forms
-abbrev pub fitting : Option Line → Option Line
-fitting None = None
-fitting (Some line) = then_some (fits line) line
-
--- The line that words state: that of the form of the first of them, where it keeps to the forms of the language.
+-- The line that words state: they are one of these words, or have the form of the first of them.
 unfoldable pub read_line : List (List ℕ) → Option Line
 read_line [] = None
-read_line (first ∷ rest) = fitting (option_and_then (λ keyword. form_of keyword rest) (keyword_of first))
+read_line (word ∷ []) = lookup (bytes_eq word) lone_lines
+read_line (first ∷ rest) = option_and_then (λ form. form rest) (lookup (bytes_eq first) forms)

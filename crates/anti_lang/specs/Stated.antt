@@ -1,5 +1,5 @@
 -- The lines of the code as plain data.
-use Rattle.std.specs.Prelude.{◌≡◌, List, map, reverse}
+use Rattle.std.specs.Prelude.{◌≡◌, List, map}
 use Rattle.anti_lang.specs.Bodies.{step_of}
 use Rattle.anti_lang.specs.Lines.{Line, Does, OpenRepeat, OpenIf, Close}
 use Rattle.anti_lang.specs.Parses.{line_of}
@@ -22,10 +22,6 @@ StatedLines = List Line
 -- Lines of the code.
 abbrev pub all_stated : List code.Line → StatedLines
 all_stated = map stated
-
--- lines of the code from the last one up
-abbrev pub upward : List code.Line → StatedLines
-upward found = reverse (all_stated found)
 
 -- lines that are just what the code makes of plain data
 abbrev pub ArePlain : List code.Line → Type 0

@@ -15,6 +15,10 @@ plain_name text = then_some (is_plain text) text
 abbrev pub is_variable : List ℕ → Bool
 is_variable text = is_plain text && not (bytes_eq text (codes "in"))
 
+-- The variable that a text is.
+abbrev pub variable_of : List ℕ → Option (List ℕ)
+variable_of text = then_some (is_variable text) text
+
 -- a byte that is no control byte and no space
 abbrev pub is_literal_byte : ℕ → Bool
 is_literal_byte b = nat_lt space b && not (b == delete)
@@ -24,7 +28,6 @@ abbrev pub has_dollar : List ℕ → Bool
 has_dollar [] = false
 has_dollar (first ∷ rest) = first == dollar
 
--- 1 to `LONGEST_VALUE` bytes of UTF-8, none a control byte or a space, the first not `$`
+-- 1 to `LONGEST_VALUE` bytes of UTF-8, none a control byte or a space
 abbrev pub is_literal : List ℕ → Bool
-is_literal text =
-    nat_lt 0 (length text) && (nat_le (length text) LONGEST_VALUE && (not (has_dollar text) && (list_all is_literal_byte text && is_utf8 text)))
+is_literal text = nat_lt 0 (length text) && (nat_le (length text) LONGEST_VALUE && (list_all is_literal_byte text && is_utf8 text))

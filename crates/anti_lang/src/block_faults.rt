@@ -1,7 +1,6 @@
-ghost use Rattle.std.specs.Prelude.{◌≡◌, ◌≤◌, ◌∷◌, IfOk, OnOk, false, length};
+ghost use Rattle.std.specs.Prelude.{◌≡◌, ◌≤◌, [], IfOk, OnOk, false, length, reverse};
 ghost use Rattle.anti_lang.specs.Stated.{StatedLines, stated, all_stated};
-ghost use Rattle.anti_lang.specs.Faults.{block_fault, around, has_end, runs, begins_with_root, in_block, cannot_open, is_wrong_in};
-ghost use Rattle.anti_lang.specs.Turns.{turns};
+ghost use Rattle.anti_lang.specs.Faults.{block_fault, blocks_below, has_end, runs, begins_with_root, in_block, cannot_open, has_wrong_block};
 
 use crate::line::Line;
 use crate::statement::Statement;
@@ -13,7 +12,7 @@ type Turns = List<u32>;
 
 // Whether the lines have the `end` of a block that is open in front of them.
 fn has_end(lines: &[Line]) -> bool
-    ensures { result ≡ has_end 0 (all_stated lines.now) }
+    ensures { result ≡ has_end (all_stated lines.now) [] }
 {
     let mut inner: usize = 0;
     for line in lines {
@@ -45,7 +44,7 @@ fn begins_with_root(lines: &[Line]) -> bool
 
 // How often a line runs in the open blocks.
 fn runs(blocks: &Turns) -> u32
-    ensures { (round : StatedLines) → blocks.now.items ≡ turns round → result ≡ runs round }
+    ensures { result ≡ runs (reverse blocks.now.items) }
 {
     match blocks.as_slice() {
         [] => 1,
@@ -55,22 +54,21 @@ fn runs(blocks: &Turns) -> u32
 
 // Whether a line stands in a block.
 fn in_block(blocks: &Turns) -> bool
-    ensures { (round : StatedLines) → blocks.now.items ≡ turns round → result ≡ in_block round }
+    ensures { result ≡ in_block (reverse blocks.now.items) }
 {
     blocks.len() > 0
 }
 
 // Whether a block may not be opened in the open blocks, above the lines behind.
 fn cannot_open(blocks: &Turns, behind: &[Line]) -> bool
-    ensures { (round : StatedLines) → blocks.now.items ≡ turns round → result ≡ cannot_open round (all_stated behind.now) }
+    ensures { result ≡ cannot_open (reverse blocks.now.items) (all_stated behind.now) }
 {
     !has_end(behind) || blocks.len() >= MOST_NESTED
 }
 
 // Whether a line is wrong in the open blocks, above the lines behind it.
 fn is_wrong(blocks: &Turns, line: &Line, behind: &[Line]) -> bool
-    ensures { (round : StatedLines) → blocks.now.items ≡ turns round
-        → result ≡ is_wrong_in round (stated line.now) (all_stated behind.now) }
+    ensures { result ≡ has_wrong_block (reverse blocks.now.items) (stated line.now) (all_stated behind.now) }
 {
     match line {
         Line::Repeat(count) => cannot_open(blocks, behind)
@@ -85,8 +83,8 @@ fn is_wrong(blocks: &Turns, line: &Line, behind: &[Line]) -> bool
 
 // Opens or closes the block that a line opens or closes.
 fn pass(blocks: &mut Turns, line: &Line) -> Result<(), NoMemory>
-    ensures { (above behind : StatedLines) → blocks.old.items ≡ turns (around above) → is_wrong_in (around above) (stated line.now) behind ≡ false
-        → OnOk result (blocks.new.items ≡ turns (around (stated line.now ∷ above))) }
+    ensures { (behind : StatedLines) → has_wrong_block (reverse blocks.old.items) (stated line.now) behind ≡ false
+        → OnOk result (reverse blocks.new.items ≡ blocks_below (reverse blocks.old.items) (stated line.now)) }
 {
     match line {
         Line::Repeat(count) => {

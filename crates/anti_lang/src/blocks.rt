@@ -1,12 +1,11 @@
-ghost use Rattle.std.specs.Prelude.{◌≡◌, IfOk, OnOk, reverse, option_map};
+ghost use Rattle.std.specs.Prelude.{◌≡◌, IfOk, OnOk, get_or, reverse, option_map};
 ghost use Rattle.anti_ids.specs.List.{plain};
-ghost use Rattle.anti_lang.specs.Program.{Step, Repeat, IfAbsent};
+ghost use Rattle.anti_lang.specs.Program.{Step, End, Repeat, IfAbsent};
 ghost use Rattle.anti_lang.specs.Bodies.{statement_of, body_of};
 ghost use Rattle.anti_lang.specs.Blocks.{behind, wrap, ended, with_line, up};
 ghost use Rattle.anti_lang.specs.Stated.{StatedLine, all_stated, ArePlain};
 ghost use Rattle.anti_lang.specs.Parses.{line_of};
 ghost use Rattle.anti_lang.specs.Turned.{OpenBlocks, Hold, innermost, others};
-ghost use Rattle.anti_lang.specs.Parsing.{one_block};
 
 use crate::line::Line;
 use crate::statement::{Body, Statement};
@@ -98,7 +97,7 @@ fn with_line(alloc: Global, bodies: &mut Bodies, line: Line) -> Result<(), NoMem
 /// The body that lines state, read from the last line up; where they state several blocks, the innermost.
 pub(crate) fn build(alloc: Global, mut lines: List<Line>) -> Result<Body, NoMemory>
     requires { ArePlain lines.items }
-    ensures { IfOk result (λ body. body ≡ body_of (one_block (up (all_stated lines.items)))) }
+    ensures { IfOk result (λ body. body ≡ body_of (get_or (up (all_stated lines.items)) 0 End)) }
 {
     let mut bodies = List::new(alloc);
     bodies.add(List::new(alloc))?;

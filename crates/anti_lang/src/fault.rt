@@ -1,5 +1,5 @@
 ghost use Rattle.std.specs.Prelude.{◌≡◌};
-ghost use Rattle.anti_lang.specs.Parsing.{fault_at};
+ghost use Rattle.anti_lang.specs.declared.fault.LangFault.TheVariants as faults;
 
 use anti_ids::NoMemory;
 use std::fmt;
@@ -41,15 +41,13 @@ pub enum LangFault {
 impl LangFault {
     /// This line is wrong so.
     pub(crate) fn at(line: u32, code: LangCode) -> LangFault
-        ensures { result ≡ fault_at code line }
+        ensures { result ≡ faults.Line line code }
     {
         LangFault::Line { line, code }
     }
 }
 
 impl From<NoMemory> for LangFault {
-    ghost use Rattle.anti_lang.specs.declared.fault.LangFault.TheVariants as faults;
-
     ghost from_gives = { λ _ fault. fault ≡ faults.NoMemory };
 
     fn from(_: NoMemory) -> LangFault {

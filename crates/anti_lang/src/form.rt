@@ -1,10 +1,15 @@
 // The forms of lines: each is read by the words behind its keyword, and written.
-ghost use Rattle.std.specs.Prelude.{◌≡◌, [], ◌∷◌, Some, IfOk, map, option_map, codes, decimal};
+ghost use Rattle.std.specs.Prelude.{◌≡◌, [], ◌∷◌, IfOk, map, option_map, codes, decimal};
+ghost use Rattle.std.specs.Bool.{then_some};
+ghost use Rattle.anti_ids.specs.Decimals.{decimal_in};
+ghost use Rattle.anti_ids.specs.Names.{is_name, is_plain};
+ghost use Rattle.anti_ids.specs.declared.limits.TheConstants.{MOST_TURNS};
 ghost use Rattle.anti_lang.specs.Program.{Append, Remove, Transfer, Read, Scan, Poll, Call, Send, Reply};
 ghost use Rattle.anti_lang.specs.Printing.{key_text, value_text, statement_words, spaced};
-ghost use Rattle.anti_lang.specs.Vocabulary.{key_of, value_of, count_of};
-ghost use Rattle.anti_lang.specs.Lines.{Does, OpenRepeat, joined, one_word_form, no_word_form, read_form, scan_form, poll_form, call_form, send_form, if_form};
-ghost use Rattle.anti_lang.specs.inner.Parses.{read_as};
+ghost use Rattle.anti_lang.specs.Texts.{plain_name, variable_of};
+ghost use Rattle.anti_lang.specs.Vocabulary.{key_of, value_of};
+ghost use Rattle.anti_lang.specs.Lines.{Does, OpenRepeat, are_as, rows_form, call_form, send_form, if_form, one_word};
+ghost use Rattle.anti_lang.specs.Parses.{line_of};
 
 use crate::line::Line;
 use crate::name::plain_name;
@@ -16,9 +21,19 @@ use crate::word::{
 use anti_ids::{Bytes, Name, NoMemory};
 use std::alloc::Global;
 
+// The variable behind `as`.
+pub fn variable_behind(joint: &[u8], variable: &[u8]) -> Option<Name>
+    ensures { result ≡ then_some (are_as joint.now variable.now) variable.now }
+{
+    if joint != b"as".as_slice() {
+        return None;
+    }
+    variable_of(variable)
+}
+
 // `read STORE KEY as VARIABLE`.
 pub fn read_form(words: &[&[u8]]) -> Option<Line>
-    ensures { result ≡ read_as (read_form (map (λ word. word.now) words.now)) }
+    ensures { result ≡ option_map line_of (rows_form Read (key_of is_plain) (map (λ word. word.now) words.now)) }
 {
     match words {
         [store, key, joint, variable] => read_of(store, key, joint, variable),
@@ -27,15 +42,12 @@ pub fn read_form(words: &[&[u8]]) -> Option<Line>
 }
 
 fn read_of(store: &[u8], key: &[u8], joint: &[u8], variable: &[u8]) -> Option<Line>
-    ensures { result ≡ read_as (joined joint.now (Read store.now (key_of key.now) variable.now)) }
+    ensures { result ≡ option_map line_of (rows_form Read (key_of is_plain) (store.now ∷ key.now ∷ joint.now ∷ variable.now ∷ [])) }
 {
-    if joint != b"as".as_slice() {
-        return None;
-    }
     Some(Line::Does(Statement::Read {
         store: plain_name(store)?,
         key: key_of(key)?,
-        variable: variable_of(variable)?,
+        variable: variable_behind(joint, variable)?,
     }))
 }
 
@@ -58,7 +70,7 @@ pub fn read_text<'a>(
 
 // `scan STORE PREFIX as VARIABLE`.
 pub fn scan_form(words: &[&[u8]]) -> Option<Line>
-    ensures { result ≡ read_as (scan_form (map (λ word. word.now) words.now)) }
+    ensures { result ≡ option_map line_of (rows_form Scan plain_name (map (λ word. word.now) words.now)) }
 {
     match words {
         [store, prefix, joint, variable] => scan_of(store, prefix, joint, variable),
@@ -67,15 +79,12 @@ pub fn scan_form(words: &[&[u8]]) -> Option<Line>
 }
 
 fn scan_of(store: &[u8], prefix: &[u8], joint: &[u8], variable: &[u8]) -> Option<Line>
-    ensures { result ≡ read_as (joined joint.now (Scan store.now prefix.now variable.now)) }
+    ensures { result ≡ option_map line_of (rows_form Scan plain_name (store.now ∷ prefix.now ∷ joint.now ∷ variable.now ∷ [])) }
 {
-    if joint != b"as".as_slice() {
-        return None;
-    }
     Some(Line::Does(Statement::Scan {
         store: plain_name(store)?,
         prefix: plain_name(prefix)?,
-        variable: variable_of(variable)?,
+        variable: variable_behind(joint, variable)?,
     }))
 }
 
@@ -93,7 +102,7 @@ pub fn scan_text(
 
 // `poll STORE KEY as VARIABLE`.
 pub fn poll_form(words: &[&[u8]]) -> Option<Line>
-    ensures { result ≡ read_as (poll_form (map (λ word. word.now) words.now)) }
+    ensures { result ≡ option_map line_of (rows_form Poll (key_of is_name) (map (λ word. word.now) words.now)) }
 {
     match words {
         [store, key, joint, variable] => poll_of(store, key, joint, variable),
@@ -102,21 +111,18 @@ pub fn poll_form(words: &[&[u8]]) -> Option<Line>
 }
 
 fn poll_of(store: &[u8], key: &[u8], joint: &[u8], variable: &[u8]) -> Option<Line>
-    ensures { result ≡ read_as (joined joint.now (Poll store.now (key_of key.now) variable.now)) }
+    ensures { result ≡ option_map line_of (rows_form Poll (key_of is_name) (store.now ∷ key.now ∷ joint.now ∷ variable.now ∷ [])) }
 {
-    if joint != b"as".as_slice() {
-        return None;
-    }
     Some(Line::Does(Statement::Poll {
         store: plain_name(store)?,
         key: cell_of(key)?,
-        variable: variable_of(variable)?,
+        variable: variable_behind(joint, variable)?,
     }))
 }
 
 // `call SERVICE HANDLER VALUE as VARIABLE`.
 pub fn call_form(alloc: Global, words: &[&[u8]]) -> Result<Option<Line>, NoMemory>
-    ensures { IfOk result (λ line. line ≡ read_as (call_form (map (λ word. word.now) words.now))) }
+    ensures { IfOk result (λ line. line ≡ option_map line_of (call_form (map (λ word. word.now) words.now))) }
 {
     match words {
         [service, handler, value, joint, variable] => {
@@ -134,22 +140,19 @@ fn call_of(
     joint: &[u8],
     variable: &[u8],
 ) -> Result<Option<Line>, NoMemory>
-    ensures { IfOk result (λ line. line ≡ read_as (joined joint.now (Call service.now handler.now (value_of value.now) variable.now))) }
+    ensures { IfOk result (λ line. line ≡ option_map line_of (call_form (service.now ∷ handler.now ∷ value.now ∷ joint.now ∷ variable.now ∷ []))) }
 {
-    if joint != b"as".as_slice() {
-        return Ok(None);
-    }
     let Some(service) = plain_name(service) else {
         return Ok(None);
     };
     let Some(handler) = plain_name(handler) else {
         return Ok(None);
     };
-    let Some(value) = value_of(alloc, value)? else {
+    let Some(variable) = variable_behind(joint, variable) else {
         return Ok(None);
     };
-    match variable_of(variable) {
-        Some(variable) => Ok(Some(Line::Does(Statement::Call {
+    match value_of(alloc, value)? {
+        Some(value) => Ok(Some(Line::Does(Statement::Call {
             service,
             handler,
             value,
@@ -185,7 +188,7 @@ pub fn call_text<'a>(
 
 // `send SERVICE HANDLER VALUE`.
 pub fn send_form(alloc: Global, words: &[&[u8]]) -> Result<Option<Line>, NoMemory>
-    ensures { IfOk result (λ line. line ≡ read_as (send_form (map (λ word. word.now) words.now))) }
+    ensures { IfOk result (λ line. line ≡ option_map line_of (send_form (map (λ word. word.now) words.now))) }
 {
     match words {
         [service, handler, value] => send_of(alloc, service, handler, value),
@@ -199,7 +202,7 @@ fn send_of(
     handler: &[u8],
     value: &[u8],
 ) -> Result<Option<Line>, NoMemory>
-    ensures { IfOk result (λ line. line ≡ read_as (send_form (service.now ∷ handler.now ∷ value.now ∷ []))) }
+    ensures { IfOk result (λ line. line ≡ option_map line_of (send_form (service.now ∷ handler.now ∷ value.now ∷ []))) }
 {
     let Some(service) = plain_name(service) else {
         return Ok(None);
@@ -234,7 +237,7 @@ pub fn send_text(
 
 // `reply VALUE`.
 pub fn reply_form(alloc: Global, words: &[&[u8]]) -> Result<Option<Line>, NoMemory>
-    ensures { IfOk result (λ line. line ≡ read_as (one_word_form (λ word. Some (Does (Reply (value_of word)))) (map (λ word. word.now) words.now))) }
+    ensures { IfOk result (λ line. line ≡ option_map line_of (one_word (λ v. Does (Reply v)) value_of (map (λ word. word.now) words.now))) }
 {
     match words {
         [value] => reply_of(alloc, value),
@@ -243,7 +246,7 @@ pub fn reply_form(alloc: Global, words: &[&[u8]]) -> Result<Option<Line>, NoMemo
 }
 
 fn reply_of(alloc: Global, value: &[u8]) -> Result<Option<Line>, NoMemory>
-    ensures { IfOk result (λ line. line ≡ read_as (Some (Does (Reply (value_of value.now))))) }
+    ensures { IfOk result (λ line. line ≡ option_map line_of (option_map (λ v. Does (Reply v)) (value_of value.now))) }
 {
     match value_of(alloc, value)? {
         Some(value) => Ok(Some(Line::Does(Statement::Reply(value)))),
@@ -267,7 +270,7 @@ pub fn pair_text<'a>(alloc: Global, keyword: &'a [u8], word: &'a [u8]) -> Result
 
 // `append VARIABLE`.
 pub fn append_form(words: &[&[u8]]) -> Option<Line>
-    ensures { result ≡ read_as (one_word_form (λ word. Some (Does (Append word))) (map (λ word. word.now) words.now)) }
+    ensures { result ≡ option_map line_of (one_word (λ x. Does (Append x)) variable_of (map (λ word. word.now) words.now)) }
 {
     match words {
         [variable] => append_of(variable),
@@ -276,14 +279,14 @@ pub fn append_form(words: &[&[u8]]) -> Option<Line>
 }
 
 fn append_of(variable: &[u8]) -> Option<Line>
-    ensures { result ≡ read_as (Some (Does (Append variable.now))) }
+    ensures { result ≡ option_map line_of (option_map (λ x. Does (Append x)) (variable_of variable.now)) }
 {
     Some(Line::Does(Statement::Append(variable_of(variable)?)))
 }
 
 // `remove VARIABLE`.
 pub fn remove_form(words: &[&[u8]]) -> Option<Line>
-    ensures { result ≡ read_as (one_word_form (λ word. Some (Does (Remove word))) (map (λ word. word.now) words.now)) }
+    ensures { result ≡ option_map line_of (one_word (λ x. Does (Remove x)) variable_of (map (λ word. word.now) words.now)) }
 {
     match words {
         [variable] => remove_of(variable),
@@ -292,14 +295,14 @@ pub fn remove_form(words: &[&[u8]]) -> Option<Line>
 }
 
 fn remove_of(variable: &[u8]) -> Option<Line>
-    ensures { result ≡ read_as (Some (Does (Remove variable.now))) }
+    ensures { result ≡ option_map line_of (option_map (λ x. Does (Remove x)) (variable_of variable.now)) }
 {
     Some(Line::Does(Statement::Remove(variable_of(variable)?)))
 }
 
 // `transfer VARIABLE`.
 pub fn transfer_form(words: &[&[u8]]) -> Option<Line>
-    ensures { result ≡ read_as (one_word_form (λ word. Some (Does (Transfer word))) (map (λ word. word.now) words.now)) }
+    ensures { result ≡ option_map line_of (one_word (λ x. Does (Transfer x)) variable_of (map (λ word. word.now) words.now)) }
 {
     match words {
         [variable] => transfer_of(variable),
@@ -308,14 +311,14 @@ pub fn transfer_form(words: &[&[u8]]) -> Option<Line>
 }
 
 fn transfer_of(variable: &[u8]) -> Option<Line>
-    ensures { result ≡ read_as (Some (Does (Transfer variable.now))) }
+    ensures { result ≡ option_map line_of (option_map (λ x. Does (Transfer x)) (variable_of variable.now)) }
 {
     Some(Line::Does(Statement::Transfer(variable_of(variable)?)))
 }
 
 // `repeat COUNT`.
 pub fn repeat_form(words: &[&[u8]]) -> Option<Line>
-    ensures { result ≡ read_as (one_word_form (λ word. option_map OpenRepeat (count_of word)) (map (λ word. word.now) words.now)) }
+    ensures { result ≡ option_map line_of (one_word OpenRepeat (decimal_in 1 MOST_TURNS) (map (λ word. word.now) words.now)) }
 {
     match words {
         [count] => Some(Line::Repeat(count_of(count)?)),
@@ -332,7 +335,7 @@ pub fn repeat_text(alloc: Global, count: u32) -> Result<Bytes, NoMemory>
 
 // `if VARIABLE absent`.
 pub fn if_form(words: &[&[u8]]) -> Option<Line>
-    ensures { result ≡ read_as (if_form (map (λ word. word.now) words.now)) }
+    ensures { result ≡ option_map line_of (if_form (map (λ word. word.now) words.now)) }
 {
     match words {
         [variable, last] => if_of(variable, last),
@@ -341,7 +344,7 @@ pub fn if_form(words: &[&[u8]]) -> Option<Line>
 }
 
 fn if_of(variable: &[u8], last: &[u8]) -> Option<Line>
-    ensures { result ≡ read_as (if_form (variable.now ∷ last.now ∷ [])) }
+    ensures { result ≡ option_map line_of (if_form (variable.now ∷ last.now ∷ [])) }
 {
     if last != b"absent".as_slice() {
         return None;
@@ -353,11 +356,4 @@ pub fn if_text(alloc: Global, variable: &Name) -> Result<Bytes, NoMemory>
     ensures { IfOk result (λ text. text.items ≡ spaced (codes "if" ∷ variable.now ∷ codes "absent" ∷ [])) }
 {
     spaced(alloc, &[b"if", variable.bytes(), b"absent"])
-}
-
-// A keyword that stands alone, for this line.
-pub fn lone_form(words: &[&[u8]], line: Line) -> Option<Line>
-    ensures { result ≡ no_word_form line (map (λ word. word.now) words.now) }
-{
-    words.is_empty().then_some(line)
 }

@@ -5,7 +5,6 @@ mod block_faults;
 mod blocks;
 mod fault;
 mod form;
-mod keyword;
 mod laws;
 mod laws_of_bodies;
 mod line;

@@ -1,12 +1,16 @@
-ghost use Rattle.std.specs.Prelude.{◌≡◌, ◌≤◌, length, is_some};
+ghost use Rattle.std.specs.Prelude.{◌≡◌, ◌≤◌, [], false, length, is_some};
+ghost use Rattle.std.specs.List.{cons_option};
+ghost use Rattle.std.specs.Option.{option_map_or};
 ghost use Rattle.anti_lang.specs.Bodies.{step_of};
 ghost use Rattle.anti_lang.specs.Lines.{Does};
-ghost use Rattle.anti_lang.specs.Stated.{stated, all_stated, upward};
-ghost use Rattle.anti_lang.specs.Faults.{in_reach, begins_span, variable_fault, set_by, held_or, held_in, key_is_held, value_is_held, is_write, is_rows, are_held, is_set_in, is_wrong_below};
+ghost use Rattle.anti_lang.specs.Stated.{stated, all_stated};
+ghost use Rattle.anti_lang.specs.Faults.{variable_fault, near, set_by, held_in, key_is_held, value_is_held, is_kind, are_held, has_wrong_variable};
+ghost use Rattle.anti_lang.specs.inner.Known.{begins_span, reach_after, all_after, known_after};
+ghost use Rattle.anti_lang.specs.declared.variable.Holds.TheVariants as holds;
 
 use crate::line::Line;
 use crate::statement::{KeyWord, Statement, ValueWord};
-use anti_ids::Name;
+use anti_ids::{MOST_LINES, Name};
 
 /// What a variable holds.
 #[derive(Clone, Copy)]
@@ -67,7 +71,7 @@ fn begins_span(line: &Line) -> bool
 
 // What the line sets the variable to, where it sets it.
 fn held_by(line: &Line, name: &Name) -> Option<Holds>
-    ensures { result ≡ held_or name.now (set_by (stated line.now)) None }
+    ensures { result ≡ held_in (cons_option (set_by (stated line.now)) []) name.now }
 {
     match set_by(line) {
         Some(variable) if variable.name.bytes() == name.bytes() => Some(variable.kind),
@@ -77,7 +81,7 @@ fn held_by(line: &Line, name: &Name) -> Option<Holds>
 
 // Whether one of some lines sets the variable.
 fn is_set(lines: &[Line], name: &Name) -> bool
-    ensures { result ≡ is_some (held_in (upward lines.now) name.now) }
+    ensures { result ≡ is_some (held_in (all_after (all_stated lines.now)) name.now) }
 {
     let mut above = lines;
     while let [front @ .., line] = above {
@@ -91,7 +95,7 @@ fn is_set(lines: &[Line], name: &Name) -> bool
 
 // What the variable holds below some lines, by the nearest line that sets it in a block that has not ended, with no new span between.
 fn held(lines: &[Line], name: &Name) -> Option<Holds>
-    ensures { result ≡ held_in (in_reach (upward lines.now)) name.now }
+    ensures { result ≡ held_in (near (reach_after (all_stated lines.now))) name.now }
 {
     let mut above = lines;
     let mut ended: usize = 0;
@@ -118,7 +122,7 @@ fn held(lines: &[Line], name: &Name) -> Option<Holds>
 
 // Whether the lines above set what a key word stands for.
 fn key_is_held(above: &[Line], key: &KeyWord) -> bool
-    ensures { result ≡ key_is_held (in_reach (upward above.now)) key.now }
+    ensures { result ≡ key_is_held (near (reach_after (all_stated above.now))) key.now }
 {
     match key {
         KeyWord::Of(variable) => held(above, variable).is_some(),
@@ -129,7 +133,7 @@ fn key_is_held(above: &[Line], key: &KeyWord) -> bool
 
 // Whether the lines above set what a value word stands for.
 fn value_is_held(above: &[Line], value: &ValueWord) -> bool
-    ensures { result ≡ value_is_held (in_reach (upward above.now)) value.now }
+    ensures { result ≡ value_is_held (near (reach_after (all_stated above.now))) value.now }
 {
     match value {
         ValueWord::Of(variable) => held(above, variable).is_some(),
@@ -140,21 +144,21 @@ fn value_is_held(above: &[Line], value: &ValueWord) -> bool
 
 // Whether the lines above set the variable to a write.
 fn is_write(above: &[Line], variable: &Name) -> bool
-    ensures { result ≡ is_write (held_in (in_reach (upward above.now)) variable.now) }
+    ensures { result ≡ is_kind holds.Write (held_in (near (reach_after (all_stated above.now))) variable.now) }
 {
     matches!(held(above, variable), Some(Holds::Write))
 }
 
 // Whether the lines above set the variable to rows.
 fn is_rows(above: &[Line], variable: &Name) -> bool
-    ensures { result ≡ is_rows (held_in (in_reach (upward above.now)) variable.now) }
+    ensures { result ≡ is_kind holds.Rows (held_in (near (reach_after (all_stated above.now))) variable.now) }
 {
     matches!(held(above, variable), Some(Holds::Rows))
 }
 
 // Whether the lines above set each variable that a statement uses, to what it needs.
 fn are_held_by_statement(above: &[Line], statement: &Statement) -> bool
-    ensures { result ≡ are_held (in_reach (upward above.now)) (Does (step_of statement.now)) }
+    ensures { result ≡ are_held (near (reach_after (all_stated above.now))) (Does (step_of statement.now)) }
 {
     match statement {
         Statement::Write { key, value, .. } => key_is_held(above, key)
@@ -173,7 +177,7 @@ fn are_held_by_statement(above: &[Line], statement: &Statement) -> bool
 
 // Whether the lines above set each variable that a line uses, to what the line needs.
 fn are_held(above: &[Line], line: &Line) -> bool
-    ensures { result ≡ are_held (in_reach (upward above.now)) (stated line.now) }
+    ensures { result ≡ are_held (near (reach_after (all_stated above.now))) (stated line.now) }
 {
     match line {
         Line::Does(statement) => are_held_by_statement(above, statement),
@@ -184,7 +188,7 @@ fn are_held(above: &[Line], line: &Line) -> bool
 
 // Whether one of the lines above sets the variable that a line sets.
 fn is_set_again(above: &[Line], line: &Line) -> bool
-    ensures { result ≡ is_set_in (upward above.now) (set_by (stated line.now)) }
+    ensures { result ≡ option_map_or (λ v. is_some (held_in (all_after (all_stated above.now)) v.name)) (set_by (stated line.now)) false }
 {
     match set_by(line) {
         Some(variable) => is_set(above, &variable.name),
@@ -194,7 +198,7 @@ fn is_set_again(above: &[Line], line: &Line) -> bool
 
 // Whether a line is wrong below the lines above it.
 fn is_wrong(above: &[Line], line: &Line) -> bool
-    ensures { result ≡ is_wrong_below (upward above.now) (stated line.now) }
+    ensures { result ≡ has_wrong_variable (known_after (all_stated above.now)) (stated line.now) [] }
 {
     is_set_again(above, line) || !are_held(above, line)
 }
@@ -202,7 +206,7 @@ fn is_wrong(above: &[Line], line: &Line) -> bool
 /// The first line, counted from 1, at which a variable is wrong.
 #[tactic(auto, unfolding(crate::specs::Faults::variable_fault))]
 pub(crate) fn variable_fault(lines: &[Line]) -> Option<u32>
-    requires { length lines.now ≤ 64 }
+    requires { length lines.now ≤ MOST_LINES }
     ensures { result ≡ variable_fault (all_stated lines.now) }
 {
     for (i, line) in lines.iter().enumerate() {

@@ -1,12 +1,14 @@
 // What stands for a variable, a key, a value and a count in a line.
-ghost use Rattle.std.specs.Prelude.{◌≡◌, ℕ, List, [], ◌∷◌, Bool, IfOk, decimal};
+ghost use Rattle.std.specs.Prelude.{◌≡◌, ℕ, List, ◌∷◌, Bool, IfOk, decimal};
 ghost use Rattle.std.specs.Bool.{then_some};
 ghost use Rattle.std.specs.List.{list_all};
 ghost use Rattle.anti_ids.specs.Ascii.{dollar};
+ghost use Rattle.anti_ids.specs.Decimals.{decimal_in};
 ghost use Rattle.anti_ids.specs.Names.{is_name, is_plain};
-ghost use Rattle.anti_lang.specs.Texts.{is_variable, is_literal, is_literal_byte, has_dollar};
+ghost use Rattle.anti_ids.specs.declared.limits.TheConstants.{MOST_TURNS};
+ghost use Rattle.anti_lang.specs.Texts.{variable_of, is_literal, is_literal_byte};
 ghost use Rattle.anti_lang.specs.Printing.{key_text, value_text};
-ghost use Rattle.anti_lang.specs.Vocabulary.{key_of, key_behind, key_fits, value_of, value_behind, value_fits, count_of};
+ghost use Rattle.anti_lang.specs.Vocabulary.{key_of, value_of};
 
 use crate::name::{any_name, plain_name};
 use crate::statement::{KeyWord, ValueWord};
@@ -24,7 +26,7 @@ pub fn plain_text(alloc: Global, bytes: &[u8]) -> Result<Bytes, NoMemory>
 
 /// The variable that a word is: a plain name other than `in`.
 pub fn variable_of(word: &[u8]) -> Option<Name>
-    ensures { result ≡ then_some (is_variable word.now) word.now }
+    ensures { result ≡ variable_of word.now }
 {
     if word == b"in".as_slice() {
         return None;
@@ -44,7 +46,7 @@ fn variable_text(alloc: Global, name: &[u8]) -> Result<Bytes, NoMemory>
 
 // What a word of `$` and these bytes is for a key.
 fn key_behind(name: &[u8]) -> Option<KeyWord>
-    ensures { (is_good : List ℕ → Bool) → result ≡ then_some (key_fits is_good (key_behind name.now)) (key_behind name.now) }
+    ensures { (is_good : List ℕ → Bool) → result ≡ key_of is_good (dollar ∷ name.now) }
 {
     if name == b"in".as_slice() {
         return Some(KeyWord::Input);
@@ -54,7 +56,7 @@ fn key_behind(name: &[u8]) -> Option<KeyWord>
 
 /// What a word is for a key that is a plain name.
 pub fn key_of(word: &[u8]) -> Option<KeyWord>
-    ensures { result ≡ then_some (key_fits is_plain (key_of word.now)) (key_of word.now) }
+    ensures { result ≡ key_of is_plain word.now }
 {
     match word {
         [b'$', name @ ..] => key_behind(name),
@@ -64,7 +66,7 @@ pub fn key_of(word: &[u8]) -> Option<KeyWord>
 
 /// What a word is for the key of a cell, which may be any name.
 pub fn cell_of(word: &[u8]) -> Option<KeyWord>
-    ensures { result ≡ then_some (key_fits is_name (key_of word.now)) (key_of word.now) }
+    ensures { result ≡ key_of is_name word.now }
 {
     match word {
         [b'$', name @ ..] => key_behind(name),
@@ -87,7 +89,7 @@ pub fn key_text(alloc: Global, key: &KeyWord) -> Result<Bytes, NoMemory>
 fn literal_of(alloc: Global, word: &[u8]) -> Result<Option<Value>, NoMemory>
     ensures { IfOk result (λ value. value ≡ then_some (is_literal word.now) word.now) }
 {
-    if word.is_empty() || word[0] == b'$' || !all_literal(word) {
+    if word.is_empty() || !all_literal(word) {
         return Ok(None);
     }
     match Value::new(alloc, word) {
@@ -112,7 +114,7 @@ fn all_literal(word: &[u8]) -> bool
 
 // What a word of `$` and these bytes is for a value.
 fn value_behind(name: &[u8]) -> Option<ValueWord>
-    ensures { result ≡ then_some (value_fits (value_behind name.now)) (value_behind name.now) }
+    ensures { result ≡ value_of (dollar ∷ name.now) }
 {
     if name == b"in".as_slice() {
         return Some(ValueWord::Input);
@@ -122,7 +124,7 @@ fn value_behind(name: &[u8]) -> Option<ValueWord>
 
 /// What a word is for a value.
 pub fn value_of(alloc: Global, word: &[u8]) -> Result<Option<ValueWord>, NoMemory>
-    ensures { IfOk result (λ value. value ≡ then_some (value_fits (value_of word.now)) (value_of word.now)) }
+    ensures { IfOk result (λ value. value ≡ value_of word.now) }
 {
     match word {
         [b'$', name @ ..] => Ok(value_behind(name)),
@@ -146,7 +148,7 @@ pub fn value_text(alloc: Global, value: &ValueWord) -> Result<Bytes, NoMemory>
 
 /// The number of turns that a word is.
 pub fn count_of(word: &[u8]) -> Option<u32>
-    ensures { result ≡ count_of word.now }
+    ensures { result ≡ decimal_in 1 MOST_TURNS word.now }
 {
     let count = read_decimal(word, 1, MOST_TURNS as u64)?;
     Some(count as u32)

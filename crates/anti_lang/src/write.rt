@@ -1,30 +1,31 @@
 // The line of a write, read and written.
-ghost use Rattle.std.specs.Prelude.{◌≡◌, [], ◌∷◌, Some, IfOk, map, option_map};
-ghost use Rattle.std.specs.Bool.{then_some};
-ghost use Rattle.anti_lang.specs.Held.{held_view};
-ghost use Rattle.anti_lang.specs.Lines.{held_fits, held_of, written, write_form};
-ghost use Rattle.anti_lang.specs.inner.Parses.{read_as};
+ghost use Rattle.std.specs.Prelude.{◌≡◌, ℕ, List, [], ◌∷◌, IfOk, map, option_map};
+ghost use Rattle.std.specs.Option.{option_and_then};
+ghost use Rattle.anti_lang.specs.Lines.{written, write_form};
+ghost use Rattle.anti_lang.specs.Parses.{line_of};
 ghost use Rattle.anti_lang.specs.Printing.{statement_words, spaced};
 ghost use Rattle.anti_lang.specs.Program.{Write};
 
+use crate::form::variable_behind;
 use crate::line::Line;
 use crate::name::plain_name;
 use crate::split::spaced;
 use crate::statement::{KeyWord, Statement, ValueWord};
-use crate::word::{key_of, key_text, value_of, value_text, variable_of};
+use crate::word::{key_of, key_text, value_of, value_text};
 use anti_ids::{Bytes, Name, NoMemory};
 use std::alloc::Global;
 
-/// What the words behind the value of a write say of its variable.
+// What the words behind the value of a write say of its variable.
 #[derive(Clone, Copy)]
-pub struct WriteVariable<'a> {
-    variable: Option<&'a [u8]>,
+struct WriteVariable {
+    variable: Option<Name>,
     untracked: bool,
 }
 
 // Nothing, or `as VARIABLE`, or `as VARIABLE untracked`.
-fn held_of<'a>(words: &[&'a [u8]]) -> Option<WriteVariable<'a>>
-    ensures { option_map held_view result ≡ held_of (map (λ word. word.now) words.now) }
+fn held_of(words: &[&[u8]]) -> Option<WriteVariable>
+    ensures { (store key value : List ℕ) → write_form (store ∷ key ∷ value ∷ map (λ word. word.now) words.now)
+        ≡ option_and_then (λ held. written store key value held.variable held.untracked) result }
 {
     match words {
         [] => Some(WriteVariable {
@@ -37,47 +38,32 @@ fn held_of<'a>(words: &[&'a [u8]]) -> Option<WriteVariable<'a>>
     }
 }
 
-fn held_as<'a>(joint: &[u8], variable: &'a [u8]) -> Option<WriteVariable<'a>>
-    ensures { option_map held_view result ≡ held_of (joint.now ∷ variable.now ∷ []) }
+fn held_as(joint: &[u8], variable: &[u8]) -> Option<WriteVariable>
+    ensures { (store key value : List ℕ) → write_form (store ∷ key ∷ value ∷ joint.now ∷ variable.now ∷ [])
+        ≡ option_and_then (λ held. written store key value held.variable held.untracked) result }
 {
-    if joint != b"as".as_slice() {
-        return None;
-    }
     Some(WriteVariable {
-        variable: Some(variable),
+        variable: Some(variable_behind(joint, variable)?),
         untracked: false,
     })
 }
 
-fn held_untracked<'a>(joint: &[u8], variable: &'a [u8], last: &[u8]) -> Option<WriteVariable<'a>>
-    ensures { option_map held_view result ≡ held_of (joint.now ∷ variable.now ∷ last.now ∷ []) }
+fn held_untracked(joint: &[u8], variable: &[u8], last: &[u8]) -> Option<WriteVariable>
+    ensures { (store key value : List ℕ) → write_form (store ∷ key ∷ value ∷ joint.now ∷ variable.now ∷ last.now ∷ [])
+        ≡ option_and_then (λ held. written store key value held.variable held.untracked) result }
 {
-    if joint != b"as".as_slice() {
-        return None;
-    }
     if last != b"untracked".as_slice() {
         return None;
     }
     Some(WriteVariable {
-        variable: Some(variable),
+        variable: Some(variable_behind(joint, variable)?),
         untracked: true,
     })
 }
 
-// The variable, where it is one. A write without one is not untracked.
-fn variable_held(held: WriteVariable) -> Option<Option<Name>>
-    ensures { result ≡ then_some (held_fits (held_view held.entry).0 (held_view held.entry).1) (held_view held.entry).0 }
-{
-    match held.variable {
-        Some(word) => Some(Some(variable_of(word)?)),
-        None if held.untracked => None,
-        None => Some(None),
-    }
-}
-
 // `write STORE KEY VALUE`, with nothing, `as VARIABLE`, or `as VARIABLE untracked` behind it.
 pub fn write_form(alloc: Global, words: &[&[u8]]) -> Result<Option<Line>, NoMemory>
-    ensures { IfOk result (λ line. line ≡ read_as (write_form (map (λ word. word.now) words.now))) }
+    ensures { IfOk result (λ line. line ≡ option_map line_of (write_form (map (λ word. word.now) words.now))) }
 {
     match words {
         [store, key, value, rest @ ..] => match held_of(rest) {
@@ -95,7 +81,7 @@ fn write_of(
     value: &[u8],
     held: WriteVariable,
 ) -> Result<Option<Line>, NoMemory>
-    ensures { IfOk result (λ line. line ≡ read_as (Some (written store.now key.now value.now (held_view held.entry)))) }
+    ensures { IfOk result (λ line. line ≡ option_map line_of (written store.now key.now value.now held.variable held.untracked)) }
 {
     let Some(store) = plain_name(store) else {
         return Ok(None);
@@ -103,15 +89,12 @@ fn write_of(
     let Some(key) = key_of(key) else {
         return Ok(None);
     };
-    let Some(value) = value_of(alloc, value)? else {
-        return Ok(None);
-    };
-    match variable_held(held) {
-        Some(variable) => Ok(Some(Line::Does(Statement::Write {
+    match value_of(alloc, value)? {
+        Some(value) => Ok(Some(Line::Does(Statement::Write {
             store,
             key,
             value,
-            variable,
+            variable: held.variable,
             untracked: held.untracked,
         }))),
         None => Ok(None),

@@ -4,8 +4,5 @@ use Rattle.anti_lang.proofs.form.poll_of.Goals as goal
 pub returns : goal.returns
 returns c = grind arith
 
-pub returns-in_err-variable_of : goal.returns-in_err-variable_of
-returns-in_err-variable_of c = grind arith
-
 pub returns-in_err-cell_of : goal.returns-in_err-cell_of
 returns-in_err-cell_of c = grind arith

@@ -6,6 +6,3 @@ returns-in_err-key_of c = grind arith
 
 pub returns : goal.returns
 returns c = grind arith
-
-pub returns-in_err-variable_of : goal.returns-in_err-variable_of
-returns-in_err-variable_of c = grind arith

@@ -1,9 +1,10 @@
 use Rattle.std.proofs.Common.{arith}
 use Rattle.std.proofs.lemmas.Grind.{common_steps}
+use Rattle.anti_ids.specs.Names.{is_name}
 use Rattle.anti_lang.proofs.word.cell_of.Goals as goal
 
 pub returns-in-36 : goal.returns-in-36
-returns-in-36 c = grind (arith, common_steps)
+returns-in-36 c = let behind = c.key_behind.ensures is_name in grind (arith, common_steps)
 
 pub bounds-word-0 : goal.bounds-word-0
 bounds-word-0 c = grind arith
