@@ -12,7 +12,7 @@ use Rattle.anti_rules.specs.Keys.{TableKey, has_count, has_range}
 use Rattle.anti_rules.specs.Rules.{rule_line}
 use Rattle.anti_rules.specs.declared.rule.Rule.{Rule}
 use Rattle.anti_rules.specs.declared.place.Part.{Part}
-use Rattle.anti_rules.proofs.Holds.{NoneFails, are_apart, shaped}
+use Rattle.anti_rules.proofs.Holds.{NoneFails, are_apart}
 use Rattle.anti_app.specs.Parts.{name_or_a, few_or}
 use Rattle.anti_app.specs.Sound.{is_few}
 use Rattle.anti_app.proofs.Lookups.{name_stays}
@@ -52,10 +52,6 @@ is_there ms key = not key.is_needed || is_some (get_member key.name ms)
 
 abbrev pub ranges_at : Members → TableKey → Bool
 ranges_at ms key = option_map_or (has_range key.kind) (get_member key.name ms) true
-
--- what a rule on tables asks of a thing that is one
-pub table_kept : (line : Members → Option ℕ) (o : Option Members) (ms : Members) → o ≡ Some ms → option_map_or line o None ≡ None → line ms ≡ None
-table_kept line o ms there kept = shaped line o None ms kept there
 
 -- texts that differ, in the two forms
 pub texts_apart : (ds : List Data) → texts_differ ds ≡ true → are_apart (λ e d. bytes_eq (text_of d) (text_of e)) ds ≡ true

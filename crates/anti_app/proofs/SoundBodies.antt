@@ -1,5 +1,5 @@
 -- What a document without a breach says of the bodies of its handlers.
-use Rattle.std.proofs.Common.{◌≡◌, ℕ, suc, ◌+◌, ◌≤◌, codes, List, [], ◌∷◌, Bool, true, false, ◌||◌, nat_le, length, Option, None, Some, is_none, Result, Ok, Err, if◌then◌else◌, refl, sym, ap, ◌∙◌, arith}
+use Rattle.std.proofs.Common.{◌≡◌, ℕ, suc, ◌+◌, ◌≤◌, List, [], ◌∷◌, Bool, true, nat_le, length, Option, None, Some, is_none, Result, Ok, Err, if◌then◌else◌, refl, sym, ap, ◌∙◌, arith}
 use Rattle.std.specs.List.{list_all}
 use Rattle.std.proofs.lemmas.Bool.{and_from, leb-true, le-leb}
 use Rattle.anti_ids.specs.declared.limits.TheConstants.{MOST_LINES}
@@ -80,8 +80,8 @@ module _ (doc : Members) (fine : first_breach doc ≡ None) (home : List ℕ) wh
       let count : length (lines_of block) ≡ length texts = lines_length 0 texts (lines_of block) read in
       let spans : spans_of block ≤ length texts = few_spans texts block stated.1 in
       let faults = faults_none (lines_of block) (block_fault (lines_of block)) (variable_fault (lines_of block)) block (ap parsed_or (sym read) ∙ stated.1) in
-      let stores : list_all (store_fits doc home) (lines_of block) ≡ true = lines_pass (store_fits doc home) 0 0 (lines_stated d) (lines_of block) read (none StatementStores) in
-      let handlers : list_all (handler_exists doc) (lines_of block) ≡ true = lines_pass (handler_exists doc) 0 0 (lines_stated d) (lines_of block) read (none StatementHandlers) in
+      let stores : list_all (store_fits doc home) (lines_of block) ≡ true = lines_pass (store_fits doc home) d (lines_of block) read (none StatementStores) in
+      let handlers : list_all (handler_exists doc) (lines_of block) ≡ true = lines_pass (handler_exists doc) d (lines_of block) read (none StatementHandlers) in
       let whole : length (lines_of block) ≤ MOST_LINES = omega arith in
       let begun : spans_of block ≤ MOST_LINES = omega arith in
       ap (λ (b : Block). is_sound_body (stores_of doc) (services_of doc) region b) (body_is texts block short stated.1)

@@ -11,21 +11,21 @@ use Rattle.anti_ids.specs.Values.{value_of}
 use Rattle.anti_ids.specs.declared.value.ValueFault.TheVariants.{TooLong, BadUtf8}
 use Rattle.toml.specs.Data.{Data, Members, get_member, as_table}
 use Rattle.anti_rules.specs.Trees.{text_at, things_at, things_in, has_text, is_among, name_in, is_named, named, stores_in, services_in, regions_in}
-use Rattle.anti_rules.specs.Keys.{keys_of, all_fit, has_count}
+use Rattle.anti_rules.specs.Keys.{keys_of, all_fit, has_type, has_count}
 use Rattle.anti_rules.specs.Statements.{has_handler as handler_stated}
-use Rattle.anti_rules.specs.Rules.{table_line, rule_line}
+use Rattle.anti_rules.specs.Rules.{rule_line}
 use Rattle.anti_rules.specs.Order.{first_breach}
 use Rattle.anti_rules.specs.declared.rule.Rule.{Rule}
 use Rattle.anti_rules.specs.declared.rule.Rule.TheVariants.{Typed, Counted, PlainNames, DistinctObjects, DistinctHandlers, ServiceRegions, RequestHandlers}
 use Rattle.anti_rules.specs.declared.place.Part.TheVariants.{Service, Handler, Request}
-use Rattle.anti_rules.proofs.Holds.{NoHandlerFails, each_kept, wanted, each_wanted, are_apart, each_apart, tabled, few_things}
+use Rattle.anti_rules.proofs.Holds.{NoHandlerFails, each_kept, wanted, each_wanted, are_apart, each_apart, tabled, shaped, few_things}
 use Rattle.anti_app.specs.declared.app.ServiceDef.{ServiceDef}
 use Rattle.anti_app.specs.declared.app.HandlerDef.{HandlerDef}
 use Rattle.anti_app.specs.Parts.{number_or_0, regions_of, region_number, stores_of, handler_of, service_of, services_of, service_number, handler_number, handler_in, value_or_empty, request_of, requests_of}
 use Rattle.anti_app.specs.Sound.{are_distinct, is_stored, is_sound_handler, is_sound_service, are_sound_services, has_handler, is_sound_request, are_sound_requests}
 use Rattle.anti_app.specs.Objects.{has_named}
 use Rattle.anti_app.proofs.Lookups.{name_stays, first_found, first_good, first_numbered, first_made, distinct_made}
-use Rattle.anti_app.proofs.Kept.{FailsNone, FailNone, each_sound, each_true, counts_at, table_kept, length_made, names_back, some_passes}
+use Rattle.anti_app.proofs.Kept.{FailsNone, FailNone, each_sound, each_true, counts_at, length_made, names_back, some_passes}
 use Rattle.anti_app.proofs.SoundLemmas.{service_known}
 use Rattle.anti_app.proofs.SoundRegions.{counted, region_below}
 use Rattle.anti_app.proofs.SoundStores.{stored_is}
@@ -66,9 +66,9 @@ module _ (doc : Members) (fine : first_breach doc ≡ None) where
   -- ---- services
   few_handlers : (earlier : List Data) (d : Data) → FailsNone doc [] Service earlier d → nat_le (length (things_in (codes "handler") d)) MOST_HANDLERS ≡ true
   few_handlers earlier d none =
-      let table = tabled (table_line Typed Service) (as_table d) (none Typed) in
+      let table = tabled (all_fit has_type (keys_of Service)) (as_table d) (none Typed) in
       let ms : Members = table.0 in
-      let counts = each_true (counts_at ms) (keys_of Service) (wanted (all_fit has_count (keys_of Service) ms) (table_kept (table_line Counted Service) (as_table d) ms table.1 (none Counted))) in
+      let counts = each_true (counts_at ms) (keys_of Service) (shaped (all_fit has_count (keys_of Service)) (as_table d) ms table.1 (none Counted)) in
       ap (λ (o : Option Members). nat_le (length (option_map_or (things_at (codes "handler")) o [])) MOST_HANDLERS) table.1
       ∙ few_things 0 MOST_HANDLERS (get_member (codes "handler") ms) counts.1.1.0
 

@@ -1,5 +1,5 @@
 -- What a document without a breach says of its stores.
-use Rattle.std.proofs.Common.{◌≡◌, ℕ, ◌^◌, ◌≤◌, codes, List, [], Bool, true, false, not, if◌then◌else◌, ◌&&◌, ◌==◌, nat_eq, nat_lt, nat_le, length, map, Option, None, Some, option_map, slice_get, refl, sym, ap, ◌∙◌, arith}
+use Rattle.std.proofs.Common.{◌≡◌, ℕ, ◌^◌, ◌≤◌, codes, List, [], Bool, true, false, not, ◌&&◌, ◌==◌, nat_eq, nat_lt, nat_le, length, map, Option, None, Some, option_map, slice_get, refl, sym, ap, ◌∙◌, arith}
 use Rattle.std.specs.Option.{option_and_then, option_map_or}
 use Rattle.std.specs.Str.{bytes_eq}
 use Rattle.std.proofs.lemmas.Bool.{and_parts, and_from, false≢true, not-true, eq-eqb, eqb-true, leb-true}
@@ -11,52 +11,46 @@ use Rattle.anti_kind.specs.declared.store_kind.StoreKind.{StoreKind}
 use Rattle.toml.specs.Data.{Data, Members, get_member, as_table, as_integer}
 use Rattle.anti_kind.specs.declared.store_kind.Facts.{Facts}
 use Rattle.anti_kind.specs.Kinds.{facts_of, kind_named, kind_of}
-use Rattle.anti_rules.specs.StoreFacts.{facts_at, facts_named}
+use Rattle.anti_rules.specs.StoreFacts.{kind_is}
 use Rattle.anti_rules.specs.Trees.{text_of, text_at, things_at, things_in, member_in, has_text, is_among, are_among, are_distinct as texts_differ, name_in, is_named, named, stores_in, regions_in}
-use Rattle.anti_rules.specs.Keys.{keys_of, all_fit, has_count, are_there}
-use Rattle.anti_rules.specs.Statements.{near, near_at}
-use Rattle.anti_rules.specs.Rules.{table_line, rule_line}
+use Rattle.anti_rules.specs.Keys.{keys_of, all_fit, has_type, has_count, are_there}
+use Rattle.anti_rules.specs.Statements.{has_store, has_replica, near}
+use Rattle.anti_rules.specs.Rules.{rule_line}
 use Rattle.anti_rules.specs.Order.{first_breach}
 use Rattle.anti_rules.specs.declared.rule.Rule.TheVariants.{There, Typed, Counted, PlainNames, DistinctObjects, Replicas}
 use Rattle.anti_rules.specs.declared.place.Part.TheVariants.{Store}
-use Rattle.anti_rules.proofs.Holds.{each_kept, wanted, are_apart, each_apart, tabled, few_things, some_things, stores_plain}
+use Rattle.anti_rules.proofs.Holds.{each_kept, wanted, are_apart, each_apart, tabled, shaped, few_things, some_things, stores_plain}
 use Rattle.anti_app.specs.Parts.{number_or_0, regions_of, region_number, replica_of, store_of, stores_of, store_number}
 use Rattle.anti_app.specs.Sound.{are_distinct, is_few, is_sound_store, is_stored, serves, is_near, are_sound_stores}
 use Rattle.anti_app.proofs.Lookups.{same_text, text_same, name_stays, first_passes, first_good, first_made, first_numbered, any_made, all_made, some_made, any_found, distinct_made}
-use Rattle.anti_app.proofs.Kept.{FailsNone, each_sound, each_true, counts_at, is_there, table_kept, texts_apart, length_made, names_back, few_is_few, some_passes}
+use Rattle.anti_app.proofs.Kept.{FailsNone, each_sound, each_true, counts_at, is_there, texts_apart, length_made, names_back, few_is_few}
 use Rattle.anti_app.proofs.SoundRegions.{counted, region_same, region_below}
 
 -- what holds of the kind that a word names
-pub kind_has : (test : Facts → Bool) (word : List ℕ) → option_map_or test (facts_named word) false ≡ true → test (facts_of (kind_of word)) ≡ true
+pub kind_has : (test : Facts → Bool) (word : List ℕ) → option_map_or (λ kind. test (facts_of kind)) (kind_named word) false ≡ true → test (facts_of (kind_of word)) ≡ true
 kind_has test word h = by_kind (kind_named word) h
   where
-    by_kind : (kind : Option StoreKind) → option_map_or test (option_map facts_of kind) false ≡ true → test (facts_of (option_map_or (λ kind. kind) kind (kind_of []))) ≡ true
+    by_kind : (kind : Option StoreKind) → option_map_or (λ kind. test (facts_of kind)) kind false ≡ true → test (facts_of (option_map_or (λ kind. kind) kind (kind_of []))) ≡ true
     by_kind None h = absurd (false≢true h)
     by_kind (Some kind) h = h
 
 -- a store that is near: it is there, it has a replica in the region, and its kind passes the test
-near_parts : (home : List ℕ) (test : Facts → Bool) (found : Option Data) → option_map_or test (option_and_then (near_at home) found) false ≡ true
-    → (d : Data) × (found ≡ Some d) × (is_among home (things_in (codes "replicas") d) ≡ true) × (option_map_or test (facts_at d) false ≡ true)
+near_parts : (home : List ℕ) (test : Facts → Bool) (found : Option Data) → option_map_or (near test home) found false ≡ true
+    → (d : Data) × (found ≡ Some d) × (has_replica home d ≡ true) × (kind_is test d ≡ true)
 near_parts home test None h = absurd (false≢true h)
-near_parts home test (Some d) h =
-    let both = by_among (is_among home (things_in (codes "replicas") d)) refl h in (d, refl, both.0, both.1)
-  where
-    by_among : (among : Bool) → is_among home (things_in (codes "replicas") d) ≡ among → option_map_or test (if among then facts_at d else None) false ≡ true
-        → (is_among home (things_in (codes "replicas") d) ≡ true) × (option_map_or test (facts_at d) false ≡ true)
-    by_among true on h = (on, h)
-    by_among false off h = absurd (false≢true h)
+near_parts home test (Some d) h = let both = and_parts (has_replica home d) (kind_is test d) h in (d, refl, both.0, both.1)
 
 module _ (doc : Members) (fine : first_breach doc ≡ None) where
-  store_table : (earlier : List Data) (d : Data) → FailsNone doc [] Store earlier d → (ms : Members) × (as_table d ≡ Some ms) × (table_line Typed Store ms ≡ None)
-  store_table earlier d none = tabled (table_line Typed Store) (as_table d) (none Typed)
+  store_table : (earlier : List Data) (d : Data) → FailsNone doc [] Store earlier d → (ms : Members) × (as_table d ≡ Some ms) × (all_fit has_type (keys_of Store) ms ≡ true)
+  store_table earlier d none = tabled (all_fit has_type (keys_of Store)) (as_table d) (none Typed)
 
   -- the number of its replicas
   replicas_few : (earlier : List Data) (d : Data) → FailsNone doc [] Store earlier d → is_few MOST_REPLICAS (length (things_in (codes "replicas") d)) ≡ true
   replicas_few earlier d none =
       let table = store_table earlier d none in
       let ms : Members = table.0 in
-      let counts = each_true (counts_at ms) (keys_of Store) (wanted (all_fit has_count (keys_of Store) ms) (table_kept (table_line Counted Store) (as_table d) ms table.1 (none Counted))) in
-      let needs = each_true (is_there ms) (keys_of Store) (wanted (are_there (keys_of Store) ms) (table_kept (table_line There Store) (as_table d) ms table.1 (none There))) in
+      let counts = each_true (counts_at ms) (keys_of Store) (shaped (all_fit has_count (keys_of Store)) (as_table d) ms table.1 (none Counted)) in
+      let needs = each_true (is_there ms) (keys_of Store) (shaped (are_there (keys_of Store)) (as_table d) ms table.1 (none There)) in
       ap (λ (o : Option Members). is_few MOST_REPLICAS (length (option_map_or (things_at (codes "replicas")) o []))) table.1
       ∙ and_from (nat_le 1 (length (things_at (codes "replicas") ms))) (nat_le (length (things_at (codes "replicas") ms)) MOST_REPLICAS)
       (some_things 1 MOST_REPLICAS (get_member (codes "replicas") ms) counts.1.1.0 needs.1.1.0)
@@ -129,7 +123,7 @@ module _ (doc : Members) (fine : first_breach doc ≡ None) where
       (λ e same. eq-eqb _ _ (ap (λ (t : List ℕ). number_or_0 (region_number (regions_of doc) t)) (same_text (text_of e) home same))) (things_in (codes "replicas") d) among
 
   -- a store that the rules find for a read is found
-  pub read_near : (home name : List ℕ) (test : Facts → Bool) → option_map_or test (near doc home name) false ≡ true
+  pub read_near : (home name : List ℕ) (test : Facts → Bool) → has_store (near test home) doc name ≡ true
       → is_near (λ kind. test (facts_of kind)) (stores_of doc) name (number_or_0 (region_number (regions_of doc) home)) ≡ true
   unfolding store_of serves
   read_near home name test read =

@@ -1,15 +1,16 @@
 -- What a document without a breach says of its subscriptions.
-use Rattle.std.proofs.Common.{◌≡◌, ℕ, codes, List, [], Bool, true, false, not, ◌&&◌, ◌||◌, ◌==◌, nat_le, length, map, Option, None, Some, slice_get, refl, sym, ap, ◌∙◌}
-use Rattle.std.specs.List.{list_all, list_any}
+use Rattle.std.proofs.Common.{◌≡◌, ℕ, codes, List, [], true, false, not, ◌&&◌, nat_le, Option, None, slice_get, sym, ap, ◌∙◌}
+use Rattle.std.specs.List.{list_all}
 use Rattle.std.specs.Option.{option_map_or}
 use Rattle.std.specs.Str.{bytes_eq}
 use Rattle.std.proofs.lemmas.Bool.{and_parts, and_from, not-true}
 use Rattle.anti_ids.specs.declared.limits.TheConstants.{MOST_SUBS}
 use Rattle.anti_ids.specs.Names.{is_plain}
 use Rattle.toml.specs.Data.{Data, Members, get_member}
-use Rattle.anti_rules.specs.Trees.{text_at, things_at, things_in, is_among, name_in, is_named, named, stores_in, services_in}
-use Rattle.anti_rules.specs.Statements.{has_handler as handler_stated}
-use Rattle.anti_rules.specs.Rules.{rule_line, is_pulled, home_of, replicas_of}
+use Rattle.anti_rules.specs.Trees.{text_at, things_at, things_in, name_in, is_named, named, stores_in, services_in}
+use Rattle.anti_rules.specs.StoreFacts.{kind_is}
+use Rattle.anti_rules.specs.Statements.{has_store, has_replica, has_handler as handler_stated}
+use Rattle.anti_rules.specs.Rules.{rule_line, home_of}
 use Rattle.anti_rules.specs.Order.{first_breach}
 use Rattle.anti_rules.specs.declared.rule.Rule.TheVariants.{PlainNames, DistinctSubs, SubStores, SubHandlers, SubReplicas}
 use Rattle.anti_rules.specs.declared.place.Part.TheVariants.{Sub}
@@ -27,22 +28,20 @@ use Rattle.anti_app.proofs.SoundServices.{service_found, handler_there}
 module _ (doc : Members) (fine : first_breach doc ≡ None) where
   -- the store of a subscription that the rules find hands out where the service is
   handed_there : (store service handler : List ℕ)
-      → handler_stated doc service handler ≡ true → option_map_or is_pulled (named store (stores_in doc)) false ≡ true
-      → is_among (option_map_or (text_at (codes "region")) (named service (services_in doc)) [])
-      (option_map_or (things_in (codes "replicas")) (named store (stores_in doc)) []) ≡ true
+      → handler_stated doc service handler ≡ true → has_store (kind_is (λ facts. facts.pulled)) doc store ≡ true
+      → has_store (has_replica (option_map_or (text_at (codes "region")) (named service (services_in doc)) [])) doc store ≡ true
       → option_map_or (hands_to (stores_of doc) (number_or_0 (store_number (stores_of doc) store)))
       (slice_get (services_of doc) (number_or_0 (service_number (services_of doc) service))) false ≡ true
   unfolding hands_out store_of service_of
   handed_there store service handler stated pulled near =
       let a_service = some_passes (λ d. is_named handler (things_in (codes "handler") d)) (named service (services_in doc)) stated in
-      let a_store = some_passes is_pulled (named store (stores_in doc)) pulled in
+      let a_store = some_passes (kind_is (λ facts. facts.pulled)) (named store (stores_in doc)) pulled in
       let home : List ℕ = text_at (codes "region") a_service.0 in
       let at_service = service_found doc fine service a_service.0 a_service.1 in
       let at_store = store_found doc fine store a_store.0 a_store.1 in
-      let among : is_among home (things_in (codes "replicas") a_store.0) ≡ true =
-      sym (ap (λ (o : Option Data). is_among home (option_map_or (things_in (codes "replicas")) o [])) a_store.1)
-      ∙ (sym (ap (λ (o : Option Data). is_among (option_map_or (text_at (codes "region")) o [])
-      (option_map_or (things_in (codes "replicas")) (named store (stores_in doc)) [])) a_service.1) ∙ near) in
+      let among : has_replica home a_store.0 ≡ true =
+      sym (ap (λ (o : Option Data). option_map_or (has_replica home) o false) a_store.1)
+      ∙ (sym (ap (λ (o : Option Data). has_store (has_replica (option_map_or (text_at (codes "region")) o [])) doc store) a_service.1) ∙ near) in
       let hands : hands_out (number_or_0 (region_number (regions_of doc) home)) (store_of (regions_of doc) a_store.0) ≡ true =
       and_from _ _ (kind_has (λ facts. facts.pulled) (text_at (codes "kind") a_store.0) a_store.2) (replica_there doc fine home a_store.0 among) in
       ap (λ (i : ℕ). option_map_or (hands_to (stores_of doc) (number_or_0 (store_number (stores_of doc) store))) (slice_get (services_of doc) i) false)
@@ -64,8 +63,8 @@ module _ (doc : Members) (fine : first_breach doc ≡ None) where
       (and_from _ _ (ap is_plain (name_stays (text_at (codes "channel") d) plain.1) ∙ plain.1)
       (and_from _ _ (handler_there doc fine service handler stated)
       (handed_there store service handler stated
-      (wanted (option_map_or is_pulled (named store (stores_in doc)) false) (none SubStores))
-      (wanted (is_among (home_of doc d) (replicas_of doc d)) (none SubReplicas)))))
+      (wanted (has_store (kind_is (λ facts. facts.pulled)) doc store) (none SubStores))
+      (wanted (has_store (has_replica (home_of doc d)) doc store) (none SubReplicas)))))
 
   subs_plain : list_all (λ d. is_plain (name_in d)) (things_at (codes "sub") doc) ≡ true
   subs_plain =

@@ -1,5 +1,5 @@
 -- Each handler of a document without a breach states a body.
-use Rattle.std.proofs.Common.{◌≡◌, ℕ, List, [], ◌∷◌, ◌++◌, Bool, true, length, map, nat_le, Option, Some, None, is_some, ap, ◌∙◌, refl, if◌then◌else◌, codes}
+use Rattle.std.proofs.Common.{◌≡◌, ℕ, List, [], ◌∷◌, ◌++◌, Bool, true, false, length, map, nat_le, Option, Some, None, is_some, ap, ◌∙◌, refl, if◌then◌else◌, codes}
 use Rattle.std.specs.Bool.{then_some}
 use Rattle.std.specs.List.{list_all}
 use Rattle.std.specs.Option.{option_map_or}
@@ -10,24 +10,30 @@ use Rattle.anti_ids.specs.List.{Listed}
 use Rattle.anti_lang.specs.Parsing.{parsed}
 use Rattle.anti_lang.specs.declared.statement.Statement.{Statement}
 use Rattle.anti_rules.specs.Trees.{text_of, text_at, things_at, things_in, services_in}
-use Rattle.anti_rules.specs.Keys.{keys_of, all_fit, has_count}
-use Rattle.anti_rules.specs.Statements.{body_in}
-use Rattle.anti_rules.specs.Rules.{table_line, rule_line}
+use Rattle.anti_rules.specs.Keys.{keys_of, all_fit, has_type, has_count, is_text}
+use Rattle.anti_rules.specs.Statements.{body_in, bad_line}
+use Rattle.anti_rules.specs.Rules.{wants, rule_line}
 use Rattle.anti_rules.specs.Order.{rules, breach_from, first_breach}
 use Rattle.anti_rules.specs.inner.Parses.{if_parsed, body_stated, body_parses, bodies_parse, service_parses, all_parse, all_bodies, parsed_bodies}
 use Rattle.anti_rules.specs.declared.table_keys.KeyKind.TheVariants.{Text, Things}
 use Rattle.anti_rules.specs.declared.rule.Rule.{Rule}
 use Rattle.anti_rules.specs.declared.rule.Rule.TheVariants.{Typed, Counted, Statements, Blocks, Variables}
 use Rattle.anti_rules.specs.declared.place.Part.TheVariants.{Handler}
-use Rattle.anti_rules.proofs.Holds.{NoneFails, NoHandlerFails, each_kept, wanted, tabled, shaped, few_things, states_block}
+use Rattle.anti_rules.proofs.Holds.{NoneFails, NoHandlerFails, each_kept, tabled, shaped, few_things, states_block}
+
+-- what is asked of a table before its lines
+form_first : (fits : Bool) (line : Option ℕ) → (if fits then line else Some 0) ≡ None → wants fits ≡ None
+form_first true line h = refl
+form_first false line h = h
 
 -- A handler that fails no rule has at most `MOST_LINES` lines.
 pub few_lines : (doc : Members) (home : List ℕ) (earlier : List Data) (d : Data) → ((rule : Rule) → rule_line rule doc home Handler earlier d ≡ None)
     → nat_le (length (body_in d)) MOST_LINES ≡ true
 few_lines doc home earlier d none =
-    let table = tabled (table_line Typed Handler) (as_table d) (none Typed) in
+    let typed : Members → Bool = all_fit has_type (keys_of Handler) in
+    let table = tabled typed (as_table d) (form_first (option_map_or typed (as_table d) false) (bad_line is_text d) (none Typed)) in
     let ms : Members = table.0 in
-    let counted = wanted (all_fit has_count (keys_of Handler) ms) (shaped (table_line Counted Handler) (as_table d) None ms (none Counted) table.1) in
+    let counted = shaped (all_fit has_count (keys_of Handler)) (as_table d) ms table.1 (none Counted) in
     let counts = and_parts (option_map_or (has_count Text) (get_member (codes "name") ms) true) _ counted in
     let body = and_parts (option_map_or (has_count (Things 0 MOST_LINES)) (get_member (codes "body") ms) true) _ counts.1 in
     ap (λ (o : Option Members). nat_le (length (option_map_or (λ found. things_at (codes "body") found) o [])) MOST_LINES) table.1

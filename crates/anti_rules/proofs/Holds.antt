@@ -1,11 +1,11 @@
 -- What is known of a document without a breach.
-use Rattle.std.proofs.Common.{◌≡◌, ℕ, ◌+◌, List, [], ◌∷◌, ◌++◌, Bool, true, false, not, ◌&&◌, ◌||◌, length, map, Option, Some, None, is_some, Result, Ok, Err, refl, ap, sym, ◌∙◌, if◌then◌else◌, codes, nat_le}
-use Rattle.std.specs.List.{list_all, list_any}
+use Rattle.std.proofs.Common.{◌≡◌, ℕ, ◌+◌, List, [], ◌∷◌, ◌++◌, Bool, true, false, cond, not, ◌&&◌, ◌||◌, length, map, Option, Some, None, is_some, option_map, Result, Ok, Err, refl, ap, sym, ◌∙◌, if◌then◌else◌, codes, nat_le}
+use Rattle.std.specs.List.{list_all, list_any, position_from}
 use Rattle.std.specs.Option.{option_or, option_map_or, option_and_then}
 use Rattle.std.proofs.lemmas.Bool.{and_parts}
 use Rattle.std.proofs.lemmas.List.Folds.{list_all-append}
 use Rattle.std.proofs.Math.Dec.{leb-zero}
-use Rattle.toml.specs.Data.{Data, Members, get_member, as_array}
+use Rattle.toml.specs.Data.{Data, table, Members, get_member, as_array}
 use Rattle.anti_ids.specs.Names.{is_plain}
 use Rattle.anti_rules.specs.Keys.{keys_of, all_fit, has_count, elements_of}
 use Rattle.anti_rules.specs.declared.table_keys.KeyKind.TheVariants.{Things}
@@ -14,14 +14,15 @@ use Rattle.anti_lang.specs.Program.{Block}
 use Rattle.anti_lang.specs.Lines.{Line, read_line}
 use Rattle.anti_lang.specs.Parsing.{parsed, parsed_or, body_or, lines_from, read_or}
 use Rattle.anti_lang.specs.Faults.{block_fault, variable_fault}
+use Rattle.anti_lang.specs.declared.fault.LangCode.{LangCode}
 use Rattle.anti_lang.specs.declared.fault.LangCode.TheVariants.{Unknown, Block as BadBlock, Variable}
 use Rattle.anti_lang.specs.declared.fault.LangFault.{LangFault}
 use Rattle.anti_lang.specs.declared.fault.LangFault.TheVariants as faults
 use Rattle.anti_rules.specs.Trees.{text_of, text_at, things_at, things_in, stores_in, services_in, regions_in, elements, name_in}
-use Rattle.anti_rules.specs.Statements.{body_in, body_fault, fault_of, line_with, first_line, next}
-use Rattle.anti_rules.specs.Rules.{wants, table_line, rule_line}
+use Rattle.anti_rules.specs.Statements.{body_in, fault_line, line_with, line_passes, bad_line, next}
+use Rattle.anti_rules.specs.Rules.{wants, form_line, rule_line}
 use Rattle.anti_rules.specs.Walk.{placed, passed, first_from, first_at, first_handler, first_place}
-use Rattle.anti_rules.specs.Order.{rules, breach_or, breach_from, first_breach}
+use Rattle.anti_rules.specs.Order.{rules, breach_from, first_breach}
 use Rattle.anti_rules.specs.declared.breach.Breach.{Breach}
 use Rattle.anti_rules.specs.declared.rule.Rule.{Rule}
 use Rattle.anti_rules.specs.declared.rule.Rule.TheVariants.{Listed, There, Typed, Counted, Ranged, PlainNames, DistinctRegions, DistinctObjects, DistinctHandlers, DistinctSubs, StoreKinds, Replicas, QueueTries, ServiceRegions, SubStores, SubHandlers, SubReplicas, RequestHandlers, RequestValues, Statements, Blocks, Variables, StatementStores, StatementHandlers}
@@ -35,15 +36,23 @@ abbrev pub AllHold : Members → List Rule → Type 0
 AllHold doc [] = Unit {0}
 AllHold doc (rule ∷ rest) = (first_place rule doc ≡ None) × AllHold doc rest
 
-no_breach : (number : ℕ) (place : Option Place) (later : Option Breach) → breach_or number place later ≡ None → (place ≡ None) × (later ≡ None)
-no_breach number None later h = (refl, h)
-no_breach number (Some place) later h = cc
+pub neither : {A : Type 0} (a b : Option A) → option_or a b ≡ None → (a ≡ None) × (b ≡ None)
+neither None b h = (refl, h)
+neither (Some x) b h = cc
+
+-- what is made of nothing
+pub unmapped : {A B : Type 0} (f : A → B) (o : Option A) → option_map f o ≡ None → o ≡ None
+unmapped f None h = refl
+unmapped f (Some x) h = cc
+
+abbrev breach_at : ℕ → Place → Breach
+breach_at number place = record { rule = number; place = place }
 
 all_from : (doc : Members) (before : ℕ) (tried : List Rule) → breach_from doc before tried ≡ None → AllHold doc tried
 all_from doc before [] h = tt
 all_from doc before (rule ∷ rest) h =
-    let parts = no_breach (before + 1) (first_place rule doc) (breach_from doc (before + 1) rest) h in
-    (parts.0, all_from doc (before + 1) rest parts.1)
+    let parts = neither (option_map (breach_at (before + 1)) (first_place rule doc)) (breach_from doc (before + 1) rest) h in
+    (unmapped (breach_at (before + 1)) (first_place rule doc) parts.0, all_from doc (before + 1) rest parts.1)
 
 -- A document without a breach fails no rule.
 pub all_hold : (doc : Members) → first_breach doc ≡ None → AllHold doc rules
@@ -92,7 +101,7 @@ NoHandlerFails rule doc (service ∷ services) =
 
 -- A rule that a document nowhere fails.
 pub record IsKept (rule : Rule) (doc : Members) : Type 0 where
-  pub top : table_line rule Top doc ≡ None
+  pub top : form_line rule Top (table doc) ≡ None
   pub regions : NoneFails (rule_line rule doc [] Region) [] (regions_in doc)
   pub stores : NoneFails (rule_line rule doc [] Store) [] (stores_in doc)
   pub services : NoneFails (rule_line rule doc [] Service) [] (services_in doc)
@@ -100,10 +109,6 @@ pub record IsKept (rule : Rule) (doc : Members) : Type 0 where
   pub subs : NoneFails (rule_line rule doc [] Sub) [] (things_at (codes "sub") doc)
   pub requests : NoneFails (rule_line rule doc [] Request) [] (things_at (codes "request") doc)
   pub choices : NoneFails (rule_line rule doc [] Choice) [] (things_at (codes "choices") doc)
-
-pub neither : {A : Type 0} (a b : Option A) → option_or a b ≡ None → (a ≡ None) × (b ≡ None)
-neither None b h = (refl, h)
-neither (Some x) b h = cc
 
 no_line : (part : Part) (item : ℕ) (line : Option ℕ) → placed part item line ≡ None → line ≡ None
 no_line part item None h = refl
@@ -127,7 +132,7 @@ no_handler_fails rule doc before (service ∷ services) h =
 -- A rule without a place is kept by each part.
 pub kept : (rule : Rule) (doc : Members) → first_place rule doc ≡ None → IsKept rule doc
 kept rule doc h =
-    let one = neither (placed Top 0 (table_line rule Top doc)) _ h in
+    let one = neither (placed Top 0 (form_line rule Top (table doc))) _ h in
     let two = neither (first_at rule doc Region (codes "regions")) _ one.1 in
     let three = neither (first_at rule doc Store (codes "store")) _ two.1 in
     let four = neither (first_at rule doc Service (codes "service")) _ three.1 in
@@ -135,7 +140,7 @@ kept rule doc h =
     let six = neither (first_at rule doc Sub (codes "sub")) _ five.1 in
     let seven = neither (first_at rule doc Request (codes "request")) (first_at rule doc Choice (codes "choices")) six.1 in
     record {
-      top = no_line Top 0 (table_line rule Top doc) one.0;
+      top = no_line Top 0 (form_line rule Top (table doc)) one.0;
       regions = none_fails (rule_line rule doc [] Region) Region 0 [] (regions_in doc) two.0;
       stores = none_fails (rule_line rule doc [] Store) Store 0 [] (stores_in doc) three.0;
       services = none_fails (rule_line rule doc [] Service) Service 0 [] (services_in doc) four.0;
@@ -208,14 +213,14 @@ each_apart line same differ ds h = (apart_behind line same differ [] ds h).1
 
 -- ---- tables, and what stands at their keys
 -- A thing that must be a table is one, and what is asked of the table holds.
-pub tabled : (line : Members → Option ℕ) (ms : Option Members) → option_map_or line ms (Some 0) ≡ None → (found : Members) × (ms ≡ Some found) × (line found ≡ None)
-tabled line None h = cc
-tabled line (Some found) h = (found, refl, h)
+pub tabled : (test : Members → Bool) (ms : Option Members) → wants (option_map_or test ms false) ≡ None → (found : Members) × (ms ≡ Some found) × (test found ≡ true)
+tabled test None h = cc
+tabled test (Some found) h = (found, refl, wanted (test found) h)
 
 -- What is asked of a table holds of one that is there.
-pub shaped : (line : Members → Option ℕ) (ms : Option Members) (other : Option ℕ) (found : Members) → option_map_or line ms other ≡ None → ms ≡ Some found → line found ≡ None
-shaped line None other found h there = cc
-shaped line (Some ms) other found h there = let same : ms ≡ found = cc in ap line (sym same) ∙ h
+pub shaped : (test : Members → Bool) (ms : Option Members) (found : Members) → ms ≡ Some found → wants (option_map_or test ms true) ≡ None → test found ≡ true
+shaped test None found there h = cc
+shaped test (Some ms) found there h = let same : ms ≡ found = cc in ap test (sym same) ∙ wanted (test ms) h
 
 none_few : (most : ℕ) → nat_le 0 most ≡ true
 none_few most = leb-zero most
@@ -259,8 +264,7 @@ no_memory texts h = read_memory (lines_from 0 texts) h
 
 -- no fault of any code
 faultless : (stated : Result Block LangFault) → (stated ≡ Err faults.NoMemory → ⊥)
-    → line_with Unknown (fault_of stated) ≡ None → line_with BadBlock (fault_of stated) ≡ None → line_with Variable (fault_of stated) ≡ None
-    → (block : Block) × (stated ≡ Ok block)
+    → line_with stated Unknown ≡ None → line_with stated BadBlock ≡ None → line_with stated Variable ≡ None → (block : Block) × (stated ≡ Ok block)
 faultless (Ok block) memory unknown bad variable = (block, refl)
 faultless (Err faults.NoMemory) memory unknown bad variable = absurd (memory refl)
 faultless (Err (faults.Line line Unknown)) memory unknown bad variable = cc
@@ -268,34 +272,38 @@ faultless (Err (faults.Line line BadBlock)) memory unknown bad variable = cc
 faultless (Err (faults.Line line Variable)) memory unknown bad variable = cc
 
 -- A handler of at most 64 lines that fails none of the rules on bodies states a block.
-pub states_block : (d : Data) → nat_le (length (body_in d)) 64 ≡ true
-    → line_with Unknown (body_fault d) ≡ None → line_with BadBlock (body_fault d) ≡ None → line_with Variable (body_fault d) ≡ None
+pub states_block : (d : Data) → nat_le (length (body_in d)) 64 ≡ true → fault_line Unknown d ≡ None → fault_line BadBlock d ≡ None → fault_line Variable d ≡ None
     → (block : Block) × (parsed (map text_of (body_in d)) ≡ Ok block)
 states_block d few unknown bad variable =
-    let fault : body_fault d ≡ fault_of (parsed (map text_of (body_in d))) = ap (λ b. if b then fault_of (parsed (map text_of (body_in d))) else None) few in
-    faultless (parsed (map text_of (body_in d))) (no_memory (map text_of (body_in d)))
-    (ap (line_with Unknown) (sym fault) ∙ unknown) (ap (line_with BadBlock) (sym fault) ∙ bad) (ap (line_with Variable) (sym fault) ∙ variable)
+    let read : Result Block LangFault = parsed (map text_of (body_in d)) in
+    let tried : (code : LangCode) → fault_line code d ≡ line_with read code = λ code. ap (λ b. if b then line_with read code else None) few in
+    faultless read (no_memory (map text_of (body_in d))) (sym (tried Unknown) ∙ unknown) (sym (tried BadBlock) ∙ bad) (sym (tried Variable) ∙ variable)
 
-passes_test : (b : Bool) (found : Option ℕ) (place : ℕ) → (if b then found else Some place) ≡ None → (b ≡ true) × (found ≡ None)
+passes_test : (b : Bool) (found : Option ℕ) (place : ℕ) → cond (not b) (Some place) found ≡ None → (b ≡ true) × (found ≡ None)
 passes_test true found place h = (refl, h)
 passes_test false found place h = cc
 
-line_passes : (test : Line → Bool) (number place : ℕ) (line : Option Line) (rest : Result (List Line) ℕ) (found : Option ℕ) (lines : List Line)
+line_good : (test : Line → Bool) (number place : ℕ) (line : Option Line) (rest : Result (List Line) ℕ) (found : Option ℕ) (lines : List Line)
     → ((later : List Line) → rest ≡ Ok later → found ≡ None → list_all test later ≡ true)
-    → read_or number line rest ≡ Ok lines → (if option_map_or test line true then found else Some place) ≡ None → list_all test lines ≡ true
-line_passes test number place None rest found lines more read h = cc
-line_passes test number place (Some line) (Err at) found lines more read h = cc
-line_passes test number place (Some line) (Ok later) found [] more read h = cc
-line_passes test number place (Some line) (Ok later) found (first ∷ others) more read h =
+    → read_or number line rest ≡ Ok lines → cond (not (option_map_or test line true)) (Some place) found ≡ None → list_all test lines ≡ true
+line_good test number place None rest found lines more read h = cc
+line_good test number place (Some line) (Err at) found lines more read h = cc
+line_good test number place (Some line) (Ok later) found [] more read h = cc
+line_good test number place (Some line) (Ok later) found (first ∷ others) more read h =
     let same : line ≡ first = cc in let rest : later ≡ others = cc in
     let test_of = passes_test (test line) found place h in
     ap (λ b. b && list_all test others) (ap test (sym same) ∙ test_of.0) ∙ (ap (list_all test) (sym rest) ∙ more later refl test_of.1)
 
+lines_good : (test : Line → Bool) (done at : ℕ) (ds : List Data) (lines : List Line) → lines_from done (map text_of ds) ≡ Ok lines
+    → position_from (λ line. not (line_passes test line)) at ds ≡ None → list_all test lines ≡ true
+lines_good test done at [] [] read h = refl
+lines_good test done at [] (line ∷ lines) read h = cc
+lines_good test done at (d ∷ ds) lines read h =
+    line_good test (done + 1) at (read_line (words (text_of d))) (lines_from (done + 1) (map text_of ds)) (position_from (λ line. not (line_passes test line)) (at + 1) ds) lines
+    (λ later rest none. lines_good test (done + 1) (at + 1) ds later rest none) read h
+
 -- What no bad line says of the lines that are read.
-pub lines_pass : (test : Line → Bool) (done before : ℕ) (ds : List Data) (lines : List Line) → lines_from done (map text_of ds) ≡ Ok lines
-    → first_line test before ds ≡ None → list_all test lines ≡ true
-lines_pass test done before [] [] read h = refl
-lines_pass test done before [] (line ∷ lines) read h = cc
-lines_pass test done before (d ∷ ds) lines read h =
-    line_passes test (done + 1) (next before) (read_line (words (text_of d))) (lines_from (done + 1) (map text_of ds)) (first_line test (next before) ds) lines
-    (λ later rest none. lines_pass test (done + 1) (next before) ds later rest none) read h
+pub lines_pass : (test : Line → Bool) (d : Data) (lines : List Line) → lines_from 0 (map text_of (body_in d)) ≡ Ok lines
+    → bad_line (line_passes test) d ≡ None → list_all test lines ≡ true
+lines_pass test d lines read none =
+    lines_good test 0 0 (body_in d) lines read (unmapped next (position_from (λ line. not (line_passes test line)) 0 (body_in d)) none)

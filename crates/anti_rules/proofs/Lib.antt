@@ -5,3 +5,4 @@ pub mod StatedLines
 pub mod ParsedBodies
 pub mod FittingLines
 pub mod PartOrder
+pub mod FormLemmas

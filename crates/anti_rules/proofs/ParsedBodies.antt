@@ -1,10 +1,10 @@
 -- What the bodies of a document show, where each handler states one.
-use Rattle.std.proofs.Common.{◌≡◌, ℕ, ◌+◌, List, [], ◌∷◌, ◌++◌, Bool, true, false, length, map, nat_le, Option, Some, None, is_some, unwrap_or, option_map, Result, Ok, Err, refl, sym, ap, ◌∙◌, if◌then◌else◌, codes}
+use Rattle.std.proofs.Common.{◌≡◌, ℕ, ◌+◌, List, [], ◌∷◌, ◌++◌, Bool, true, false, cond, not, length, map, nat_le, Option, Some, None, is_some, unwrap_or, option_map, Result, Ok, Err, refl, sym, ap, ◌∙◌, if◌then◌else◌, codes}
 use Rattle.std.specs.Bool.{then_some}
-use Rattle.std.specs.List.{list_all}
+use Rattle.std.specs.List.{list_all, position_from}
 use Rattle.std.specs.Option.{option_or, option_map_or}
 use Rattle.std.proofs.lemmas.Bool.{and_parts, and_from}
-use Rattle.toml.specs.Data.{Data, Members}
+use Rattle.toml.specs.Data.{Data, table, Members}
 use Rattle.anti_ids.specs.declared.limits.TheConstants.{MOST_LINES}
 use Rattle.anti_ids.specs.List.{Listed, empty}
 use Rattle.anti_lang.specs.Words.{words}
@@ -13,15 +13,16 @@ use Rattle.anti_lang.specs.Bodies.{block_of, body_of}
 use Rattle.anti_lang.specs.Lines.{Line, read_line}
 use Rattle.anti_lang.specs.Blocks.{lines_of}
 use Rattle.anti_lang.specs.Parsing.{parsed, lines_from, read_or}
+use Rattle.anti_lang.specs.declared.fault.LangCode.{LangCode}
 use Rattle.anti_lang.specs.declared.fault.LangCode.TheVariants.{Unknown, Block as BadBlock, Variable}
 use Rattle.anti_lang.specs.declared.fault.LangFault.{LangFault}
 use Rattle.anti_lang.specs.declared.statement.Statement.{Statement}
 use Rattle.anti_lang.proofs.BodyLaws.{lines_stated}
 use Rattle.anti_lang.proofs.PlainLemmas.{block_again}
 use Rattle.anti_rules.specs.Trees.{text_of, text_at, things_at, things_in, services_in}
-use Rattle.anti_rules.specs.Statements.{next, body_in, body_fault, fault_of, line_with, first_line, bad_line, store_fits, handler_exists}
+use Rattle.anti_rules.specs.Statements.{next, body_in, fault_line, line_with, line_passes, bad_line, store_fits, handler_exists}
 use Rattle.anti_rules.specs.inner.Parses.{line_fits, if_parsed, body_stated, body_parses, handler_body, service_parses, service_bodies, all_parse, all_bodies, parsed_bodies, body_fits, bodies_fit, service_fits, services_fit, is_shown}
-use Rattle.anti_rules.specs.Rules.{table_line, rule_line}
+use Rattle.anti_rules.specs.Rules.{form_line, rule_line}
 use Rattle.anti_rules.specs.Walk.{placed, passed, first_from, first_at, first_handler, first_place}
 use Rattle.anti_rules.specs.declared.rule.Rule.{Rule}
 use Rattle.anti_rules.specs.declared.rule.Rule.TheVariants.{Statements, Blocks, Variables, StatementStores, StatementHandlers}
@@ -49,37 +50,38 @@ stated d h =
     record { block = known.0; few = known.1; read = known.2; body = known.3 }
 
 -- a body that parses has no fault
-faultless : (d : Data) → body_parses d ≡ true → body_fault d ≡ None
-faultless d h =
+faultless : (code : LangCode) (d : Data) → body_parses d ≡ true → fault_line code d ≡ None
+faultless code d h =
     let known = stated d h in
-    ap (λ (few : Bool). if few then fault_of (parsed (map text_of (body_in d))) else None) known.few ∙ ap fault_of known.read
+    ap (λ (few : Bool). if few then line_with (parsed (map text_of (body_in d))) code else None) known.few ∙ ap (λ read. line_with read code) known.read
 
 -- no line is bad of those that are read, where a test refuses none of these
 line_fine : (test : Line → Bool) (number place : ℕ) (line : Option Line) (rest : Result (List Line) ℕ) (found : Option ℕ) (lines : List Line)
     → ((later : List Line) → rest ≡ Ok later → list_all test later ≡ true → found ≡ None)
-    → read_or number line rest ≡ Ok lines → list_all test lines ≡ true → (if option_map_or test line true then found else Some place) ≡ None
+    → read_or number line rest ≡ Ok lines → list_all test lines ≡ true → cond (not (option_map_or test line true)) (Some place) found ≡ None
 line_fine test number place None rest found lines more read all = absurd (cc)
 line_fine test number place (Some line) (Err at) found lines more read all = absurd (cc)
 line_fine test number place (Some line) (Ok later) found lines more read all =
     let same : line ∷ later ≡ lines = cc in
     let parts = and_parts (test line) (list_all test later) (ap (list_all test) same ∙ all) in
-    ap (λ (b : Bool). if b then found else Some place) parts.0 ∙ more later refl parts.1
+    ap (λ (b : Bool). cond (not b) (Some place) found) parts.0 ∙ more later refl parts.1
 
-lines_fine : (test : Line → Bool) (done before : ℕ) (ds : List Data) (lines : List Line) → lines_from done (map text_of ds) ≡ Ok lines
-    → list_all test lines ≡ true → first_line test before ds ≡ None
-lines_fine test done before [] lines read all = refl
-lines_fine test done before (d ∷ ds) lines read all =
-    line_fine test (done + 1) (next before) (read_line (words (text_of d))) (lines_from (done + 1) (map text_of ds)) (first_line test (next before) ds) lines
-    (λ later rest more. lines_fine test (done + 1) (next before) ds later rest more) read all
+lines_fine : (test : Line → Bool) (done at : ℕ) (ds : List Data) (lines : List Line) → lines_from done (map text_of ds) ≡ Ok lines
+    → list_all test lines ≡ true → position_from (λ line. not (line_passes test line)) at ds ≡ None
+lines_fine test done at [] lines read all = refl
+lines_fine test done at (d ∷ ds) lines read all =
+    line_fine test (done + 1) at (read_line (words (text_of d))) (lines_from (done + 1) (map text_of ds)) (position_from (λ line. not (line_passes test line)) (at + 1) ds) lines
+    (λ later rest more. lines_fine test (done + 1) (at + 1) ds later rest more) read all
 
 -- no line of a handler is bad, where a test refuses none of those of its body
-none_bad : (test : Line → Bool) (d : Data) → body_parses d ≡ true → list_all test (lines_of (block_of (handler_body d))) ≡ true → bad_line test d ≡ None
+none_bad : (test : Line → Bool) (d : Data) → body_parses d ≡ true → list_all test (lines_of (block_of (handler_body d))) ≡ true → bad_line (line_passes test) d ≡ None
 none_bad test d h fits =
     let known = stated d h in
     let block : Block = known.block in
     let same : block_of (handler_body d) ≡ block = ap block_of known.body ∙ block_again block in
-    lines_fine test 0 0 (body_in d) (lines_of block) (lines_stated (map text_of (body_in d)) block known.read)
-    (ap (λ (b : Block). list_all test (lines_of b)) (sym same) ∙ fits)
+    ap (option_map next)
+    (lines_fine test 0 0 (body_in d) (lines_of block) (lines_stated (map text_of (body_in d)) block known.read)
+    (ap (λ (b : Block). list_all test (lines_of b)) (sym same) ∙ fits))
 
 -- ---- one rule
 both_none : {A : Type 0} (a b : Option A) → a ≡ None → b ≡ None → option_or a b ≡ None
@@ -105,7 +107,7 @@ Elsewhere line =
 
 -- A rule that only a handler fails, and only one that states no body or whose body does not pass the rule's test.
 record AsksBodies (rule : Rule) (doc : Members) : Type 0 where
-  top : table_line rule Top doc ≡ None
+  top : form_line rule Top (table doc) ≡ None
   elsewhere : (earlier : List Data) (d : Data) → Elsewhere (λ part. rule_line rule doc [] part earlier d)
   handlers : (home : List ℕ) (earlier : List Data) (d : Data) → body_parses d ≡ true → body_fits rule doc home (handler_body d).items ≡ true
       → rule_line rule doc home Handler earlier d ≡ None
@@ -114,17 +116,17 @@ asks_bodies : (rule : Rule) (doc : Members) → is_shown rule doc ≡ true → A
 asks_bodies Statements doc h = record {
   top = refl;
   elsewhere = λ earlier d. (refl, refl, refl, refl, refl, refl);
-  handlers = λ home earlier d parses fits. ap (line_with Unknown) (faultless d parses);
+  handlers = λ home earlier d parses fits. faultless Unknown d parses;
 }
 asks_bodies Blocks doc h = record {
   top = refl;
   elsewhere = λ earlier d. (refl, refl, refl, refl, refl, refl);
-  handlers = λ home earlier d parses fits. ap (line_with BadBlock) (faultless d parses);
+  handlers = λ home earlier d parses fits. faultless BadBlock d parses;
 }
 asks_bodies Variables doc h = record {
   top = refl;
   elsewhere = λ earlier d. (refl, refl, refl, refl, refl, refl);
-  handlers = λ home earlier d parses fits. ap (line_with Variable) (faultless d parses);
+  handlers = λ home earlier d parses fits. faultless Variable d parses;
 }
 asks_bodies StatementStores doc h = record {
   top = refl;

@@ -9,7 +9,7 @@ use Rattle.anti_rules.specs.Trees.{names, elements}
 use Rattle.anti_rules.specs.declared.table_keys.KeyKind.{KeyKind}
 use Rattle.anti_rules.specs.declared.table_keys.KeyKind.TheVariants.{Text, Number, Texts, Things}
 use Rattle.anti_rules.specs.declared.place.Part.{Part}
-use Rattle.anti_rules.specs.declared.place.Part.TheVariants.{Top, Region, Store, Service, Handler, Sub, Request, Choice}
+use Rattle.anti_rules.specs.declared.place.Part.TheVariants.{Top, Store, Service, Handler, Sub, Request}
 
 -- A key: what stands there, and whether it has no default.
 pub record TableKey : Type 0 where
@@ -24,6 +24,7 @@ abbrev pub optional : List ℕ → KeyKind → TableKey
 optional name kind = record { name = name; kind = kind; is_needed = false }
 
 -- The keys of the tables of each part. The lists whose elements have places of their own are `Things`: so are a body and its lines.
+-- A region and a choice are texts, and have none.
 abbrev pub keys_of : Part → List TableKey
 keys_of Top =
     needed (codes "regions") (Things 1 MOST_REGIONS)
@@ -33,44 +34,20 @@ keys_of Top =
     ∷ optional (codes "store") (Things 0 MOST_STORES)
     ∷ optional (codes "service") (Things 0 MOST_SERVICES)
     ∷ optional (codes "sub") (Things 0 MOST_SUBS)
-    ∷ optional (codes "request") (Things 0 MOST_REQUESTS)
-    ∷ []
-keys_of Region = []
+    ∷ optional (codes "request") (Things 0 MOST_REQUESTS) ∷ []
 keys_of Store =
-    needed (codes "name") Text
-    ∷ needed (codes "kind") Text
-    ∷ needed (codes "replicas") (Texts 1 MOST_REPLICAS)
-    ∷ optional (codes "tries") (Number (pos 1) (pos MOST_TRIES))
-    ∷ []
-keys_of Service =
-    needed (codes "name") Text
-    ∷ needed (codes "region") Text
-    ∷ optional (codes "handler") (Things 0 MOST_HANDLERS)
-    ∷ []
-keys_of Handler =
-    needed (codes "name") Text
-    ∷ needed (codes "body") (Things 0 MOST_LINES)
-    ∷ []
+    needed (codes "name") Text ∷ needed (codes "kind") Text
+    ∷ needed (codes "replicas") (Texts 1 MOST_REPLICAS) ∷ optional (codes "tries") (Number (pos 1) (pos MOST_TRIES)) ∷ []
+keys_of Service = needed (codes "name") Text ∷ needed (codes "region") Text ∷ optional (codes "handler") (Things 0 MOST_HANDLERS) ∷ []
+keys_of Handler = needed (codes "name") Text ∷ needed (codes "body") (Things 0 MOST_LINES) ∷ []
 keys_of Sub =
-    needed (codes "name") Text
-    ∷ needed (codes "store") Text
-    ∷ needed (codes "channel") Text
-    ∷ needed (codes "service") Text
-    ∷ needed (codes "handler") Text
-    ∷ []
-keys_of Request =
-    needed (codes "service") Text
-    ∷ needed (codes "handler") Text
-    ∷ optional (codes "value") Text
-    ∷ []
-keys_of Choice = []
+    needed (codes "name") Text ∷ needed (codes "store") Text ∷ needed (codes "channel") Text
+    ∷ needed (codes "service") Text ∷ needed (codes "handler") Text ∷ []
+keys_of Request = needed (codes "service") Text ∷ needed (codes "handler") Text ∷ optional (codes "value") Text ∷ []
+keys_of _ = []
 
 abbrev pub is_text : Data → Bool
 is_text d = is_some (as_str d)
-
--- whether each of some things is a text
-abbrev pub are_texts : List Data → Bool
-are_texts ds = list_all is_text ds
 
 -- whether there are at least and at most so many things
 abbrev pub is_count : ℕ → ℕ → List Data → Bool
@@ -84,7 +61,7 @@ elements_of d = option_map_or elements (as_array d) []
 abbrev pub has_type : KeyKind → Data → Bool
 has_type Text d = is_text d
 has_type (Number least most) d = is_some (as_integer d)
-has_type (Texts least most) d = is_some (as_array d) && are_texts (elements_of d)
+has_type (Texts least most) d = is_some (as_array d) && list_all is_text (elements_of d)
 has_type (Things least most) d = is_some (as_array d)
 
 -- Whether a thing has a number of elements in the range of a key.
@@ -98,13 +75,9 @@ abbrev pub has_range : KeyKind → Data → Bool
 has_range (Number least most) d = option_map_or (λ number. int_le least number && int_le number most) (as_integer d) true
 has_range _ d = true
 
--- Whether a name is that of a key.
-abbrev pub is_key : List TableKey → List ℕ → Bool
-is_key keys name = list_any (λ key. bytes_eq name key.name) keys
-
 -- Whether each key of a table is listed.
 abbrev pub are_listed : List TableKey → Members → Bool
-are_listed keys ms = list_all (is_key keys) (names ms)
+are_listed keys ms = list_all (λ name. list_any (λ key. bytes_eq name key.name) keys) (names ms)
 
 -- Whether each key without a default is there.
 abbrev pub are_there : List TableKey → Members → Bool

@@ -1,6 +1,7 @@
--- What the rules ask of the statements of a body.
-use Rattle.std.specs.Prelude.{ℕ, codes, List, [], ◌∷◌, map, length, Bool, true, false, ◌&&◌, nat_le, min, ◌+◌, ◌-◌, ◌^◌, Option, Some, None, Result, Ok, Err, if◌then◌else◌}
-use Rattle.std.specs.Option.{option_and_then, option_map_or}
+-- What the rules ask of the lines of a body.
+use Rattle.std.specs.Prelude.{ℕ, codes, List, map, length, Bool, true, false, not, ◌&&◌, nat_le, min, ◌+◌, ◌-◌, ◌^◌, Option, Some, None, option_map, Result, Err, if◌then◌else◌}
+use Rattle.std.specs.Option.{option_map_or}
+use Rattle.std.specs.List.{position_from}
 use Rattle.toml.specs.Data.{Data, Members}
 use Rattle.anti_ids.specs.declared.limits.TheConstants.{MOST_LINES}
 use Rattle.anti_lang.specs.Words.{words}
@@ -12,7 +13,7 @@ use Rattle.anti_lang.specs.declared.fault.LangCode.TheVariants.{Unknown, Block a
 use Rattle.anti_lang.specs.declared.fault.LangFault.{LangFault}
 use Rattle.anti_lang.specs.declared.fault.LangFault.TheVariants as faults
 use Rattle.anti_kind.specs.declared.store_kind.Facts.{Facts}
-use Rattle.anti_rules.specs.StoreFacts.{facts_at}
+use Rattle.anti_rules.specs.StoreFacts.{kind_is}
 use Rattle.anti_rules.specs.Trees.{text_of, things_in, is_among, is_named, named, stores_in, services_in}
 
 -- The number of the item or line after this one. Numbers end at the greatest `u32`, which no document reaches.
@@ -23,51 +24,48 @@ next number = min (number + 1) (2 ^ 32 - 1)
 abbrev pub body_in : Data → List Data
 body_in d = things_in (codes "body") d
 
-abbrev pub fault_of : Result Block LangFault → Option LangFault
-fault_of (Ok block) = None
-fault_of (Err fault) = Some fault
+-- the line of a fault, where it has this code
+abbrev pub line_with : Result Block LangFault → LangCode → Option ℕ
+line_with (Err (faults.Line line Unknown)) Unknown = Some line
+line_with (Err (faults.Line line BadBlock)) BadBlock = Some line
+line_with (Err (faults.Line line Variable)) Variable = Some line
+line_with stated code = None
 
--- The first fault of a handler's body. A body of more than `MOST_LINES` lines fails an earlier rule.
-abbrev pub body_fault : Data → Option LangFault
-body_fault d = if nat_le (length (body_in d)) MOST_LINES then fault_of (parsed (map text_of (body_in d))) else None
+-- The line of the first fault of a handler's body, where it has this code. A body of more than `MOST_LINES` lines fails an earlier rule.
+abbrev pub fault_line : LangCode → Data → Option ℕ
+fault_line code d = if nat_le (length (body_in d)) MOST_LINES then line_with (parsed (map text_of (body_in d))) code else None
 
--- the line of a fault with this code
-abbrev pub line_with : LangCode → Option LangFault → Option ℕ
-line_with Unknown (Some (faults.Line line Unknown)) = Some line
-line_with BadBlock (Some (faults.Line line BadBlock)) = Some line
-line_with Variable (Some (faults.Line line Variable)) = Some line
-line_with _ _ = None
+-- The number of the first line of a handler's body that fails a test.
+abbrev pub bad_line : (Data → Bool) → Data → Option ℕ
+bad_line test d = option_map next (position_from (λ line. not (test line)) 0 (body_in d))
 
--- The first of some lines that a test refuses, behind so many. What states nothing fails an earlier rule.
-abbrev pub first_line : (Line → Bool) → ℕ → List Data → Option ℕ
-first_line test before [] = None
-first_line test before (d ∷ ds) =
-    if option_map_or test (read_line (words (text_of d))) true then first_line test (next before) ds else Some (next before)
+-- Whether a line passes a test of what it states. One that states nothing fails an earlier rule.
+abbrev pub line_passes : (Line → Bool) → Data → Bool
+line_passes test line = option_map_or test (read_line (words (text_of line))) true
 
--- The first line of a handler's body that a test refuses.
-abbrev pub bad_line : (Line → Bool) → Data → Option ℕ
-bad_line test d = first_line test 0 (body_in d)
+-- Whether the store of a name is there and passes a test.
+abbrev pub has_store : (Data → Bool) → Members → List ℕ → Bool
+has_store test doc name = option_map_or test (named name (stores_in doc)) false
 
--- What the stores of its kind do, of a store with a replica in this region.
-abbrev pub near_at : List ℕ → Data → Option Facts
-near_at home store = if is_among home (things_in (codes "replicas") store) then facts_at store else None
+-- Whether a store has a replica in a region.
+abbrev pub has_replica : List ℕ → Data → Bool
+has_replica home store = is_among home (things_in (codes "replicas") store)
 
--- The same of the store of this name.
-abbrev pub near : Members → List ℕ → List ℕ → Option Facts
-near doc home name = option_and_then (near_at home) (named name (stores_in doc))
+-- The same, where its kind passes a test.
+abbrev pub near : (Facts → Bool) → List ℕ → Data → Bool
+near test home store = has_replica home store && kind_is test store
 
 -- Whether the store of a statement exists and fits, for a service of this region.
 abbrev pub store_fits : Members → List ℕ → Line → Bool
 store_fits doc home (Does (Write store key value variable untracked)) = is_named store (stores_in doc)
-store_fits doc home (Does (Read store key variable)) = option_map_or (λ facts. facts.keyed) (near doc home store) false
-store_fits doc home (Does (Scan store prefix variable)) = option_map_or (λ facts. facts.scanned) (near doc home store) false
-store_fits doc home (Does (Poll store key variable)) = option_map_or (λ facts. facts.polled) (near doc home store) false
+store_fits doc home (Does (Read store key variable)) = has_store (near (λ facts. facts.keyed) home) doc store
+store_fits doc home (Does (Scan store prefix variable)) = has_store (near (λ facts. facts.scanned) home) doc store
+store_fits doc home (Does (Poll store key variable)) = has_store (near (λ facts. facts.polled) home) doc store
 store_fits doc home _ = true
 
 -- Whether there is a service of this name with a handler of that name.
 abbrev pub has_handler : Members → List ℕ → List ℕ → Bool
-has_handler doc service handler =
-    option_map_or (λ found. is_named handler (things_in (codes "handler") found)) (named service (services_in doc)) false
+has_handler doc service name = option_map_or (λ found. is_named name (things_in (codes "handler") found)) (named service (services_in doc)) false
 
 -- Whether the service that a `call` or a `send` names is there and has the handler.
 abbrev pub handler_exists : Members → Line → Bool

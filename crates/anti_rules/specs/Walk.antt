@@ -1,22 +1,18 @@
 -- The first place of a document that fails a rule. The part comes first, the item next, and the line last.
 use Rattle.std.specs.Prelude.{ℕ, codes, List, [], ◌∷◌, ◌++◌, length, min, ◌+◌, ◌-◌, ◌^◌, Option, None, option_map}
 use Rattle.std.specs.Option.{option_or}
-use Rattle.toml.specs.Data.{Data, Members}
-use Rattle.anti_rules.specs.Trees.{text_at, things_at, things_in}
+use Rattle.toml.specs.Data.{Data, table, Members}
+use Rattle.anti_rules.specs.Trees.{text_at, things_at, things_in, services_in}
 use Rattle.anti_rules.specs.Statements.{next}
-use Rattle.anti_rules.specs.Rules.{table_line, rule_line}
+use Rattle.anti_rules.specs.Rules.{form_line, rule_line}
 use Rattle.anti_rules.specs.declared.rule.Rule.{Rule}
 use Rattle.anti_rules.specs.declared.place.Part.{Part}
 use Rattle.anti_rules.specs.declared.place.Part.TheVariants.{Top, Region, Store, Service, Handler, Sub, Request, Choice}
 use Rattle.anti_rules.specs.declared.place.Place.{Place}
 
--- the place of a line of an item
-abbrev pub place_at : Part → ℕ → ℕ → Place
-place_at part item line = record { part = part; item = item; line = line }
-
 -- the place of the line of an item that fails, where one does
 abbrev pub placed : Part → ℕ → Option ℕ → Option Place
-placed part item line = option_map (place_at part item) line
+placed part item fails = option_map (λ line. record { part = part; item = item; line = line }) fails
 
 -- the number of items after so many more
 abbrev pub passed : ℕ → ℕ → ℕ
@@ -40,14 +36,14 @@ first_handler rule doc before (service ∷ services) =
     (first_from (rule_line rule doc (text_at (codes "region") service) Handler) Handler before [] (things_in (codes "handler") service))
     (first_handler rule doc (passed before (length (things_in (codes "handler") service))) services)
 
--- The first place of a document that fails a rule.
+-- The first place of a document that fails a rule. The top is the document itself, a table.
 abbrev pub first_place : Rule → Members → Option Place
 first_place rule doc =
-    option_or (placed Top 0 (table_line rule Top doc))
+    option_or (placed Top 0 (form_line rule Top (table doc)))
     (option_or (first_at rule doc Region (codes "regions"))
     (option_or (first_at rule doc Store (codes "store"))
     (option_or (first_at rule doc Service (codes "service"))
-    (option_or (first_handler rule doc 0 (things_at (codes "service") doc))
+    (option_or (first_handler rule doc 0 (services_in doc))
     (option_or (first_at rule doc Sub (codes "sub"))
     (option_or (first_at rule doc Request (codes "request"))
     (first_at rule doc Choice (codes "choices"))))))))

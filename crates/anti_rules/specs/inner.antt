@@ -1,3 +1,5 @@
 pub mod Parses
 pub mod Parts
 pub mod Keys
+pub mod Facts
+pub mod Things

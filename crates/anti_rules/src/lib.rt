@@ -4,6 +4,7 @@
 mod bodies;
 mod body;
 mod breach;
+mod form_lines;
 mod place;
 mod rule;
 mod rule_lines;
@@ -17,4 +18,4 @@ mod walk;
 pub use bodies::Bodies;
 pub use breach::{Breach, first_breach};
 pub use place::{Part, Place};
-pub use toml_tree::{has_text, member, member_in, text_at, text_of, things_at, things_in};
+pub use toml_tree::{member, member_in, text_at, text_of, things_at, things_in};

@@ -1,37 +1,54 @@
-ghost use Rattle.std.specs.Prelude.{◌≡◌, option_map};
+ghost use Rattle.std.specs.Prelude.{◌≡◌};
 ghost use Rattle.toml.specs.View.{view, table_view};
 ghost use Rattle.anti_lang.specs.Lines.{Does};
 ghost use Rattle.anti_lang.specs.Bodies.{step_of};
 ghost use Rattle.anti_lang.specs.Stated.{stated};
-ghost use Rattle.anti_rules.specs.Statements.{near_at, near, store_fits, has_handler, handler_exists};
+ghost use Rattle.anti_rules.specs.StoreFacts.{kind_is};
+ghost use Rattle.anti_rules.specs.Statements.{has_store, has_replica, near, store_fits, has_handler, handler_exists};
+ghost use Rattle.anti_rules.specs.inner.Facts.{holds};
 ghost use Rattle.anti_rules.specs.inner.Parses.{line_fits, body_fits};
 
 use crate::rule::Rule;
-use crate::store_facts::facts_at;
+use crate::store_facts::{Fact, kind_is};
 use crate::toml_tree::{is_among, is_named, named, services_in, stores_in, things_in};
 use anti_ids::Name;
-use anti_kind::Facts;
 use anti_lang::{Line, Statement};
 use toml::{Table, Value};
 
-// What the stores of its kind do, of a store with a replica in this region.
-fn near_at(home: &str, store: &Value) -> Option<Facts>
-    ensures { result ≡ near_at home.now (view store.now) }
+/// Whether the store of a name is there, and a fact is so of its kind.
+pub fn store_is(fact: Fact, doc: &Table, name: &[u8]) -> bool
+    ensures { result ≡ has_store (kind_is (holds fact)) (table_view doc.now) name.now }
 {
-    if is_among(home, things_in(store, "replicas")) {
-        facts_at(store)
-    } else {
-        None
+    match named(name, stores_in(doc)) {
+        Some(store) => kind_is(fact, store),
+        None => false,
     }
 }
 
-// The same of the store of this name.
-fn near(doc: &Table, home: &str, name: &Name) -> Option<Facts>
-    ensures { result ≡ near (table_view doc.now) home.now name.now }
+// Whether a store has a replica in a region.
+fn has_replica(home: &str, store: &Value) -> bool
+    ensures { result ≡ has_replica home.now (view store.now) }
+{
+    is_among(home, things_in(store, "replicas"))
+}
+
+/// Whether the store of a name is there, and has a replica in a region.
+pub fn store_reaches(home: &str, doc: &Table, name: &[u8]) -> bool
+    ensures { result ≡ has_store (has_replica home.now) (table_view doc.now) name.now }
+{
+    match named(name, stores_in(doc)) {
+        Some(store) => has_replica(home, store),
+        None => false,
+    }
+}
+
+// The same, where a fact is so of its kind.
+fn store_near(fact: Fact, home: &str, doc: &Table, name: &Name) -> bool
+    ensures { result ≡ has_store (near (holds fact) home.now) (table_view doc.now) name.now }
 {
     match named(name.bytes(), stores_in(doc)) {
-        Some(store) => near_at(home, store),
-        None => None,
+        Some(store) => has_replica(home, store) && kind_is(fact, store),
+        None => false,
     }
 }
 
@@ -51,26 +68,17 @@ fn store_fits(doc: &Table, home: &str, statement: &Statement) -> bool
             store,
             key: _,
             variable: _,
-        } => match near(doc, home, store) {
-            Some(facts) => facts.keyed,
-            None => false,
-        },
+        } => store_near(Fact::Keyed, home, doc, store),
         Statement::Scan {
             store,
             prefix: _,
             variable: _,
-        } => match near(doc, home, store) {
-            Some(facts) => facts.scanned,
-            None => false,
-        },
+        } => store_near(Fact::Scanned, home, doc, store),
         Statement::Poll {
             store,
             key: _,
             variable: _,
-        } => match near(doc, home, store) {
-            Some(facts) => facts.polled,
-            None => false,
-        },
+        } => store_near(Fact::Polled, home, doc, store),
         _ => true,
     }
 }

@@ -1,7 +1,9 @@
 ghost use Rattle.std.specs.Prelude.{◌≡◌, map};
+ghost use Rattle.std.specs.List.{list_all, list_any};
+ghost use Rattle.std.specs.Str.{bytes_eq};
 ghost use Rattle.toml.specs.View.{view, table_view};
 ghost use Rattle.anti_rules.specs.inner.Keys.{key_view, fits};
-ghost use Rattle.anti_rules.specs.Keys.{is_key, are_listed, are_there, is_text, are_texts, elements_of, is_count, has_type, has_count, has_range, all_fit};
+ghost use Rattle.anti_rules.specs.Keys.{are_listed, are_there, is_text, elements_of, is_count, has_type, has_count, has_range, all_fit};
 
 use crate::rule::Rule;
 use crate::table_keys::{KeyKind, TableKey};
@@ -10,7 +12,7 @@ use toml::{Table, Value};
 
 // Whether a name is that of a key.
 fn is_key(keys: &[TableKey], name: &str) -> bool
-    ensures { result ≡ is_key (map key_view keys.now) name.now }
+    ensures { result ≡ list_any (λ key. bytes_eq name.now key.name) (map key_view keys.now) }
 {
     for key in keys {
         if name == key.name {
@@ -53,7 +55,7 @@ pub fn is_text(value: &Value) -> bool
 
 // Whether each of some things is a text.
 fn are_texts(values: &[Value]) -> bool
-    ensures { result ≡ are_texts (map view values.now) }
+    ensures { result ≡ list_all is_text (map view values.now) }
 {
     for value in values {
         if !is_text(value) {

@@ -1,7 +1,7 @@
 ghost use Rattle.std.specs.Prelude.{◌≡◌, map, option_map, option_copied};
 ghost use Rattle.toml.specs.Data.{get_member, as_table};
 ghost use Rattle.toml.specs.View.{view, table_view, array_view};
-ghost use Rattle.anti_rules.specs.Trees.{elements, things_at, things_in, text_of, member_in, text_at, has_text, is_among, are_among, are_distinct, name_in, is_named, named, stores_in, services_in, regions_in};
+ghost use Rattle.anti_rules.specs.Trees.{elements, things_at, things_in, text_of, member_in, text_at, is_among, are_among, are_distinct, name_in, is_named, named, stores_in, services_in, regions_in};
 
 use toml::value::Array;
 use toml::{Table, Value};
@@ -72,13 +72,6 @@ pub fn text_at<'a>(value: &'a Value, key: &str) -> &'a str
         Some(found) => text_of(found),
         None => "",
     }
-}
-
-/// Whether a thing has this text at a key.
-pub fn has_text(value: &Value, key: &str, text: &str) -> bool
-    ensures { result ≡ has_text key.now text.now (view value.now) }
-{
-    text_at(value, key) == text
 }
 
 /// Whether one of some things is this text.

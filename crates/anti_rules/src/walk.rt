@@ -5,9 +5,10 @@ ghost use Rattle.anti_rules.specs.Walk.{placed, passed, first_from, first_at, fi
 ghost use Rattle.anti_rules.specs.inner.Parts.{parts, place_in};
 
 use crate::body::next;
+use crate::form_lines::top_line;
 use crate::place::{Part, Place};
 use crate::rule::Rule;
-use crate::rule_lines::{Thing, rule_line, table_line};
+use crate::rule_lines::{Thing, rule_line};
 use crate::toml_tree::{services_in, text_at, things_at, things_in};
 use anti_ids::NoMemory;
 use std::alloc::Global;
@@ -123,7 +124,7 @@ fn place_in(alloc: Global, rule: Rule, doc: &Table, part: Part) -> Result<Option
     ensures { IfOk result (λ place. place ≡ place_in rule (table_view doc.now) part) }
 {
     match part {
-        Part::Top => Ok(placed(Part::Top, 0, table_line(rule, Part::Top, doc))),
+        Part::Top => Ok(placed(Part::Top, 0, top_line(rule, doc))),
         Part::Region => first_at(alloc, rule, doc, Part::Region, "regions"),
         Part::Store => first_at(alloc, rule, doc, Part::Store, "store"),
         Part::Service => first_at(alloc, rule, doc, Part::Service, "service"),

@@ -1,9 +1,9 @@
 -- The parts of a document one after another, as they are walked for the first place that fails a rule.
 use Rattle.std.specs.Prelude.{codes, List, [], ◌∷◌, Option, None}
 use Rattle.std.specs.Option.{option_or}
-use Rattle.toml.specs.Data.{Members}
+use Rattle.toml.specs.Data.{table, Members}
 use Rattle.anti_rules.specs.Trees.{services_in}
-use Rattle.anti_rules.specs.Rules.{table_line}
+use Rattle.anti_rules.specs.Rules.{form_line}
 use Rattle.anti_rules.specs.Walk.{placed, first_at, first_handler}
 use Rattle.anti_rules.specs.declared.rule.Rule.{Rule}
 use Rattle.anti_rules.specs.declared.place.Part.{Part}
@@ -16,7 +16,7 @@ parts = Top ∷ Region ∷ Store ∷ Service ∷ Handler ∷ Sub ∷ Request ∷
 
 -- the first place in a part that fails a rule
 abbrev pub place_in : Rule → Members → Part → Option Place
-place_in rule doc Top = placed Top 0 (table_line rule Top doc)
+place_in rule doc Top = placed Top 0 (form_line rule Top (table doc))
 place_in rule doc Region = first_at rule doc Region (codes "regions")
 place_in rule doc Store = first_at rule doc Store (codes "store")
 place_in rule doc Service = first_at rule doc Service (codes "service")

@@ -1,7 +1,8 @@
 use Rattle.std.proofs.Common.{◌≡◌, map, drop}
+use Rattle.std.specs.List.{list_all}
 use Rattle.toml.specs.View.{view}
-use Rattle.anti_rules.specs.Keys.{are_texts}
+use Rattle.anti_rules.specs.Keys.{is_text}
 use Rattle.anti_rules.proofs.table.are_texts.Given as goal
 
 abbrev pub invariant-loop-value : goal.invariant-loop-value
-invariant-loop-value l = are_texts (map view (drop l.value-index l.values)) ≡ are_texts (map view l.values)
+invariant-loop-value l = list_all is_text (map view (drop l.value-index l.values)) ≡ list_all is_text (map view l.values)
