@@ -1,4 +1,3 @@
-mod Choosing
 mod Lookups
 mod Numbered
 mod Kept
@@ -11,6 +10,9 @@ mod SoundServices
 mod SoundSubs
 mod SoundChoices
 mod Soundness
+mod Numberable
+mod Payloads
+mod Marks
 pub mod SoundLemmas
 pub mod Blocks
 pub mod Runnable

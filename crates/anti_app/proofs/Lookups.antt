@@ -1,34 +1,23 @@
 -- Things that are found by a test, and what is made of each of them.
-use Rattle.std.proofs.Common.{◌≡◌, ℕ, ◌^◌, ◌<◌, ◌≤◌, List, [], ◌∷◌, Bool, true, false, not, cond, ◌||◌, nat_lt, length, map, Option, None, Some, if◌then◌else◌, option_map, slice_get, refl, sym, ap, ◌∙◌, arith}
+use Rattle.std.proofs.Common.{◌≡◌, ℕ, ◌<◌, List, [], ◌∷◌, Bool, true, false, not, cond, ◌||◌, length, map, Option, Some, option_map, slice_get, refl, sym, ap, ◌∙◌}
 use Rattle.std.specs.Prelude.{position}
 use Rattle.std.specs.List.{list_all, list_any, find, position_or_len}
 use Rattle.std.specs.Str.{bytes_eq}
-use Rattle.std.specs.Option.{option_and_then}
-use Rattle.std.proofs.lemmas.Bool.{and_parts, and_from, lt-ltb}
+use Rattle.std.proofs.lemmas.Bool.{and_parts, and_from}
 use Rattle.std.proofs.lemmas.List.Folds.{find_at}
 use Rattle.std.proofs.lemmas.List.Quantifiers.{position-Some}
 use Rattle.std.proofs.lemmas.Option.{slice_get_within}
 use Rattle.std.proofs.lemmas.Slice.Eq.{bytes_eq-Decides}
-use Rattle.anti_ids.specs.Names.{is_plain}
 use Rattle.anti_rules.proofs.Holds.{are_apart}
 use Rattle.toml.specs.Data.{Data}
-use Rattle.anti_app.specs.Parts.{name_or_a, small}
 use Rattle.anti_app.specs.Sound.{are_distinct}
 
--- ---- texts and numbers
+-- ---- texts
 pub same_text : (a b : List ℕ) → bytes_eq a b ≡ true → a ≡ b
 same_text a b h = (bytes_eq-Decides a b).0 h
 
 pub text_same : (a b : List ℕ) → a ≡ b → bytes_eq a b ≡ true
 text_same a b h = (bytes_eq-Decides a b).1 h
-
--- a text that is a plain name stays
-pub name_stays : (text : List ℕ) → is_plain text ≡ true → name_or_a text ≡ text
-name_stays text plain = rw plain refl
-
--- a number that four bytes hold stays
-pub small_stays : (n : ℕ) → n < 2 ^ 32 → small n ≡ Some n
-small_stays n less = let fits : nat_lt n (2 ^ 32) ≡ true = lt-ltb n (2 ^ 32) less in rw fits refl
 
 -- ---- the first thing that passes a test
 pub first_found : {X : Type 0} (p : X → Bool) (xs : List X) → list_any p xs ≡ true → (x : X) × (find p xs ≡ Some x)
@@ -48,70 +37,29 @@ first_passes p (y ∷ xs) x h = passes_or (p y) y x (find p xs) p refl (first_pa
     passes_or true y x others p is more h = let same : y ≡ x = cc in ap p (sym same) ∙ is
     passes_or false y x others p is more h = more h
 
--- it is one of those of which something holds
-pub first_good : {X : Type 0} (good p : X → Bool) (xs : List X) (x : X) → list_all good xs ≡ true → find p xs ≡ Some x → good x ≡ true
-first_good good p [] x all h = cc
-first_good good p (y ∷ xs) x all h =
-    let parts = and_parts (good y) (list_all good xs) all in good_or (p y) y x (find p xs) good parts.0 (first_good good p xs x parts.1) h
-  where
-    good_or : {X : Type 0} (passes : Bool) (y x : X) (others : Option X) (good : X → Bool) → good y ≡ true → (others ≡ Some x → good x ≡ true) → cond passes (Some y) others ≡ Some x → good x ≡ true
-    good_or true y x others good here more h = let same : y ≡ x = cc in ap good (sym same) ∙ here
-    good_or false y x others good here more h = more h
-
 -- it stands at the place that is found
-pub first_placed : {X : Type 0} (p : X → Bool) (xs : List X) (x : X) → find p xs ≡ Some x
-    → (i : ℕ) × (position p xs ≡ Some i) × (i < length xs) × (slice_get xs i ≡ Some x)
-first_placed p xs x h =
-    let place : ℕ = position_or_len p xs in
-    let at : slice_get xs place ≡ Some x = sym (find_at p xs) ∙ h in
-    let within : place < length xs = slice_get_within xs place x at in
-    (place, ap (λ (b : Bool). cond b (Some place) None) (lt-ltb place (length xs) within), within, at)
+pub first_placed : {X : Type 0} (p : X → Bool) (xs : List X) (x : X) → find p xs ≡ Some x → slice_get xs (position_or_len p xs) ≡ Some x
+first_placed p xs x h = sym (find_at p xs) ∙ h
 
--- its number, where there are few
-pub first_numbered : {X : Type 0} (p : X → Bool) (xs : List X) (x : X) → length xs ≤ 2 ^ 32 → find p xs ≡ Some x
-    → (i : ℕ) × (option_and_then small (position p xs) ≡ Some i) × (i < length xs) × (slice_get xs i ≡ Some x)
-first_numbered p xs x few h =
-    let found = first_placed p xs x h in
-    let less : found.0 < 2 ^ 32 = omega (arith, found.2) in
-    (found.0, ap (option_and_then small) found.1 ∙ small_stays found.0 less, found.2, found.3)
+-- where something passes, that place is within
+pub place_there : {X : Type 0} (p : X → Bool) (xs : List X) → list_any p xs ≡ true → position_or_len p xs < length xs
+place_there p xs h =
+    let first = first_found p xs h in slice_get_within xs (position_or_len p xs) first.0 (first_placed p xs first.0 first.1)
 
+-- a place that is found is within
 pub place_within : {X : Type 0} (p : X → Bool) (xs : List X) (j : ℕ) → position p xs ≡ Some j → j < length xs
 place_within p [] j h = absurd (cc)
 place_within p (x ∷ xs) j h = (position-Some p (x ∷ xs) j x h).0
 
--- a number that is found is that of something
-pub number_within : {X : Type 0} (p : X → Bool) (xs : List X) (i : ℕ) → option_and_then small (position p xs) ≡ Some i → i < length xs
-number_within p xs i h = within_or (position p xs) xs i (λ j at. place_within p xs j at) h
-  where
-    same_small : (b : Bool) (j i : ℕ) → (if b then Some j else None) ≡ Some i → j ≡ i
-    same_small true j i h = cc
-    same_small false j i h = cc
-
-    within_or : {X : Type 0} (o : Option ℕ) (xs : List X) (i : ℕ) → ((j : ℕ) → o ≡ Some j → j < length xs) → option_and_then small o ≡ Some i → i < length xs
-    within_or None xs i there h = cc
-    within_or (Some j) xs i there h = let same : j ≡ i = same_small (nat_lt j (2 ^ 32)) j i h in let less : j < length xs = there j refl in omega arith
-
 -- ---- what is made of each thing
-module _ {X Y : Type 0} (good : X → Bool) (f : X → Y) where
-  -- a test of what is made that is a test of what it is made of
-  abbrev pub SameTest : (X → Bool) → (Y → Bool) → Type 0
-  SameTest p q = (x : X) → good x ≡ true → q (f x) ≡ p x
+module _ {X Y : Type 0} (f : X → Y) (q : Y → Bool) where
+  pub any_made : (xs : List X) → list_any q (map f xs) ≡ list_any (λ x. q (f x)) xs
+  any_made [] = refl
+  any_made (x ∷ xs) = ap (λ (b : Bool). q (f x) || b) (any_made xs)
 
-  pub any_made : (p : X → Bool) (q : Y → Bool) → SameTest p q → (xs : List X) → list_all good xs ≡ true → list_any q (map f xs) ≡ list_any p xs
-  any_made p q same [] all = refl
-  any_made p q same (x ∷ xs) all =
-      let parts = and_parts (good x) (list_all good xs) all in
-      let here : q (f x) ≡ p x = same x parts.0 in
-      let rest : list_any q (map f xs) ≡ list_any p xs = any_made p q same xs parts.1 in
-      ap (λ (b : Bool). b || list_any q (map f xs)) here ∙ ap (λ (b : Bool). p x || b) rest
-
-  pub first_made : (p : X → Bool) (q : Y → Bool) → SameTest p q → (xs : List X) → list_all good xs ≡ true → find q (map f xs) ≡ option_map f (find p xs)
-  first_made p q same [] all = refl
-  first_made p q same (x ∷ xs) all =
-      let parts = and_parts (good x) (list_all good xs) all in
-      let here : q (f x) ≡ p x = same x parts.0 in
-      let rest : find q (map f xs) ≡ option_map f (find p xs) = first_made p q same xs parts.1 in
-      ap (λ (b : Bool). cond b (Some (f x)) (find q (map f xs))) here ∙ ap (λ (o : Option Y). cond (p x) (Some (f x)) o) rest ∙ made_or (p x) x (find p xs)
+  pub first_made : (xs : List X) → find q (map f xs) ≡ option_map f (find (λ x. q (f x)) xs)
+  first_made [] = refl
+  first_made (x ∷ xs) = ap (λ (o : Option Y). cond (q (f x)) (Some (f x)) o) (first_made xs) ∙ made_or (q (f x)) x (find (λ x. q (f x)) xs)
     where
       made_or : (b : Bool) (x : X) (others : Option X) → cond b (Some (f x)) (option_map f others) ≡ option_map f (cond b (Some x) others)
       made_or true x others = refl

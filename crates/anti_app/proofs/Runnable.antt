@@ -2,8 +2,11 @@
 use Rattle.std.proofs.lemmas.List.{length-map}
 use Rattle.std.proofs.Common.{◌≡◌, ℕ, ◌≤◌, ◌^◌, List, length, slice_get, Option, Some, None, IsTrue, subst, refl, arith}
 use Rattle.std.specs.List.{All}
+use Rattle.std.specs.Option.{option_and_then, option_map_or}
 use Rattle.std.proofs.lemmas.Option.{slice_get_within, get_or_from_slice_get}
 use Rattle.anti_ids.specs.declared.limits.TheConstants.{MOST_LINES}
+use Rattle.anti_lang.specs.Bodies.{block_of}
+use Rattle.anti_lang.specs.Program.{End}
 use Rattle.anti_lang.specs.Spans.{spans_of}
 use Rattle.anti_app.specs.declared.app.App.{App}
 use Rattle.anti_app.specs.declared.app.HandlerDef.{HandlerDef}
@@ -11,7 +14,7 @@ use Rattle.anti_app.specs.declared.app.ServiceDef.{ServiceDef}
 use Rattle.anti_app.specs.declared.app.StoreDef.{StoreDef}
 use Rattle.anti_app.specs.Sound.{is_sound}
 use Rattle.anti_app.proofs.SoundLemmas.{SoundHandler, SoundService, app_known}
-use Rattle.anti_app.specs.Objects.{body_in, body_among, store_names}
+use Rattle.anti_app.specs.Objects.{store_names}
 use Rattle.anti_app.specs.Running.{CanRun}
 
 -- what is found in a list is as all that it holds
@@ -19,12 +22,12 @@ pub found_in : {T : Type 0} (P : T → Type 0) (xs : List T) (i : ℕ) (x : T) �
 found_in P xs i x all found = subst P (get_or_from_slice_get xs i x x found) (all i x (slice_get_within xs i x found))
 
 in_handler : (stores : List StoreDef) (all_services : List ServiceDef) (region : ℕ) (handlers : List HandlerDef) (i : ℕ) (found : Option HandlerDef) → slice_get handlers i ≡ found
-    → All (SoundHandler stores all_services region) handlers → spans_of (body_in found) ≤ MOST_LINES
+    → All (SoundHandler stores all_services region) handlers → spans_of (option_map_or (λ h. block_of h.body) found End) ≤ MOST_LINES
 in_handler stores all_services region handlers i None e all = omega arith
 in_handler stores all_services region handlers i (Some h) e all = (found_in (SoundHandler stores all_services region) handlers i h all e).spans
 
 in_service : (regions : ℕ) (stores : List StoreDef) (all_services : List ServiceDef) (services : List ServiceDef) (i handler : ℕ) (found : Option ServiceDef) → slice_get services i ≡ found
-    → All (SoundService regions stores all_services) services → spans_of (body_among found handler) ≤ MOST_LINES
+    → All (SoundService regions stores all_services) services → spans_of (option_map_or (λ h. block_of h.body) (option_and_then (λ s. slice_get s.handlers.items handler) found) End) ≤ MOST_LINES
 in_service regions stores all_services services i handler None e all = omega arith
 in_service regions stores all_services services i handler (Some s) e all =
     let sound = found_in (SoundService regions stores all_services) services i s all e in

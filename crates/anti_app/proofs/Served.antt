@@ -1,5 +1,5 @@
 -- The names of the services and handlers of a document without a breach, and where they are found.
-use Rattle.std.proofs.Common.{◌≡◌, ℕ, codes, List, [], Bool, true, ◌&&◌, map, None, Some, refl, ap, ◌∙◌}
+use Rattle.std.proofs.Common.{◌≡◌, ℕ, codes, List, [], Bool, true, ◌&&◌, map, None, refl, ◌∙◌}
 use Rattle.std.specs.List.{list_all}
 use Rattle.std.specs.Str.{bytes_eq}
 use Rattle.std.proofs.lemmas.Bool.{and_from}
@@ -17,19 +17,17 @@ use Rattle.anti_rules.proofs.Holds.{each_kept, wanted, each_wanted, each_handler
 use Rattle.anti_app.specs.Parts.{regions_of, handler_of, service_of, services_of}
 use Rattle.anti_app.specs.Objects.{has_named}
 use Rattle.anti_app.specs.Sound.{is_served, fits_services}
-use Rattle.anti_app.proofs.Lookups.{name_stays, first_passes, first_good, any_made, any_found}
+use Rattle.anti_app.proofs.Lookups.{first_passes, any_made, any_found}
 use Rattle.anti_app.proofs.Kept.{some_passes}
 
 -- The names of some things are plain.
 abbrev pub are_plain : List Data → Bool
 are_plain ds = list_all (λ d. is_plain (name_in d)) ds
 
--- handlers of plain names keep them
-pub named_made : (name : List ℕ) (ds : List Data) → are_plain ds ≡ true → has_named name (map handler_of ds) ≡ is_named name ds
+-- handlers keep their names
+pub named_made : (name : List ℕ) (ds : List Data) → has_named name (map handler_of ds) ≡ is_named name ds
 unfolding handler_of
-named_made name ds plain =
-    any_made (λ d. is_plain (name_in d)) handler_of (has_text (codes "name") name) (λ handler. bytes_eq handler.name name)
-    (λ d good. ap (λ (x : List ℕ). bytes_eq x name) (name_stays (name_in d) good)) ds plain
+named_made name ds = any_made handler_of (λ handler. bytes_eq handler.name name) ds
 
 module _ (doc : Members) (fine : first_breach doc ≡ None) where
   pub services_plain : are_plain (services_in doc) ≡ true
@@ -37,15 +35,10 @@ module _ (doc : Members) (fine : first_breach doc ≡ None) where
       each_wanted (rule_line PlainNames doc [] Service) (λ d. is_plain (name_in d)) (λ earlier d none. wanted (is_plain (name_in d)) none) [] (services_in doc)
       (each_kept PlainNames doc fine).services
 
-  each_handler_plain : list_all (λ service. are_plain (things_in (codes "handler") service)) (services_in doc) ≡ true
+  pub each_handler_plain : list_all (λ service. are_plain (things_in (codes "handler") service)) (services_in doc) ≡ true
   each_handler_plain =
       each_handler PlainNames doc (λ service d. is_plain (name_in d)) (λ service earlier d none. wanted (is_plain (name_in d)) none) (services_in doc)
       (each_kept PlainNames doc fine).handlers
-
-  -- the names of the handlers of a service that is found are plain
-  pub handlers_plain : (name : List ℕ) (d : Data) → named name (services_in doc) ≡ Some d → are_plain (things_in (codes "handler") d) ≡ true
-  handlers_plain name d found =
-      first_good (λ service. are_plain (things_in (codes "handler") service)) (has_text (codes "name") name) (services_in doc) d each_handler_plain found
 
   -- a handler that the rules find is served
   served_there : (service handler : List ℕ) → handler_stated doc service handler ≡ true → is_served (services_of doc) service handler ≡ true
@@ -53,10 +46,8 @@ module _ (doc : Members) (fine : first_breach doc ≡ None) where
   served_there service handler stated =
       let found = some_passes (λ d. is_named handler (things_in (codes "handler") d)) (named service (services_in doc)) stated in
       let d : Data = found.0 in
-      let plain : is_plain (name_in d) ≡ true = first_good (λ e. is_plain (name_in e)) (has_text (codes "name") service) (services_in doc) d services_plain found.1 in
       any_found (has_text (codes "name") service) (service_of (regions_of doc)) (λ s. bytes_eq s.name service && has_named handler s.handlers.items) (services_in doc) d found.1
-      (and_from _ _ (ap (λ (x : List ℕ). bytes_eq x service) (name_stays (name_in d) plain) ∙ first_passes (has_text (codes "name") service) (services_in doc) d found.1)
-      (named_made handler (things_in (codes "handler") d) (handlers_plain service d found.1) ∙ found.2))
+      (and_from _ _ (first_passes (has_text (codes "name") service) (services_in doc) d found.1) (named_made handler (things_in (codes "handler") d) ∙ found.2))
 
   -- a line that the rules pass finds its handler
   pub line_served : (line : Line) → handler_exists doc line ≡ true → fits_services (services_of doc) line ≡ true

@@ -1,17 +1,19 @@
 -- What a document without a breach says of the bodies of its handlers.
-use Rattle.std.proofs.Common.{◌≡◌, ℕ, suc, ◌+◌, ◌≤◌, List, [], ◌∷◌, Bool, true, nat_le, length, Option, None, Some, is_none, Result, Ok, Err, if◌then◌else◌, refl, sym, ap, ◌∙◌, arith}
+use Rattle.std.proofs.Common.{◌≡◌, ℕ, suc, ◌+◌, ◌≤◌, List, [], ◌∷◌, Bool, true, nat_le, length, map, Option, None, Some, is_none, Result, Ok, Err, if◌then◌else◌, refl, sym, ap, ◌∙◌, arith}
 use Rattle.std.specs.List.{list_all}
+use Rattle.std.specs.Result.{result_unwrap_or}
 use Rattle.std.proofs.lemmas.Bool.{and_from, leb-true, le-leb}
 use Rattle.anti_ids.specs.declared.limits.TheConstants.{MOST_LINES}
 use Rattle.anti_ids.specs.List.{empty}
 use Rattle.anti_lang.specs.Words.{words}
-use Rattle.anti_lang.specs.Program.{Block, Write, Read, Scan, Poll}
-use Rattle.anti_lang.specs.Bodies.{block_of}
+use Rattle.anti_lang.specs.Program.{Block, End, Write, Read, Scan, Poll}
+use Rattle.anti_lang.specs.Bodies.{block_of, body_of}
 use Rattle.anti_lang.specs.Lines.{Line, Does, read_line}
 use Rattle.anti_lang.specs.Blocks.{lines_of}
 use Rattle.anti_lang.specs.Spans.{spans_of}
 use Rattle.anti_lang.specs.Faults.{block_fault, variable_fault}
 use Rattle.anti_lang.specs.Parsing.{parsed, parsed_or, body_or, lines_from, read_or}
+use Rattle.anti_lang.specs.declared.fault.LangFault.{LangFault}
 use Rattle.anti_lang.proofs.BodyLaws.{lines_stated as lines_read, few_spans}
 use Rattle.anti_lang.proofs.PlainLemmas.{block_again}
 use Rattle.toml.specs.Data.{Data, Members}
@@ -22,7 +24,8 @@ use Rattle.anti_rules.specs.declared.rule.Rule.TheVariants.{Statements, Blocks, 
 use Rattle.anti_rules.specs.declared.place.Part.TheVariants.{Handler}
 use Rattle.anti_rules.proofs.AllParse.{few_lines}
 use Rattle.anti_rules.proofs.Holds.{states_block, lines_pass}
-use Rattle.anti_app.specs.Parts.{number_or_0, regions_of, region_number, stores_of, services_of, body_in, body_or_empty, lines_in}
+use Rattle.anti_app.specs.Parts.{regions_of, stores_of, services_of, body_in}
+use Rattle.anti_app.specs.Places.{region_place}
 use Rattle.anti_app.specs.Sound.{fits_stores, fits_services, is_sound_body}
 use Rattle.anti_app.proofs.Kept.{FailsNone, length_made, each_passes}
 use Rattle.anti_app.proofs.SoundStores.{stored_is, read_near}
@@ -51,11 +54,12 @@ faults_none lines None None block h = (refl, refl)
 -- the body that is read of lines that state one
 pub body_is : (texts : List (List ℕ)) (block : Block) → nat_le (length texts) MOST_LINES ≡ true → parsed texts ≡ Ok block → block_of (body_in texts) ≡ block
 body_is texts block few stated =
-    ap block_of (ap (λ (b : Bool). if b then body_or_empty (parsed texts) else empty) few ∙ ap body_or_empty stated) ∙ block_again block
+    ap block_of (ap (λ (b : Bool). if b then body_of (result_unwrap_or (parsed texts) End) else empty) few
+    ∙ ap (λ (read : Result Block LangFault). body_of (result_unwrap_or read End)) stated) ∙ block_again block
 
 module _ (doc : Members) (fine : first_breach doc ≡ None) (home : List ℕ) where
   abbrev region : ℕ
-  region = number_or_0 (region_number (regions_of doc) home)
+  region = region_place (regions_of doc) home
 
   -- a line that the rules pass finds its store
   line_fits : (line : Line) → store_fits doc home line ≡ true → fits_stores (stores_of doc) region line ≡ true
@@ -67,13 +71,13 @@ module _ (doc : Members) (fine : first_breach doc ≡ None) (home : List ℕ) wh
   line_fits line fits = refl
 
   -- the body of a handler is sound
-  pub body_sound : (earlier : List Data) (d : Data) → FailsNone doc home Handler earlier d → is_sound_body (stores_of doc) (services_of doc) region (block_of (body_in (lines_in d))) ≡ true
+  pub body_sound : (earlier : List Data) (d : Data) → FailsNone doc home Handler earlier d → is_sound_body (stores_of doc) (services_of doc) region (block_of (body_in (map text_of (lines_stated d)))) ≡ true
   unfolding is_sound_body
   body_sound earlier d none =
       let few = few_lines doc home earlier d none in
       let stated = states_block d few (none Statements) (none Blocks) (none Variables) in
       let block : Block = stated.0 in
-      let texts : List (List ℕ) = lines_in d in
+      let texts : List (List ℕ) = map text_of (lines_stated d) in
       let short : nat_le (length texts) MOST_LINES ≡ true = length_made text_of (λ n. nat_le n MOST_LINES) (lines_stated d) few in
       let most : length texts ≤ MOST_LINES = leb-true _ _ short in
       let read : lines_from 0 texts ≡ Ok (lines_of block) = lines_read texts block stated.1 in

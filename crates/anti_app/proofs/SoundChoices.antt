@@ -1,8 +1,8 @@
 -- What is known of the choices that a document states, where no rule is failed.
-use Rattle.std.proofs.Common.{◌≡◌, ℕ, suc, ◌+◌, ◌^◌, ◌<◌, List, [], ◌∷◌, Bool, true, false, ◌&&◌, nat_eq, nat_lt, nat_le, length, take, drop, Option, None, Some, Result, Ok, Err, if◌then◌else◌, option_map, refl, sym, ap, ◌∙◌, arith}
+use Rattle.std.proofs.Common.{◌≡◌, ℕ, ◌+◌, ◌<◌, ◌≤◌, ◌==◌, codes, List, [], ◌∷◌, Bool, true, false, ◌&&◌, nat_lt, nat_le, length, map, Option, None, Some, if◌then◌else◌, option_map, refl, sym, ap, ◌∙◌, arith}
 use Rattle.std.specs.Prelude.{position}
-use Rattle.std.specs.List.{list_all}
-use Rattle.std.specs.Option.{option_and_then, option_or}
+use Rattle.std.specs.List.{list_all, after_first, before_first}
+use Rattle.std.specs.Option.{option_or, some_prefix}
 use Rattle.std.specs.Str.{bytes_eq}
 use Rattle.std.proofs.lemmas.Bool.{and_from, and_parts, le-leb, lt-ltb}
 use Rattle.anti_ids.specs.Ascii.{dot}
@@ -12,18 +12,13 @@ use Rattle.anti_ids.proofs.Decimals.{decimal_back}
 use Rattle.anti_lang.specs.Words.{words}
 use Rattle.toml.specs.Data.{Data}
 use Rattle.anti_rules.specs.Trees.{text_of}
-use Rattle.anti_rules.specs.Statements.{next}
 use Rattle.anti_app.specs.declared.app.App.{App}
 use Rattle.anti_app.specs.declared.app.Choice.{Choice}
 use Rattle.anti_app.specs.declared.app.Choice.TheVariants.{Take, Repost, Pull, Repull, Ship, Again, Go, Finish}
-use Rattle.anti_app.specs.declared.choice.Shipment.{Shipment}
-use Rattle.anti_app.specs.declared.form.ChoiceForm.{ChoiceForm}
-use Rattle.anti_app.specs.declared.form.ChoiceForm.TheVariants as forms
-use Rattle.anti_app.specs.Parts.{small, region_number, store_place, store_number, service_place}
-use Rattle.anti_app.specs.Chosen.{number_of, object_number, applied, if_both, service_named, sub_named, part_of, shipment, bringing, ship, again, choice_by, choice_in, choice_of, choice_or, choices_from}
-use Rattle.anti_app.specs.Forms.{form_of}
+use Rattle.anti_app.specs.Objects.{inbox_number}
+use Rattle.anti_app.specs.Chosen.{number_of, store_named, service_named, sub_named, object_named, applied, if_both, go_to, part_of, to_bring, choice_in, choice_of}
 use Rattle.anti_app.specs.Sound.{is_countable, is_part, is_shipment, is_sound_choice}
-use Rattle.anti_app.proofs.Lookups.{number_within, place_within}
+use Rattle.anti_app.proofs.Lookups.{place_within}
 
 -- ---- numbers
 -- a number of a choice is in its range
@@ -57,6 +52,12 @@ part_sound (word ∷ []) part h = of_number (number_of word) part (number_sound 
     of_number (Some n) (Some p) counts h = let same : n ≡ p = cc in ap is_countable (sym same) ∙ counts n refl
 part_sound (word ∷ other ∷ more) part h = absurd (cc)
 
+-- as many choices as there are before the first that is none
+pub prefix_short : {T : Type 0} (found : List (Option T)) → length (some_prefix found) ≤ length found
+prefix_short [] = omega arith
+prefix_short (None ∷ found) = omega arith
+prefix_short (Some x ∷ found) = let rest = prefix_short found in omega arith
+
 -- a choice that an application's choice may be
 abbrev pub IsSoundIn : App → Choice → Type 0
 IsSoundIn app choice = is_sound_choice app choice ≡ true
@@ -66,139 +67,109 @@ module _ (app : App) where
   sound_same made choice same sound = ap (is_sound_choice app) (sym same) ∙ sound
 
   -- what is found by its name is there
-  service_below : (word : List ℕ) (i : ℕ) → service_named app word ≡ Some i → nat_lt i (length app.services.items) ≡ true
-  unfolding service_named
-  service_below word i at = lt-ltb i _ (number_within (λ service. bytes_eq service.name word) app.services.items i at)
+  store_below : (name : List ℕ) (i : ℕ) → store_named app name ≡ Some i → i < length app.stores.items
+  unfolding store_named
+  store_below name i at = place_within (λ store. bytes_eq store.name name) app.stores.items i at
 
-  sub_below : (word : List ℕ) (i : ℕ) → sub_named app word ≡ Some i → nat_lt i (length app.subs.items) ≡ true
+  service_below : (name : List ℕ) (i : ℕ) → service_named app name ≡ Some i → i < length app.services.items
+  unfolding service_named
+  service_below name i at = place_within (λ service. bytes_eq service.name name) app.services.items i at
+
+  sub_below : (name : List ℕ) (i : ℕ) → sub_named app name ≡ Some i → i < length app.subs.items
   unfolding sub_named
-  sub_below word i at = lt-ltb i _ (number_within (λ sub. bytes_eq sub.name word) app.subs.items i at)
+  sub_below name i at = place_within (λ sub. bytes_eq sub.name name) app.subs.items i at
+
+  -- the number of an object is below the number of stores and services
+  object_below : (name : List ℕ) (i : ℕ) → object_named app name ≡ Some i → i < length app.stores.items + length app.services.items
+  object_below name i h = below_or (store_named app name) (service_named app name) i (store_below name) (service_below name) h
+    where
+      below_or : (store service : Option ℕ) (i : ℕ) → ((j : ℕ) → store ≡ Some j → j < length app.stores.items) → ((j : ℕ) → service ≡ Some j → j < length app.services.items)
+          → option_or store (option_map (inbox_number app) service) ≡ Some i → i < length app.stores.items + length app.services.items
+      below_or (Some j) service i low near h = let same : j ≡ i = cc in let less : j < length app.stores.items = low j refl in omega arith
+      below_or None (Some j) i low near h =
+          let same : length app.stores.items + j ≡ i = cc in let less : j < length app.services.items = near j refl in omega arith
+      below_or None None i low near h = cc
 
   -- a choice of a thing that is there, and of a number in its range
   both_sound : (make : ℕ → ℕ → Choice) (things : ℕ) (thing : Option ℕ) (word : List ℕ) (choice : Choice)
-      → ((i : ℕ) → thing ≡ Some i → nat_lt i things ≡ true)
+      → ((i : ℕ) → thing ≡ Some i → i < things)
       → ((i n : ℕ) → (nat_lt i things && is_countable n) ≡ true → IsSoundIn app (make i n))
       → if_both make thing (number_of word) ≡ Some choice → IsSoundIn app choice
   both_sound make things thing word choice below sound h =
       let both = both_there make thing (number_of word) choice h in
       sound_same (make both.0 both.1) choice both.4
-      (sound both.0 both.1 (and_from (nat_lt both.0 things) (is_countable both.1) (below both.0 both.2) (number_sound word both.1 both.3)))
+      (sound both.0 both.1 (and_from (nat_lt both.0 things) (is_countable both.1) (lt-ltb both.0 things (below both.0 both.2)) (number_sound word both.1 both.3)))
 
-  -- the store and the region of a shipment are there, and its version and its part are in their range
-  abbrev IsSoundShipment : Shipment → Type 0
-  IsSoundShipment shipment =
-      is_shipment (length app.regions.items) (length app.stores.items) shipment.store shipment.region shipment.version shipment.part ≡ true
-
-  bringing_sound : (s r v : List ℕ) (part : List (List ℕ)) (shipment : Shipment) → bringing app s r v part ≡ Some shipment
-      → IsSoundShipment shipment
-  unfolding bringing
-  bringing_sound s r v part made h =
-      parts_sound (store_number app.stores.items s) (region_number app.regions.items r) (number_of v) (part_of part) made
-      (λ i at. lt-ltb i _ (number_within (λ store. bytes_eq store.name s) app.stores.items i at))
-      (λ i at. lt-ltb i _ (number_within (λ name. bytes_eq name r) app.regions.items i at))
-      (number_sound v) (part_sound part) h
+  -- a choice of a store, a region, a version and a part
+  brought_sound : (make : ℕ → ℕ → ℕ → Option ℕ → Choice) (s r v : List ℕ) (part : List (List ℕ)) (choice : Choice)
+      → ((store region version : ℕ) (part : Option ℕ) → is_shipment (length app.regions.items) (length app.stores.items) store region version part ≡ true
+      → IsSoundIn app (make store region version part))
+      → to_bring make app s r v part ≡ Some choice → IsSoundIn app choice
+  unfolding to_bring
+  brought_sound make s r v part choice sound h =
+      parts_sound (store_named app s) (position (λ region. bytes_eq region r) app.regions.items) (number_of v) (part_of part)
+      (store_below s) (λ i at. place_within (λ region. bytes_eq region r) app.regions.items i at) (number_sound v) (part_sound part) h
     where
-      parts_sound : (store region version : Option ℕ) (part : Option (Option ℕ)) (made : Shipment)
-          → ((i : ℕ) → store ≡ Some i → nat_lt i (length app.stores.items) ≡ true) → ((i : ℕ) → region ≡ Some i → nat_lt i (length app.regions.items) ≡ true)
+      parts_sound : (store region version : Option ℕ) (part : Option (Option ℕ))
+          → ((i : ℕ) → store ≡ Some i → i < length app.stores.items) → ((i : ℕ) → region ≡ Some i → i < length app.regions.items)
           → ((i : ℕ) → version ≡ Some i → is_countable i ≡ true) → ((p : Option ℕ) → part ≡ Some p → is_part p ≡ true)
-          → applied (applied (if_both shipment store region) version) part ≡ Some made → IsSoundShipment made
-      parts_sound None region version part made low near count good h = cc
-      parts_sound (Some i) None version part made low near count good h = cc
-      parts_sound (Some i) (Some j) None part made low near count good h = cc
-      parts_sound (Some i) (Some j) (Some k) None made low near count good h = cc
-      parts_sound (Some i) (Some j) (Some k) (Some p) made low near count good h =
-          let same : shipment i j k p ≡ made = cc in
-          ap (λ (x : Shipment). is_shipment (length app.regions.items) (length app.stores.items) x.store x.region x.version x.part) (sym same)
-          ∙ and_from _ _ (low i refl) (and_from _ _ (near j refl) (and_from _ _ (count k refl) (good p refl)))
+          → applied (applied (if_both make store region) version) part ≡ Some choice → IsSoundIn app choice
+      parts_sound None region version part low near count good h = cc
+      parts_sound (Some i) None version part low near count good h = cc
+      parts_sound (Some i) (Some j) None part low near count good h = cc
+      parts_sound (Some i) (Some j) (Some k) None low near count good h = cc
+      parts_sound (Some i) (Some j) (Some k) (Some p) low near count good h =
+          let same : make i j k p ≡ choice = cc in
+          sound_same (make i j k p) choice same
+          (sound i j k p (and_from _ _ (lt-ltb i _ (low i refl)) (and_from _ _ (lt-ltb j _ (near j refl)) (and_from _ _ (count k refl) (good p refl)))))
 
-  -- a choice that is made of a shipment
-  made_sound : (make : Shipment → Choice) (s r v : List ℕ) (part : List (List ℕ)) (choice : Choice)
-      → ((shipment : Shipment) → IsSoundShipment shipment → IsSoundIn app (make shipment))
-      → option_map make (bringing app s r v part) ≡ Some choice → IsSoundIn app choice
-  made_sound make s r v part choice sound h =
-      let one = one_there make (bringing app s r v part) choice h in
-      sound_same (make one.0) choice one.2 (sound one.0 (bringing_sound s r v part one.0 one.1))
-
-  -- the number of an object is below the number of stores and services
-  object_below : (text : List ℕ) (i : ℕ) → object_number app text ≡ Some i → i < length app.stores.items + length app.services.items
-  object_below text i h =
-      below_or (store_place app.stores.items text) (service_place app.services.items text) i
-      (λ j at. place_within (λ store. bytes_eq store.name text) app.stores.items j at)
-      (λ j at. place_within (λ service. bytes_eq service.name text) app.services.items j at) h
-    where
-      same_small : (b : Bool) (j i : ℕ) → (if b then Some j else None) ≡ Some i → j ≡ i
-      same_small true j i h = cc
-      same_small false j i h = cc
-
-      below_or : (store service : Option ℕ) (i : ℕ) → ((j : ℕ) → store ≡ Some j → j < length app.stores.items) → ((j : ℕ) → service ≡ Some j → j < length app.services.items)
-          → option_and_then small (option_or store (option_map (λ place. length app.stores.items + place) service)) ≡ Some i
-          → i < length app.stores.items + length app.services.items
-      below_or (Some j) service i low near h =
-          let same : j ≡ i = same_small (nat_lt j (2 ^ 32)) j i h in let less : j < length app.stores.items = low j refl in omega arith
-      below_or None (Some j) i low near h =
-          let same : length app.stores.items + j ≡ i = same_small (nat_lt (length app.stores.items + j) (2 ^ 32)) (length app.stores.items + j) i h in
-          let less : j < length app.services.items = near j refl in omega arith
-      below_or None None i low near h = cc
-
-  go_sound : (mark : List ℕ) (at : Option ℕ) (choice : Choice)
-      → option_and_then (λ at. if_both Go (object_number app (take at mark)) (number_of (drop (at + 1) mark))) at ≡ Some choice
-      → IsSoundIn app choice
-  unfolding is_sound_choice
-  go_sound mark None choice h = cc
-  go_sound mark (Some at) choice h =
-      both_sound Go (length app.stores.items + length app.services.items) (object_number app (take at mark)) (drop (at + 1) mark) choice
-      (λ i found. lt-ltb i _ (object_below (take at mark) i found)) (λ i n good. good) h
+  go_sound : (mark : List ℕ) (choice : Choice) → go_to app mark ≡ Some choice → IsSoundIn app choice
+  unfolding go_to is_sound_choice
+  go_sound mark choice h =
+      both_sound Go (length app.stores.items + length app.services.items) (object_named app (before_first (λ b. b == dot) mark)) (after_first (λ b. b == dot) mark) choice
+      (object_below (before_first (λ b. b == dot) mark)) (λ i n good. good) h
 
   -- ---- a choice
-  form_sound : (form : ChoiceForm) (rest : List (List ℕ)) (choice : Choice) → choice_by app form rest ≡ Some choice → IsSoundIn app choice
-  unfolding is_sound_choice
-  form_sound forms.Take (s ∷ n ∷ []) choice h =
-      both_sound Take (length app.services.items) (service_named app s) n choice (service_below s) (λ i n good. good) h
-  form_sound forms.Repost (s ∷ n ∷ []) choice h =
-      both_sound Repost (length app.services.items) (service_named app s) n choice (service_below s) (λ i n good. good) h
-  form_sound forms.Pull (s ∷ []) choice h =
-      let one = one_there Pull (sub_named app s) choice h in sound_same (Pull one.0) choice one.2 (sub_below s one.0 one.1)
-  form_sound forms.Repull (s ∷ v ∷ []) choice h =
-      both_sound Repull (length app.subs.items) (sub_named app s) v choice (sub_below s) (λ i n good. good) h
-  form_sound forms.Ship (s ∷ r ∷ v ∷ part) choice h = made_sound ship s r v part choice (λ shipment good. good) h
-  form_sound forms.Again (s ∷ r ∷ v ∷ part) choice h = made_sound again s r v part choice (λ shipment good. good) h
-  form_sound forms.Go (mark ∷ []) choice h = go_sound mark (position (λ b. nat_eq b dot) mark) choice h
-  form_sound forms.Finish [] choice h = let same : Finish ≡ choice = cc in sound_same Finish choice same refl
-  form_sound _ _ choice h = absurd (cc)
+  either : (here : Bool) (one other : Option Choice) (choice : Choice) → (one ≡ Some choice → IsSoundIn app choice) → (other ≡ Some choice → IsSoundIn app choice)
+      → (if here then one else other) ≡ Some choice → IsSoundIn app choice
+  either true one other choice is or h = is h
+  either false one other choice is or h = or h
+
+  nothing : (choice : Choice) → (let none : Option Choice = None in none ≡ Some choice) → IsSoundIn app choice
+  nothing choice h = absurd (cc)
 
   words_sound : (ws : List (List ℕ)) (choice : Choice) → choice_in app ws ≡ Some choice → IsSoundIn app choice
-  unfolding choice_in
-  words_sound [] choice h = cc
-  words_sound (what ∷ rest) choice h = of_form (form_of what) h
-    where
-      of_form : (form : Option ChoiceForm) → option_and_then (λ form. choice_by app form rest) form ≡ Some choice → IsSoundIn app choice
-      of_form None h = cc
-      of_form (Some form) h = form_sound form rest choice h
+  unfolding choice_in is_sound_choice
+  words_sound [] choice h = nothing choice h
+  words_sound (what ∷ []) choice h =
+      either (bytes_eq what (codes "finish")) (Some Finish) None choice (λ is. let same : Finish ≡ choice = cc in sound_same Finish choice same refl) (nothing choice) h
+  words_sound (what ∷ name ∷ []) choice h =
+      either (bytes_eq what (codes "pull")) _ _ choice
+      (λ is. let one = one_there Pull (sub_named app name) choice is in sound_same (Pull one.0) choice one.2 (lt-ltb one.0 _ (sub_below name one.0 one.1)))
+      (either (bytes_eq what (codes "go")) _ _ choice (go_sound name choice) (nothing choice)) h
+  words_sound (what ∷ name ∷ n ∷ []) choice h =
+      either (bytes_eq what (codes "take")) _ _ choice
+      (both_sound Take (length app.services.items) (service_named app name) n choice (service_below name) (λ i n good. good))
+      (either (bytes_eq what (codes "repost")) _ _ choice
+      (both_sound Repost (length app.services.items) (service_named app name) n choice (service_below name) (λ i n good. good))
+      (either (bytes_eq what (codes "repull")) _ _ choice
+      (both_sound Repull (length app.subs.items) (sub_named app name) n choice (sub_below name) (λ i n good. good))
+      (nothing choice))) h
+  words_sound (what ∷ s ∷ r ∷ v ∷ part) choice h =
+      either (bytes_eq what (codes "ship")) _ _ choice (brought_sound Ship s r v part choice (λ store region version part good. good))
+      (either (bytes_eq what (codes "again")) _ _ choice (brought_sound Again s r v part choice (λ store region version part good. good)) (nothing choice)) h
 
   -- ---- all choices
-  chosen_or : (number : ℕ) (first : Option Choice) (others : Result (List Choice) ℕ) (choices : List Choice) (count : ℕ)
-      → ((choice : Choice) → first ≡ Some choice → IsSoundIn app choice)
-      → ((more : List Choice) → others ≡ Ok more → (list_all (is_sound_choice app) more ≡ true) × (length more ≡ count))
-      → choice_or number first others ≡ Ok choices
-      → (list_all (is_sound_choice app) choices ≡ true) × (length choices ≡ suc count)
-  chosen_or number None others choices count one rest h = cc
-  chosen_or number (Some choice) (Err at) choices count one rest h = cc
-  chosen_or number (Some choice) (Ok more) choices count one rest h =
-      let same : choice ∷ more ≡ choices = cc in
-      let later = rest more refl in (
-        ap (list_all (is_sound_choice app)) (sym same) ∙ and_from _ _ (one choice refl) later.0,
-        ap length (sym same) ∙ ap suc later.1,
-      )
+  first_sound : (first : Option Choice) (others : List (Option Choice)) → ((choice : Choice) → first ≡ Some choice → IsSoundIn app choice)
+      → list_all (is_sound_choice app) (some_prefix others) ≡ true → list_all (is_sound_choice app) (some_prefix (first ∷ others)) ≡ true
+  first_sound None others is rest = refl
+  first_sound (Some choice) others is rest = and_from _ _ (is choice refl) rest
 
-  -- the choices that are stated are sound, and as many as are listed
-  pub choices_known : (before : ℕ) (ds : List Data) (choices : List Choice) → choices_from app before ds ≡ Ok choices
-      → (list_all (is_sound_choice app) choices ≡ true) × (length choices ≡ length ds)
+  -- those that are stated before the first that is none are sound
+  pub prefix_sound : (ds : List Data) → list_all (is_sound_choice app) (some_prefix (map (choice_of app) ds)) ≡ true
   unfolding choice_of
-  choices_known before [] choices h = let same : [] ≡ choices = cc in (ap (list_all (is_sound_choice app)) (sym same), ap length (sym same))
-  choices_known before (d ∷ ds) choices h =
-      chosen_or (next before) (choice_of app d) (choices_from app (next before) ds) choices (length ds)
-      (λ choice is. words_sound (words (text_of d)) choice is)
-      (λ more rest. choices_known (next before) ds more rest) h
+  prefix_sound [] = refl
+  prefix_sound (d ∷ ds) = first_sound (choice_of app d) (map (choice_of app) ds) (λ choice is. words_sound (words (text_of d)) choice is) (prefix_sound ds)
 
 -- Which choices an application lists changes nothing of whether one is sound in it.
 list_no_matter : (app : App) (choices : Listed Choice) (choice : Choice) → IsSoundIn app choice

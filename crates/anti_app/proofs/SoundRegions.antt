@@ -14,10 +14,12 @@ use Rattle.anti_rules.specs.Order.{first_breach}
 use Rattle.anti_rules.specs.declared.rule.Rule.TheVariants.{There, Counted, PlainNames, DistinctRegions}
 use Rattle.anti_rules.specs.declared.place.Part.TheVariants.{Top, Region}
 use Rattle.anti_rules.proofs.Holds.{each_kept, wanted, each_wanted, are_apart, each_apart, some_things, few_regions}
-use Rattle.anti_app.specs.Parts.{number_or_0, region_of, regions_of, region_number}
+use Rattle.anti_app.specs.Parts.{regions_of}
+use Rattle.anti_app.specs.Places.{region_place}
 use Rattle.anti_app.specs.Sound.{are_distinct, is_few, are_sound_regions}
-use Rattle.anti_app.proofs.Lookups.{same_text, name_stays, first_found, first_passes, first_numbered, any_made, all_made, distinct_made}
-use Rattle.anti_app.proofs.Kept.{AllTrue, each_true, counts_at, is_there, length_made, names_back}
+use Rattle.anti_app.specs.inner.Fit.{is_fit_region}
+use Rattle.anti_app.proofs.Lookups.{same_text, first_found, first_passes, first_placed, place_there, any_made, all_made, distinct_made}
+use Rattle.anti_app.proofs.Kept.{AllTrue, each_true, counts_at, is_there, length_made}
 
 module _ (doc : Members) (fine : first_breach doc ≡ None) where
   -- ---- the top
@@ -42,40 +44,40 @@ module _ (doc : Members) (fine : first_breach doc ≡ None) where
       (λ earlier d none. not-true (is_among (text_of d) earlier) (wanted (not (is_among (text_of d) earlier)) none)) (regions_in doc)
       (each_kept DistinctRegions doc fine).regions
 
+  pub few_names : length (regions_of doc) < 2 ^ 32
+  few_names = let few : length (regions_in doc) ≤ MOST_REGIONS = leb-true _ _ (few_regions doc fine) in omega (arith, length-map (regions_in doc) text_of)
+
+  -- the code can make regions of them
+  pub regions_fit : list_all is_fit_region (regions_in doc) ≡ true
+  unfolding is_fit_region
+  regions_fit = regions_plain
+
   pub regions_sound : are_sound_regions (regions_of doc) ≡ true
   regions_sound =
       and_from (is_few MOST_REGIONS (length (regions_of doc))) _
-      (length_made region_of (is_few MOST_REGIONS) (regions_in doc) (and_from (nat_le 1 (length (regions_in doc))) _ some_region (few_regions doc fine)))
+      (length_made text_of (is_few MOST_REGIONS) (regions_in doc) (and_from (nat_le 1 (length (regions_in doc))) _ some_region (few_regions doc fine)))
       (and_from (list_all is_plain (regions_of doc)) (are_distinct bytes_eq (regions_of doc))
-      (all_made (λ d. is_plain (text_of d)) region_of is_plain (λ d plain. ap is_plain (name_stays (text_of d) plain) ∙ plain) (regions_in doc) regions_plain)
-      (distinct_made (λ d. is_plain (text_of d)) region_of (λ e d. bytes_eq (text_of e) (text_of d)) bytes_eq
-      (λ a b plain also same. names_back (text_of a) (text_of b) plain also same) (regions_in doc) regions_plain regions_apart))
+      (all_made (λ d. is_plain (text_of d)) text_of is_plain (λ d plain. plain) (regions_in doc) regions_plain)
+      (distinct_made (λ d. is_plain (text_of d)) text_of (λ e d. bytes_eq (text_of e) (text_of d)) bytes_eq
+      (λ a b plain also same. same) (regions_in doc) regions_plain regions_apart))
 
-  few_names : length (regions_of doc) ≤ 2 ^ 32
-  few_names = let few : length (regions_in doc) ≤ MOST_REGIONS = leb-true _ _ (few_regions doc fine) in omega (arith, length-map (regions_in doc) region_of)
+  -- a region of the document stands at its number
+  there_named : (text : List ℕ) → is_among text (regions_in doc) ≡ true → list_any (λ name. bytes_eq name text) (regions_of doc) ≡ true
+  there_named text among = any_made text_of (λ name. bytes_eq name text) (regions_in doc) ∙ among
 
-  -- the number of a region that is there
-  pub region_found : (text : List ℕ) → is_among text (regions_in doc) ≡ true
-      → (i : ℕ) × (region_number (regions_of doc) text ≡ Some i) × (i < length (regions_of doc)) × (slice_get (regions_of doc) i ≡ Some text)
+  region_found : (text : List ℕ) → is_among text (regions_in doc) ≡ true → slice_get (regions_of doc) (region_place (regions_of doc) text) ≡ Some text
   region_found text among =
-      let any : list_any (λ name. bytes_eq name text) (regions_of doc) ≡ true =
-      any_made (λ d. is_plain (text_of d)) region_of (λ d. bytes_eq (text_of d) text) (λ name. bytes_eq name text)
-      (λ d plain. ap (λ (x : List ℕ). bytes_eq x text) (name_stays (text_of d) plain)) (regions_in doc) regions_plain ∙ among in
-      let first = first_found (λ name. bytes_eq name text) (regions_of doc) any in
+      let first = first_found (λ name. bytes_eq name text) (regions_of doc) (there_named text among) in
       let same : first.0 ≡ text = same_text first.0 text (first_passes (λ name. bytes_eq name text) (regions_of doc) first.0 first.1) in
-      let found = first_numbered (λ name. bytes_eq name text) (regions_of doc) first.0 few_names first.1 in
-      (found.0, found.1, found.2, found.3 ∙ ap Some same)
+      first_placed (λ name. bytes_eq name text) (regions_of doc) first.0 first.1 ∙ ap Some same
 
   -- two texts of one number are the same
   pub region_same : (a b : List ℕ) → is_among a (regions_in doc) ≡ true → is_among b (regions_in doc) ≡ true
-      → number_or_0 (region_number (regions_of doc) a) ≡ number_or_0 (region_number (regions_of doc) b) → a ≡ b
+      → region_place (regions_of doc) a ≡ region_place (regions_of doc) b → a ≡ b
   region_same a b one other same =
-      let first = region_found a one in let second = region_found b other in
-      let number : first.0 ≡ second.0 = sym (ap number_or_0 first.1) ∙ (same ∙ ap number_or_0 second.1) in
-      let both : Some a ≡ Some b = sym first.3 ∙ (ap (slice_get (regions_of doc)) number ∙ second.3) in
-      cc
+      let both : Some a ≡ Some b = sym (region_found a one) ∙ (ap (slice_get (regions_of doc)) same ∙ region_found b other) in cc
 
   -- the number of a region that is there is below the number of regions
-  pub region_below : (text : List ℕ) → is_among text (regions_in doc) ≡ true → nat_lt (number_or_0 (region_number (regions_of doc) text)) (length (regions_of doc)) ≡ true
+  pub region_below : (text : List ℕ) → is_among text (regions_in doc) ≡ true → nat_lt (region_place (regions_of doc) text) (length (regions_of doc)) ≡ true
   region_below text among =
-      let found = region_found text among in ap (λ (i : ℕ). nat_lt i (length (regions_of doc))) (ap number_or_0 found.1) ∙ lt-ltb found.0 (length (regions_of doc)) found.2
+      lt-ltb (region_place (regions_of doc) text) (length (regions_of doc)) (place_there (λ name. bytes_eq name text) (regions_of doc) (there_named text among))

@@ -1,55 +1,44 @@
 -- What a document without a breach says of its services and requests.
-use Rattle.std.proofs.Common.{◌≡◌, ℕ, ◌^◌, ◌<◌, ◌≤◌, codes, List, [], ◌∷◌, ◌++◌, Bool, true, false, not, ◌&&◌, nat_lt, nat_le, length, map, Option, None, Some, Ok, Err, slice_get, if◌then◌else◌, option_map, refl, ap, ◌∙◌, arith}
-use Rattle.std.specs.List.{list_all, find}
-use Rattle.std.specs.Option.{option_and_then, option_map_or}
-use Rattle.std.specs.Str.{bytes_eq, is_utf8}
+use Rattle.std.proofs.Common.{◌≡◌, ℕ, ◌^◌, ◌<◌, ◌≤◌, codes, List, [], ◌∷◌, ◌++◌, true, false, not, ◌&&◌, nat_lt, nat_le, length, map, Option, None, Some, slice_get, option_map, refl, ap, ◌∙◌, arith}
+use Rattle.std.specs.List.{list_all, position_or_len}
+use Rattle.std.specs.Option.{option_map_or}
+use Rattle.std.specs.Str.{bytes_eq}
 use Rattle.std.proofs.lemmas.Bool.{and_parts, and_from, not-true, leb-true, lt-ltb}
 use Rattle.std.proofs.lemmas.List.{length-map}
-use Rattle.anti_ids.specs.declared.limits.TheConstants.{LONGEST_VALUE, MOST_HANDLERS, MOST_REQUESTS, MOST_SERVICES}
+use Rattle.anti_ids.specs.declared.limits.TheConstants.{MOST_HANDLERS, MOST_REQUESTS, MOST_SERVICES}
 use Rattle.anti_ids.specs.Names.{is_plain}
-use Rattle.anti_ids.specs.Values.{value_of}
-use Rattle.anti_ids.specs.declared.value.ValueFault.TheVariants.{TooLong, BadUtf8}
 use Rattle.toml.specs.Data.{Data, Members, get_member, as_table}
-use Rattle.anti_rules.specs.Trees.{text_at, things_at, things_in, has_text, is_among, name_in, is_named, named, stores_in, services_in, regions_in}
+use Rattle.anti_rules.specs.Trees.{text_at, things_at, things_in, is_among, name_in, is_named, named, stores_in, services_in, regions_in}
 use Rattle.anti_rules.specs.Keys.{keys_of, all_fit, has_type, has_count}
 use Rattle.anti_rules.specs.Statements.{has_handler as handler_stated}
 use Rattle.anti_rules.specs.Rules.{rule_line}
 use Rattle.anti_rules.specs.Order.{first_breach}
 use Rattle.anti_rules.specs.declared.rule.Rule.{Rule}
-use Rattle.anti_rules.specs.declared.rule.Rule.TheVariants.{Typed, Counted, PlainNames, DistinctObjects, DistinctHandlers, ServiceRegions, RequestHandlers}
+use Rattle.anti_rules.specs.declared.rule.Rule.TheVariants.{Typed, Counted, PlainNames, DistinctObjects, DistinctHandlers, ServiceRegions, RequestHandlers, RequestValues}
 use Rattle.anti_rules.specs.declared.place.Part.TheVariants.{Service, Handler, Request}
 use Rattle.anti_rules.proofs.Holds.{NoHandlerFails, each_kept, wanted, each_wanted, are_apart, each_apart, tabled, shaped, few_things}
 use Rattle.anti_app.specs.declared.app.ServiceDef.{ServiceDef}
-use Rattle.anti_app.specs.declared.app.HandlerDef.{HandlerDef}
-use Rattle.anti_app.specs.Parts.{number_or_0, regions_of, region_number, stores_of, handler_of, service_of, services_of, service_number, handler_number, handler_in, value_or_empty, request_of, requests_of}
-use Rattle.anti_app.specs.Sound.{are_distinct, is_stored, is_sound_handler, is_sound_service, are_sound_services, has_handler, is_sound_request, are_sound_requests}
-use Rattle.anti_app.specs.Objects.{has_named}
-use Rattle.anti_app.proofs.Lookups.{name_stays, first_found, first_good, first_numbered, first_made, distinct_made}
-use Rattle.anti_app.proofs.Kept.{FailsNone, FailNone, each_sound, each_true, counts_at, length_made, names_back, some_passes}
-use Rattle.anti_app.proofs.SoundLemmas.{service_known}
+use Rattle.anti_app.specs.Parts.{regions_of, stores_of, handler_of, service_of, services_of, request_of, requests_of}
+use Rattle.anti_app.specs.Places.{region_place, service_place, handler_place}
+use Rattle.anti_app.specs.Sound.{are_distinct, is_sound_handler, is_sound_service, are_sound_services, has_handler, is_sound_request, are_sound_requests}
+use Rattle.anti_app.specs.inner.Few.{HaveNumbers}
+use Rattle.anti_app.specs.inner.Fit.{is_fit_handler, is_fit_request, is_fit_service}
+use Rattle.anti_app.proofs.Lookups.{first_made, first_placed, place_there, distinct_made}
+use Rattle.anti_app.proofs.Kept.{FailsNone, FailNone, each_fit, each_sound, each_true, both_pass, counts_at, length_made, some_passes}
+use Rattle.anti_app.proofs.SoundLemmas.{each_known, service_known}
 use Rattle.anti_app.proofs.SoundRegions.{counted, region_below}
 use Rattle.anti_app.proofs.SoundStores.{stored_is}
-use Rattle.anti_app.proofs.Served.{are_plain, named_made, services_plain, handlers_plain}
+use Rattle.anti_app.proofs.Served.{are_plain, named_made, services_plain, each_handler_plain}
 use Rattle.anti_app.proofs.SoundBodies.{body_sound}
-
--- values that are read are short
-value_short : (text : List ℕ) → nat_le (length (value_or_empty (value_of text))) LONGEST_VALUE ≡ true
-value_short text = by_length (nat_le (length text) LONGEST_VALUE) (is_utf8 text) text refl
-  where
-    by_length : (short good : Bool) (text : List ℕ) → nat_le (length text) LONGEST_VALUE ≡ short
-        → nat_le (length (value_or_empty (if short then (if good then Ok text else Err BadUtf8) else Err TooLong))) LONGEST_VALUE ≡ true
-    by_length true true text h = h
-    by_length true false text h = refl
-    by_length false good text h = refl
 
 module _ (doc : Members) (fine : first_breach doc ≡ None) where
   -- ---- handlers
   handler_sound : (home : List ℕ) (earlier : List Data) (d : Data) → FailsNone doc home Handler earlier d
-      → is_sound_handler (stores_of doc) (services_of doc) (number_or_0 (region_number (regions_of doc) home)) (handler_of d) ≡ true
+      → is_sound_handler (stores_of doc) (services_of doc) (region_place (regions_of doc) home) (handler_of d) ≡ true
   unfolding is_sound_handler handler_of
   handler_sound home earlier d none =
       let plain : is_plain (name_in d) ≡ true = wanted (is_plain (name_in d)) (none PlainNames) in
-      and_from _ _ (ap is_plain (name_stays (name_in d) plain) ∙ plain) (body_sound doc fine home earlier d none)
+      and_from _ _ plain (body_sound doc fine home earlier d none)
 
   each_plain : (home : List ℕ) (ds : List Data) → FailNone doc home Handler [] ds → are_plain ds ≡ true
   each_plain home ds none =
@@ -59,7 +48,7 @@ module _ (doc : Members) (fine : first_breach doc ≡ None) where
   unfolding handler_of
   handlers_differ home ds none =
       distinct_made (λ d. is_plain (name_in d)) handler_of (λ e d. bytes_eq (name_in e) (name_in d)) (λ a b. bytes_eq a.name b.name)
-      (λ a b plain also same. names_back (name_in a) (name_in b) plain also same) ds (each_plain home ds none)
+      (λ a b plain also same. same) ds (each_plain home ds none)
       (each_apart (rule_line DistinctHandlers doc home Handler) (λ e d. bytes_eq (name_in e) (name_in d))
       (λ earlier d kept. not-true (is_named (name_in d) earlier) (wanted (not (is_named (name_in d) earlier)) kept)) ds (none DistinctHandlers))
 
@@ -78,16 +67,15 @@ module _ (doc : Members) (fine : first_breach doc ≡ None) where
   unfolding is_sound_service service_of
   service_sound earlier d none handlers =
       let plain : is_plain (name_in d) ≡ true = wanted (is_plain (name_in d)) (none PlainNames) in
-      let stays = name_stays (name_in d) plain in
       let home : List ℕ = text_at (codes "region") d in
       let ds : List Data = things_in (codes "handler") d in
       let apart = and_parts (not (is_named (name_in d) (stores_in doc))) (not (is_named (name_in d) earlier))
       (wanted (not (is_named (name_in d) (stores_in doc)) && not (is_named (name_in d) earlier)) (none DistinctObjects)) in
-      and_from _ _ (ap is_plain stays ∙ plain)
+      and_from _ _ plain
       (and_from _ _ (region_below doc fine home (wanted (is_among home (regions_in doc)) (none ServiceRegions)))
-      (and_from _ _ (ap (λ (name : List ℕ). not (is_stored (stores_of doc) name)) stays ∙ (ap not (stored_is doc fine (name_in d)) ∙ apart.0))
+      (and_from _ _ (ap not (stored_is doc fine (name_in d)) ∙ apart.0)
       (and_from _ _ (length_made handler_of (λ n. nat_le n MOST_HANDLERS) ds (few_handlers earlier d none))
-      (and_from _ _ (each_sound doc home Handler handler_of (is_sound_handler (stores_of doc) (services_of doc) (number_or_0 (region_number (regions_of doc) home)))
+      (and_from _ _ (each_sound doc home Handler handler_of (is_sound_handler (stores_of doc) (services_of doc) (region_place (regions_of doc) home))
       (handler_sound home) [] ds handlers)
       (handlers_differ home ds handlers)))))
 
@@ -106,79 +94,85 @@ module _ (doc : Members) (fine : first_breach doc ≡ None) where
       (wanted (not (is_named (name_in d) (stores_in doc)) && not (is_named (name_in d) earlier)) none)).1) (services_in doc)
       (each_kept DistinctObjects doc fine).services
 
-  few_services : nat_le (length (services_in doc)) MOST_SERVICES ≡ true
-  few_services = few_things 0 MOST_SERVICES (get_member (codes "service") doc) (counted doc fine).1.1.1.1.1.0
+  few_listed : nat_le (length (services_in doc)) MOST_SERVICES ≡ true
+  few_listed = few_things 0 MOST_SERVICES (get_member (codes "service") doc) (counted doc fine).1.1.1.1.1.0
 
   services_differ : are_distinct (λ a b. bytes_eq a.name b.name) (services_of doc) ≡ true
   unfolding service_of
   services_differ =
       distinct_made (λ d. is_plain (name_in d)) (service_of (regions_of doc)) (λ e d. bytes_eq (name_in e) (name_in d)) (λ a b. bytes_eq a.name b.name)
-      (λ a b plain also same. names_back (name_in a) (name_in b) plain also same) (services_in doc) (services_plain doc fine) services_apart
+      (λ a b plain also same. same) (services_in doc) (services_plain doc fine) services_apart
 
   pub services_sound : are_sound_services (length (regions_of doc)) (stores_of doc) (services_of doc) ≡ true
   services_sound =
-      and_from _ _ (length_made (service_of (regions_of doc)) (λ n. nat_le n MOST_SERVICES) (services_in doc) few_services)
+      and_from _ _ (length_made (service_of (regions_of doc)) (λ n. nat_le n MOST_SERVICES) (services_in doc) few_listed)
       (and_from _ _ (each_service [] (services_in doc) (λ rule. (each_kept rule doc fine).services) (λ rule. (each_kept rule doc fine).handlers))
       services_differ)
 
-  -- ---- handlers that are named
-  few_made : length (services_of doc) ≤ 2 ^ 32
-  few_made = let few : length (services_in doc) ≤ MOST_SERVICES = leb-true _ _ few_services in omega (arith, length-map (services_in doc) (service_of (regions_of doc)))
+  -- ---- what the code relies on
+  -- the code can make services of them
+  pub services_fit : list_all is_fit_service (services_in doc) ≡ true
+  unfolding is_fit_service is_fit_handler
+  services_fit = both_pass (λ d. is_plain (name_in d)) (λ d. are_plain (things_in (codes "handler") d)) (services_in doc) (services_plain doc fine) (each_handler_plain doc fine)
 
-  -- the number of a service that is there
+  pub few_services : length (services_of doc) ≤ MOST_SERVICES
+  few_services = let few : length (services_in doc) ≤ MOST_SERVICES = leb-true _ _ few_listed in omega (arith, length-map (services_in doc) (service_of (regions_of doc)))
+
+  -- few services, and few handlers in each
+  pub few_made : HaveNumbers (services_of doc)
+  few_made =
+      let all : list_all (is_sound_service (length (regions_of doc)) (stores_of doc) (services_of doc)) (services_of doc) ≡ true =
+      each_service [] (services_in doc) (λ rule. (each_kept rule doc fine).services) (λ rule. (each_kept rule doc fine).handlers) in
+      record {
+        few = omega (arith, few_services);
+        each = each_known (is_sound_service (length (regions_of doc)) (stores_of doc) (services_of doc)) (λ service. length service.handlers.items < 2 ^ 32)
+            (λ service sound. few_numbers service (service_known (length (regions_of doc)) (stores_of doc) (services_of doc) service sound).few) (services_of doc) all;
+      }
+    where
+      few_numbers : (service : ServiceDef) → length service.handlers.items ≤ MOST_HANDLERS → length service.handlers.items < 2 ^ 32
+      few_numbers service few = omega arith
+
+  -- ---- handlers that are named
+  -- a service that is there stands at its number
   pub service_found : (name : List ℕ) (d : Data) → named name (services_in doc) ≡ Some d
-      → (i : ℕ) × (service_number (services_of doc) name ≡ Some i) × (slice_get (services_of doc) i ≡ Some (service_of (regions_of doc) d)) × (find (λ service. bytes_eq service.name name) (services_of doc) ≡ Some (service_of (regions_of doc) d))
+      → slice_get (services_of doc) (service_place (services_of doc) name) ≡ Some (service_of (regions_of doc) d)
   unfolding service_of
   service_found name d found =
-      let first : find (λ service. bytes_eq service.name name) (services_of doc) ≡ Some (service_of (regions_of doc) d) =
-      first_made (λ e. is_plain (name_in e)) (service_of (regions_of doc)) (has_text (codes "name") name) (λ service. bytes_eq service.name name)
-      (λ e plain. ap (λ (x : List ℕ). bytes_eq x name) (name_stays (name_in e) plain)) (services_in doc) (services_plain doc fine)
-      ∙ ap (option_map (service_of (regions_of doc))) found in
-      let at = first_numbered (λ service. bytes_eq service.name name) (services_of doc) (service_of (regions_of doc) d) few_made first in
-      (at.0, at.1, at.3, first)
+      first_placed (λ service. bytes_eq service.name name) (services_of doc) (service_of (regions_of doc) d)
+      (first_made (service_of (regions_of doc)) (λ service. bytes_eq service.name name) (services_in doc) ∙ ap (option_map (service_of (regions_of doc))) found)
 
-  -- the number of a handler that is there
-  number_found : (d : Data) (name : List ℕ) → are_plain (things_in (codes "handler") d) ≡ true
-      → length (service_of (regions_of doc) d).handlers.items ≤ MOST_HANDLERS → is_named name (things_in (codes "handler") d) ≡ true
-      → (j : ℕ) × (handler_number (service_of (regions_of doc) d).handlers.items name ≡ Some j) × (j < length (service_of (regions_of doc) d).handlers.items)
-  unfolding service_of handler_of
-  number_found d name plain few there =
-      let hs : List HandlerDef = map handler_of (things_in (codes "handler") d) in
-      let any : has_named name hs ≡ true = named_made name (things_in (codes "handler") d) plain ∙ there in
-      let first = first_found (λ handler. bytes_eq handler.name name) hs any in
-      let at = first_numbered (λ handler. bytes_eq handler.name name) hs first.0 (omega arith) first.1 in
-      (at.0, at.1, at.2)
+  -- a handler that is there has a number
+  number_below : (d : Data) (name : List ℕ) → is_named name (things_in (codes "handler") d) ≡ true
+      → position_or_len (λ handler. bytes_eq handler.name name) (service_of (regions_of doc) d).handlers.items < length (service_of (regions_of doc) d).handlers.items
+  unfolding service_of
+  number_below d name there =
+      place_there (λ handler. bytes_eq handler.name name) (map handler_of (things_in (codes "handler") d)) (named_made name (things_in (codes "handler") d) ∙ there)
 
   -- a handler that the rules find has a number
   pub handler_there : (service handler : List ℕ) → handler_stated doc service handler ≡ true
-      → has_handler (services_of doc) (number_or_0 (service_number (services_of doc) service))
-      (number_or_0 (handler_in (services_of doc) (number_or_0 (service_number (services_of doc) service)) handler)) ≡ true
+      → has_handler (services_of doc) (service_place (services_of doc) service) (handler_place (services_of doc) (service_place (services_of doc) service) handler) ≡ true
   handler_there service handler stated =
       let found = some_passes (λ d. is_named handler (things_in (codes "handler") d)) (named service (services_in doc)) stated in
-      let d : Data = found.0 in
-      let made : ServiceDef = service_of (regions_of doc) d in
-      let at = service_found service d found.1 in
-      let plain = handlers_plain doc fine service d found.1 in
-      let all : list_all (is_sound_service (length (regions_of doc)) (stores_of doc) (services_of doc)) (services_of doc) ≡ true =
-      each_service [] (services_in doc) (λ rule. (each_kept rule doc fine).services) (λ rule. (each_kept rule doc fine).handlers) in
-      let sound = first_good (is_sound_service (length (regions_of doc)) (stores_of doc) (services_of doc)) (λ s. bytes_eq s.name service) (services_of doc) made all at.3 in
-      let few : length made.handlers.items ≤ MOST_HANDLERS = (service_known (length (regions_of doc)) (stores_of doc) (services_of doc) made sound).few in
-      let number = number_found d handler plain few found.2 in
-      let here : number_or_0 (service_number (services_of doc) service) ≡ at.0 = ap number_or_0 at.1 in
-      let there : handler_in (services_of doc) at.0 handler ≡ Some number.0 =
-      ap (option_and_then (λ s. handler_number s.handlers.items handler)) at.2 ∙ number.1 in
-      ap (λ (i : ℕ). has_handler (services_of doc) i (number_or_0 (handler_in (services_of doc) i handler))) here
-      ∙ (ap (λ (o : Option ℕ). has_handler (services_of doc) at.0 (number_or_0 o)) there
-      ∙ (ap (λ (o : Option ServiceDef). option_map_or (λ s. nat_lt number.0 (length s.handlers.items)) o false) at.2
-      ∙ lt-ltb number.0 (length made.handlers.items) number.2))
+      let made : ServiceDef = service_of (regions_of doc) found.0 in
+      ap (λ (o : Option ServiceDef). option_map_or (λ s. nat_lt (option_map_or (λ s. position_or_len (λ h. bytes_eq h.name handler) s.handlers.items) o 0) (length s.handlers.items)) o false)
+      (service_found service found.0 found.1)
+      ∙ lt-ltb (position_or_len (λ h. bytes_eq h.name handler) made.handlers.items) (length made.handlers.items) (number_below found.0 handler found.2)
 
   -- ---- requests
+  value_short : (earlier : List Data) (d : Data) → FailsNone doc [] Request earlier d → is_fit_request d ≡ true
+  unfolding is_fit_request
+  value_short earlier d none = wanted (is_fit_request d) (none RequestValues)
+
+  -- the code can make requests of them
+  pub requests_fit : list_all is_fit_request (things_at (codes "request") doc) ≡ true
+  requests_fit = each_fit doc [] Request is_fit_request value_short [] (things_at (codes "request") doc) (λ rule. (each_kept rule doc fine).requests)
+
   request_sound : (earlier : List Data) (d : Data) → FailsNone doc [] Request earlier d → is_sound_request (services_of doc) (request_of (services_of doc) d) ≡ true
-  unfolding is_sound_request request_of
+  unfolding is_sound_request request_of is_fit_request
   request_sound earlier d none =
       and_from _ _ (handler_there (text_at (codes "service") d) (text_at (codes "handler") d)
       (wanted (handler_stated doc (text_at (codes "service") d) (text_at (codes "handler") d)) (none RequestHandlers)))
-      (value_short (text_at (codes "value") d))
+      (value_short earlier d none)
 
   pub requests_sound : are_sound_requests (services_of doc) (requests_of doc) ≡ true
   requests_sound =

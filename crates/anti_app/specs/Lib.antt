@@ -1,5 +1,5 @@
 pub mod Parts
-pub mod Forms
+pub mod Places
 pub mod Chosen
 pub mod Sound
 pub mod Stated

@@ -5,16 +5,14 @@ use Rattle.std.specs.Option.{option_and_then, option_map_or}
 use Rattle.anti_kind.specs.declared.store_kind.Sub.{Sub}
 use Rattle.anti_app.specs.declared.app.App.{App}
 use Rattle.anti_app.specs.declared.app.SubDef.{SubDef}
+use Rattle.anti_app.specs.Objects.{region_of}
 
 abbrev pub is_on : ℕ → SubDef → Bool
 is_on store sub = sub.store == store
 
 -- a subscription as its store has it: its messages come to the region of the service
 abbrev pub sub_of : App → SubDef → Sub
-sub_of app sub = record {
-  channel = sub.channel;
-  region = option_map_or (λ service. service.region) (slice_get app.services.items sub.service) 0;
-}
+sub_of app sub = record { channel = sub.channel; region = region_of app sub.service }
 
 -- the subscriptions of a store, in the order of the document
 abbrev pub subs_on : App → ℕ → List Sub

@@ -1,4 +1,4 @@
-ghost use Rattle.std.specs.Prelude.{◌≡◌, [], map, IfOk, IsTrue, true, false, MatchOption, option_map};
+ghost use Rattle.std.specs.Prelude.{◌≡◌, [], IfOk, IsTrue, None, true, false, MatchOption, option_map};
 ghost use Rattle.std.specs.Str.{is_utf8};
 ghost use Rattle.toml.specs.Parse.{parse_document};
 ghost use Rattle.toml.specs.View.{table_view};
@@ -6,10 +6,7 @@ ghost use Rattle.anti_ids.specs.Answers.{AnswersBut};
 ghost use Rattle.anti_rules.specs.Order.{first_breach};
 ghost use Rattle.anti_rules.specs.inner.Parses.{all_bodies};
 ghost use Rattle.anti_app.specs.Sound.{is_sound};
-ghost use Rattle.anti_app.specs.Parts.{seed_of, workers_of};
-ghost use Rattle.anti_app.specs.Chosen.{app_with, choices_of};
-ghost use Rattle.anti_app.specs.inner.Choices.{if_chosen};
-ghost use Rattle.anti_app.specs.Stated.{app_of, app_or, app_unless};
+ghost use Rattle.anti_app.specs.Stated.{app_chosen, app_in, app_of, app_with};
 ghost use Rattle.anti_app.specs.declared.app.AppFault.TheVariants as faults;
 
 use crate::app::{App, AppFault};
@@ -19,18 +16,19 @@ use crate::request::requests_of;
 use crate::service::services_of;
 use crate::store::stores_of;
 use crate::sub::subs_of;
-use crate::table_values::{few_or, integer_in, whole_or_0};
-use anti_ids::{List, MOST_WORKERS, NoMemory};
+use crate::table_values::{integer_in, number_or};
+use anti_ids::{List, NoMemory};
 use anti_rules::{Bodies, first_breach, things_at};
 use std::alloc::Global;
 use toml::Table;
 
 // How many workers a run has where the document says nothing.
-const WORKERS: u32 = 2;
+const WORKERS: u64 = 2;
 
-// The application of a document, without its choices. Its bodies are parsed.
+// The application of a document that fails no rule, without its choices. Its bodies are parsed.
 fn parts_of(alloc: Global, doc: &Table, bodies: Bodies) -> Result<App, NoMemory>
-    requires { bodies ≡ all_bodies (table_view doc.now) }
+    requires fine { first_breach (table_view doc.now) ≡ None }
+    requires parsed { bodies ≡ all_bodies (table_view doc.now) }
     ensures { IfOk result (λ app. app ≡ app_with (table_view doc.now) []) }
 {
     let regions = regions_of(alloc, things_at(doc, "regions"))?;
@@ -50,8 +48,8 @@ fn parts_of(alloc: Global, doc: &Table, bodies: Bodies) -> Result<App, NoMemory>
         subs,
         requests,
         choices: List::new(alloc),
-        seed: whole_or_0(integer_in(doc, "seed")),
-        workers: few_or(MOST_WORKERS, WORKERS, integer_in(doc, "workers")),
+        seed: number_or(0, integer_in(doc, "seed")),
+        workers: number_or(WORKERS, integer_in(doc, "workers")) as u32,
     })
 }
 
@@ -78,38 +76,26 @@ fn table_in(alloc: Global, text: &str) -> Result<Option<Table>, NoMemory>
 }
 
 // The application of a document that fails no rule, or the number, counted from 1, of its first choice that is none.
-fn chosen(alloc: Global, doc: &Table, bodies: Bodies) -> Result<Result<App, u32>, NoMemory>
-    requires { bodies ≡ all_bodies (table_view doc.now) }
-    ensures { IfOk result (λ app. app ≡
-        if_chosen (app_with (table_view doc.now)) (choices_of (table_view doc.now))) }
+fn chosen(alloc: Global, doc: &Table, bodies: Bodies) -> Result<App, AppFault>
+    requires fine { first_breach (table_view doc.now) ≡ None }
+    requires parsed { bodies ≡ all_bodies (table_view doc.now) }
+    ensures { AnswersBut faults.NoMemory result (app_chosen (table_view doc.now)) }
 {
     let mut app = parts_of(alloc, doc, bodies)?;
-    match choices_of(alloc, &app, things_at(doc, "choices"))? {
-        Ok(choices) => {
-            app.choices = choices;
-            Ok(Ok(app))
-        }
-        Err(number) => Ok(Err(number)),
-    }
+    app.choices = choices_of(alloc, &app, things_at(doc, "choices"))?;
+    Ok(app)
 }
 
 // The application of a document.
 fn app_in(alloc: Global, doc: &Table) -> Result<App, AppFault>
-    ensures { AnswersBut faults.NoMemory result
-        (app_unless (table_view doc.now) (first_breach (table_view doc.now))) }
+    ensures { AnswersBut faults.NoMemory result (app_in (table_view doc.now)) }
 {
-    let bodies = match first_breach(alloc, doc)? {
-        Ok(bodies) => bodies,
-        Err(breach) => {
-            return Err(AppFault::Bad {
-                rule: breach.rule,
-                place: breach.place,
-            });
-        }
-    };
-    match chosen(alloc, doc, bodies)? {
-        Ok(app) => Ok(app),
-        Err(number) => Err(AppFault::BadChoice { number }),
+    match first_breach(alloc, doc)? {
+        Ok(bodies) => chosen(alloc, doc, bodies),
+        Err(breach) => Err(AppFault::Bad {
+            rule: breach.rule,
+            place: breach.place,
+        }),
     }
 }
 

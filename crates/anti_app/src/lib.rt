@@ -4,7 +4,7 @@
 mod app;
 mod choice;
 mod document;
-mod form;
+mod named;
 mod number;
 mod objects;
 mod positions;

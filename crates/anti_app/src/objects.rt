@@ -1,10 +1,14 @@
-ghost use Rattle.std.specs.Prelude.{◌≡◌, ℕ, ◌<◌, ◌≤◌, Some, length, option_map, slice_get, IfOk};
+ghost use Rattle.std.specs.Prelude.{◌≡◌, ℕ, ◌<◌, Some, length, option_map, slice_get, IfOk};
+ghost use Rattle.std.specs.Option.{option_map_or};
+ghost use Rattle.anti_lang.specs.Bodies.{block_of};
+ghost use Rattle.anti_lang.specs.Program.{End};
 ghost use Rattle.anti_lang.specs.Steps.{list_of, steps_of};
-ghost use Rattle.anti_app.specs.Objects.{has_named, body_among, body_of, handler_among, handler_number, has_handler, inbox_number, inbox_of, is_here, is_queue_at, is_store, object_at, object_count, region_of, service_among, store_among, store_names, store_number, stores_here};
+ghost use Rattle.anti_app.specs.Objects.{has_named, body_of, handler_number, has_handler, inbox_number, inbox_of, is_here, is_queue_at, is_store, object_at, object_count, region_of, store_names, store_number, stores_here};
 ghost use Rattle.anti_app.specs.Running.{CanRun};
 ghost use Rattle.anti_app.specs.Numbers.{service_at};
 
 use crate::app::{App, HandlerDef, ServiceDef, StoreDef};
+use crate::named::place_of;
 use anti_ids::{Name, NoMemory};
 use anti_lang::Statement;
 use std::alloc::Global;
@@ -80,48 +84,11 @@ fn item_at<T>(items: &[T], index: usize) -> Option<&T>
     items.get(index)
 }
 
-// The place of the store with a name among these, or how many they are.
-fn store_among(stores: &[StoreDef], name: &Name) -> usize
-    ensures place { result ≡ store_among stores.now name.now }
-    ensures within { result ≤ length stores.now }
-{
-    for (place, store) in stores.iter().enumerate() {
-        if store.name == *name {
-            return place;
-        }
-    }
-    stores.len()
-}
-
-// The place of the handler with a name among these, or how many they are.
-fn handler_among(handlers: &[HandlerDef], name: &Name) -> usize
-    ensures { result ≡ handler_among handlers.now name.now }
-{
-    for (place, handler) in handlers.iter().enumerate() {
-        if handler.name == *name {
-            return place;
-        }
-    }
-    handlers.len()
-}
-
-// The place of the service with a name among these, or how many they are.
-fn service_among(services: &[ServiceDef], name: &Name) -> usize
-    ensures place { result ≡ service_among services.now name.now }
-    ensures within { result ≤ length services.now }
-{
-    for (place, service) in services.iter().enumerate() {
-        if service.name == *name {
-            return place;
-        }
-    }
-    services.len()
-}
-
 // The body of a handler of a service by its number; the empty one, where there is no such handler.
 #[tactic(auto, using(crate::proofs::Blocks::list_again))]
 fn body_among(service: &ServiceDef, handler: usize) -> &[Statement]
-    ensures { steps_of result.now ≡ list_of (body_among (Some service.now) handler) }
+    ensures { steps_of result.now ≡ list_of
+        (option_map_or (λ h. block_of h.body) (slice_get service.now.handlers.items handler) End) }
 {
     match item_at(service.handlers.as_slice(), handler) {
         Some(handler) => handler.body.as_slice(),
@@ -154,7 +121,7 @@ pub fn handler_number(app: &App, service: usize, name: &Name) -> usize
     ensures { result ≡ handler_number app.now service name.now }
 {
     match app.services.as_slice().get(service) {
-        Some(service) => handler_among(service.handlers.as_slice(), name),
+        Some(service) => place_of(service.handlers.as_slice(), name.bytes()),
         None => 0,
     }
 }
@@ -193,7 +160,7 @@ pub fn inbox_of(app: &App, name: &Name) -> u32
     requires { CanRun app.now }
     ensures { result ≡ inbox_of app.now name.now }
 {
-    (app.stores.len() + service_among(app.services.as_slice(), name)) as u32
+    (app.stores.len() + place_of(app.services.as_slice(), name.bytes())) as u32
 }
 
 /// The number of the store with a name.
@@ -201,7 +168,7 @@ pub fn store_number(app: &App, name: &Name) -> u32
     requires { CanRun app.now }
     ensures { result ≡ store_number app.now name.now }
 {
-    store_among(app.stores.as_slice(), name) as u32
+    place_of(app.stores.as_slice(), name.bytes()) as u32
 }
 
 /// The names of the stores, by their numbers.

@@ -1,30 +1,36 @@
-ghost use Rattle.std.specs.Prelude.{◌≡◌, map, IfOk};
+ghost use Rattle.std.specs.Prelude.{◌≡◌, ◌≤◌, length, map, IfOk, IsTrue};
+ghost use Rattle.std.specs.List.{list_all};
 ghost use Rattle.anti_ids.specs.List.{plain};
-ghost use Rattle.anti_ids.specs.Values.{value_of};
 ghost use Rattle.toml.specs.View.{view};
-ghost use Rattle.anti_app.specs.Parts.{value_or_empty, request_of};
+ghost use Rattle.anti_app.specs.Parts.{request_of};
+ghost use Rattle.anti_app.specs.inner.Few.{HaveNumbers};
+ghost use Rattle.anti_app.specs.inner.Fit.{is_fit_request};
 
 use crate::app::{RequestDef, Requests, ServiceDef};
 use crate::service::{handler_at, service_at};
-use anti_ids::{List, NoMemory, Value as Payload, ValueFault};
+use anti_ids::{LONGEST_VALUE, List, NoMemory, Value as Payload, ValueFault};
 use anti_rules::text_at;
 use std::alloc::Global;
 use toml::Value;
 
-// The value that a text is, or the empty one where it is too long.
+// The value that a short text is.
 fn value_of(alloc: Global, text: &str) -> Result<Payload, NoMemory>
-    ensures { IfOk result (λ value. value ≡ value_or_empty (value_of text.now)) }
+    requires { length text.now ≤ LONGEST_VALUE }
+    ensures { IfOk result (λ value. value ≡ text.now) }
 {
     match Payload::new(alloc, text.as_bytes()) {
         Ok(value) => Ok(value),
-        Err(ValueFault::TooLong) => Ok(Payload::empty(alloc)),
-        Err(ValueFault::BadUtf8) => Ok(Payload::empty(alloc)),
         Err(ValueFault::NoMemory) => Err(NoMemory),
+        // the text is short, and a text is UTF-8
+        Err(ValueFault::TooLong) => unreachable!(),
+        Err(ValueFault::BadUtf8) => unreachable!(),
     }
 }
 
-#[tactic(auto, unfolding(crate::specs::Parts::request_of))]
+#[tactic(auto, unfolding(crate::specs::Parts::request_of, crate::specs::inner::Fit::is_fit_request))]
 fn request_of(alloc: Global, services: &[ServiceDef], value: &Value) -> Result<RequestDef, NoMemory>
+    requires few { HaveNumbers services.now }
+    requires fit { IsTrue (is_fit_request (view value.now)) }
     ensures { IfOk result (λ request. request ≡ request_of services.now (view value.now)) }
 {
     let payload = value_of(alloc, text_at(value, "value"))?;
@@ -41,6 +47,8 @@ pub fn requests_of(
     services: &[ServiceDef],
     values: &[Value],
 ) -> Result<Requests, NoMemory>
+    requires few { HaveNumbers services.now }
+    requires fit { IsTrue (list_all is_fit_request (map view values.now)) }
     ensures { IfOk result (λ requests. requests
         ≡ plain (map (request_of services.now) (map view values.now))) }
 {

@@ -1,14 +1,16 @@
-ghost use Rattle.std.specs.Prelude.{◌≡◌, map, IfOk, position};
-ghost use Rattle.std.specs.Str.{bytes_eq};
+ghost use Rattle.std.specs.Prelude.{◌≡◌, ◌<◌, ◌^◌, length, map, IfOk, IsTrue};
+ghost use Rattle.std.specs.List.{list_all};
 ghost use Rattle.anti_ids.specs.List.{plain};
 ghost use Rattle.toml.specs.View.{view};
 ghost use Rattle.anti_rules.specs.inner.Parses.{handler_body, service_bodies};
-ghost use Rattle.anti_app.specs.Parts.{handler_of, service_of, service_place, service_number, handler_number, handler_in, service_at, handler_at};
+ghost use Rattle.anti_app.specs.Parts.{handler_of, service_of, service_at, handler_at};
+ghost use Rattle.anti_app.specs.inner.Few.{HaveNumbers};
+ghost use Rattle.anti_app.specs.inner.Fit.{is_fit_handler, is_fit_service};
 
 use crate::app::{HandlerDef, Handlers, ServiceDef, Services};
-use crate::region::region_number;
+use crate::named::number_in;
 use crate::reversal::turned;
-use crate::table_values::{name_at, small};
+use crate::table_values::name_in;
 use anti_ids::{List, Name, NoMemory};
 use anti_lang::Body;
 use anti_rules::{Bodies, text_at, things_in};
@@ -16,20 +18,22 @@ use std::alloc::Global;
 use toml::Value;
 
 // A handler, of which the body is parsed.
-#[tactic(auto, unfolding(crate::specs::Parts::handler_of), using(crate::proofs::ParsedBodies::same_body))]
+#[tactic(auto, unfolding(crate::specs::Parts::handler_of, crate::specs::inner::Fit::is_fit_handler), using(crate::proofs::ParsedBodies::same_body))]
 fn handler_of(value: &Value, body: Body) -> HandlerDef
-    requires { body ≡ handler_body (view value.now) }
+    requires parsed { body ≡ handler_body (view value.now) }
+    requires fit { IsTrue (is_fit_handler (view value.now)) }
     ensures { result ≡ handler_of (view value.now) }
 {
     HandlerDef {
-        name: name_at(value, "name"),
+        name: name_in(value),
         body,
     }
 }
 
 // Some handlers, of which the bodies are parsed.
 fn handlers_of(alloc: Global, values: &[Value], bodies: List<Body>) -> Result<Handlers, NoMemory>
-    requires { bodies.items ≡ map handler_body (map view values.now) }
+    requires parsed { bodies.items ≡ map handler_body (map view values.now) }
+    requires fit { IsTrue (list_all is_fit_handler (map view values.now)) }
     ensures { IfOk result (λ handlers. handlers ≡ plain (map handler_of (map view values.now))) }
 {
     let mut handlers = List::new(alloc);
@@ -45,20 +49,22 @@ fn handlers_of(alloc: Global, values: &[Value], bodies: List<Body>) -> Result<Ha
 }
 
 // A service, of which the bodies are parsed.
-#[tactic(auto, unfolding(crate::specs::Parts::service_of))]
+#[tactic(auto, unfolding(crate::specs::Parts::service_of, crate::specs::inner::Fit::is_fit_service))]
 fn service_of(
     alloc: Global,
     regions: &[Name],
     value: &Value,
     bodies: List<Body>,
 ) -> Result<ServiceDef, NoMemory>
-    requires { bodies ≡ service_bodies (view value.now) }
+    requires few { length regions.now < 2 ^ 32 }
+    requires parsed { bodies ≡ service_bodies (view value.now) }
+    requires fit { IsTrue (is_fit_service (view value.now)) }
     ensures { IfOk result (λ service. service ≡ service_of regions.now (view value.now)) }
 {
     let handlers = handlers_of(alloc, things_in(value, "handler"), bodies)?;
     Ok(ServiceDef {
-        name: name_at(value, "name"),
-        region: region_number(regions, text_at(value, "region").as_bytes()).unwrap_or(0),
+        name: name_in(value),
+        region: number_in(regions, text_at(value, "region")),
         handlers,
     })
 }
@@ -70,7 +76,9 @@ pub fn services_of(
     values: &[Value],
     bodies: Bodies,
 ) -> Result<Services, NoMemory>
-    requires { bodies.items ≡ map service_bodies (map view values.now) }
+    requires few { length regions.now < 2 ^ 32 }
+    requires parsed { bodies.items ≡ map service_bodies (map view values.now) }
+    requires fit { IsTrue (list_all is_fit_service (map view values.now)) }
     ensures { IfOk result (λ services. services ≡
         plain (map (service_of regions.now) (map view values.now))) }
 {
@@ -86,71 +94,21 @@ pub fn services_of(
     Ok(services)
 }
 
-/// Where the service of a name stands.
-pub fn service_place(services: &[ServiceDef], text: &[u8]) -> Option<usize>
-    ensures { result ≡ service_place services.now text.now }
-{
-    for (place, service) in services.iter().enumerate() {
-        if service.name.bytes() == text {
-            return Some(place);
-        }
-    }
-    None
-}
-
-/// The number of the service of a name.
-pub fn service_number(services: &[ServiceDef], text: &[u8]) -> Option<u32>
-    ensures { result ≡ service_number services.now text.now }
-{
-    match service_place(services, text) {
-        Some(place) => small(place),
-        None => None,
-    }
-}
-
-// Where the handler of a name stands.
-fn handler_place(handlers: &[HandlerDef], text: &[u8]) -> Option<usize>
-    ensures { result ≡ position (λ handler. bytes_eq handler.name text.now) handlers.now }
-{
-    for (place, handler) in handlers.iter().enumerate() {
-        if handler.name.bytes() == text {
-            return Some(place);
-        }
-    }
-    None
-}
-
-// The number of the handler of a name among those of a service.
-fn handler_number(handlers: &[HandlerDef], text: &[u8]) -> Option<u32>
-    ensures { result ≡ handler_number handlers.now text.now }
-{
-    match handler_place(handlers, text) {
-        Some(place) => small(place),
-        None => None,
-    }
-}
-
-// The number of the handler of a name among those of the service of this number.
-fn handler_in(services: &[ServiceDef], number: u32, text: &[u8]) -> Option<u32>
-    ensures { result ≡ handler_in services.now number text.now }
-{
-    match services.get(number as usize) {
-        Some(service) => handler_number(service.handlers.as_slice(), text),
-        None => None,
-    }
-}
-
-/// The number of the service that a thing names, or 0 where it names none.
+/// The number of the service that a thing names.
 pub fn service_at(services: &[ServiceDef], value: &Value) -> u32
+    requires { HaveNumbers services.now }
     ensures { result ≡ service_at services.now (view value.now) }
 {
-    service_number(services, text_at(value, "service").as_bytes()).unwrap_or(0)
+    number_in(services, text_at(value, "service"))
 }
 
-/// The number of the handler that a thing names among those of the service that it names, or 0 where it names none.
+/// The number of the handler that a thing names among those of the service that it names.
 pub fn handler_at(services: &[ServiceDef], value: &Value) -> u32
+    requires { HaveNumbers services.now }
     ensures { result ≡ handler_at services.now (view value.now) }
 {
-    let service = service_at(services, value);
-    handler_in(services, service, text_at(value, "handler").as_bytes()).unwrap_or(0)
+    match services.get(service_at(services, value) as usize) {
+        Some(service) => number_in(service.handlers.as_slice(), text_at(value, "handler")),
+        None => 0,
+    }
 }

@@ -2,6 +2,7 @@ ghost use Rattle.std.specs.Prelude.{◌≡◌, IfOk};
 ghost use Rattle.anti_app.specs.Subs.{sub_of, subs_on};
 
 use crate::app::{App, SubDef};
+use crate::objects::region_of;
 use anti_ids::NoMemory;
 use anti_kind::Sub;
 use std::alloc::Global;
@@ -10,15 +11,9 @@ use std::alloc::Global;
 fn sub_of(app: &App, sub: &SubDef) -> Sub
     ensures { result ≡ sub_of app.now sub.now }
 {
-    match app.services.as_slice().get(sub.service as usize) {
-        Some(service) => Sub {
-            channel: sub.channel,
-            region: service.region,
-        },
-        None => Sub {
-            channel: sub.channel,
-            region: 0,
-        },
+    Sub {
+        channel: sub.channel,
+        region: region_of(app, sub.service as usize),
     }
 }
 

@@ -1,6 +1,7 @@
 -- The application of a load is sound.
 use Rattle.std.proofs.Common.{◌≡◌, ℕ, ◌≤◌, codes, List, [], ◌∷◌, true, nat_le, length, map, Result, Ok, Err, IsTrue, IfOk, refl, ap, ◌∙◌}
 use Rattle.std.specs.List.{list_all}
+use Rattle.std.specs.Result.{result_unwrap_or}
 use Rattle.std.proofs.lemmas.Bool.{and_from, le-leb}
 use Rattle.std.proofs.lemmas.List.{length-map}
 use Rattle.rand_core.specs.Steps.{first_words}
@@ -8,7 +9,7 @@ use Rattle.rand_pcg.specs.Pcg.{pcg32}
 use Rattle.anti_ids.specs.Names.{is_plain}
 use Rattle.anti_ids.specs.declared.limits.TheConstants.{MOST_REQUESTS}
 use Rattle.anti_ids.specs.declared.memory.NoMemory.{NoMemory}
-use Rattle.anti_lang.specs.Program.{Block}
+use Rattle.anti_lang.specs.Program.{Block, End}
 use Rattle.anti_lang.specs.Bodies.{block_of, body_of}
 use Rattle.anti_lang.specs.Faults.{block_fault, variable_fault}
 use Rattle.anti_lang.specs.Parsing.{parsed}
@@ -17,7 +18,6 @@ use Rattle.anti_lang.proofs.PlainLemmas.{block_again}
 use Rattle.anti_app.specs.declared.app.App.{App}
 use Rattle.anti_app.specs.declared.app.ServiceDef.{ServiceDef}
 use Rattle.anti_app.specs.declared.app.StoreDef.{StoreDef}
-use Rattle.anti_app.specs.Parts.{body_or_empty}
 use Rattle.anti_app.specs.Sound.{is_sound_store, serves, fits_stores, fits_services, is_sound_body, is_sound_handler, is_sound_service, hands_out, is_sound_sub, is_sound_request, is_sound_choice, are_sound_regions, are_sound_stores, are_sound_services, are_sound_subs, are_sound_requests, are_sound_choices, are_sound_numbers, is_sound}
 use Rattle.anti_load.specs.Load.{posts, notes, post_lines, note_lines, poster, reader, fans, generator, request_of, load_application}
 use Rattle.anti_load.proofs.Bodies.{post_block, post_stated, note_block, note_stated}
@@ -34,11 +34,11 @@ services = poster ∷ reader ∷ []
 -- a handler whose lines state a sound body is sound
 handler_sound : (region : ℕ) (name : List ℕ) (stated : Result Block LangFault) (block : Block) → is_plain name ≡ true → stated ≡ Ok block
     → is_sound_body stores services region block ≡ true
-    → is_sound_handler stores services region (record { name = name; body = body_or_empty stated }) ≡ true
+    → is_sound_handler stores services region (record { name = name; body = body_of (result_unwrap_or stated End) }) ≡ true
 unfolding is_sound_handler
 handler_sound region name stated block named is sound =
-    let read : body_or_empty stated ≡ body_of block = ap body_or_empty is in
-    let body : block_of (body_or_empty stated) ≡ block = ap block_of read ∙ block_again block in
+    let read : body_of (result_unwrap_or stated End) ≡ body_of block = ap (λ (read : Result Block LangFault). body_of (result_unwrap_or read End)) is in
+    let body : block_of (body_of (result_unwrap_or stated End)) ≡ block = ap block_of read ∙ block_again block in
     and_from _ _ named (ap (is_sound_body stores services region) body ∙ sound)
 
 post_sound : is_sound_body stores services 0 post_block ≡ true

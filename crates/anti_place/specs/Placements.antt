@@ -8,7 +8,8 @@ use Rattle.anti_lang.specs.Program.{Call, Send}
 use Rattle.anti_app.specs.declared.app.App.{App}
 use Rattle.anti_app.specs.declared.app.HandlerDef.{HandlerDef}
 use Rattle.anti_app.specs.declared.app.ServiceDef.{ServiceDef}
-use Rattle.anti_app.specs.Objects.{handler_number, service_among}
+use Rattle.anti_app.specs.Objects.{handler_number}
+use Rattle.anti_app.specs.Places.{service_place}
 use Rattle.anti_place.specs.declared.fault.Fault.{Fault}
 use Rattle.anti_place.specs.declared.placement.Placement.{Placement}
 use Rattle.anti_place.specs.declared.placement.Placement.TheVariants.{Yes, No}
@@ -19,7 +20,7 @@ use Rattle.anti_place.specs.Paths.{first_fault}
 -- whether a service and a handler that are named are these
 abbrev pub is_handler : App → ℕ → ℕ → List ℕ → List ℕ → Bool
 is_handler app service handler service_name name =
-    service_among app.services.items service_name == service && handler_number app service name == handler
+    service_place app.services.items service_name == service && handler_number app service name == handler
 
 -- whether a line calls the handler, and whether it sends to it
 abbrev pub calls_it : App → ℕ → ℕ → Line → Bool

@@ -1,7 +1,8 @@
 -- The looks of a barrier, over the stores with a replica in the region.
-use Rattle.std.proofs.Common.{◌≡◌, ℕ, zero, suc, ◌+◌, ◌<◌, ◌==◌, ◌&&◌, ◌||◌, Bool, true, false, cond, List, [], ◌∷◌, length, refl, sym, ap, ◌∙◌, arith}
+use Rattle.std.proofs.Common.{◌≡◌, ℕ, zero, suc, ◌+◌, ◌<◌, ◌==◌, ◌&&◌, ◌||◌, Bool, true, false, cond, if◌then◌else◌, List, [], ◌∷◌, length, refl, sym, ap, ◌∙◌, arith}
 use Rattle.std.specs.Prelude.{slice_get}
 use Rattle.std.specs.List.{list_any, list_all}
+use Rattle.std.specs.Option.{option_map_or}
 use Rattle.std.proofs.lemmas.Bool.{eqb-true, ne_eqb, eq-eqb, or_left, or_right, or_from}
 use Rattle.std.proofs.lemmas.Bool.Decides.{nat_tests}
 use Rattle.anti_ids.specs.Each.{Each}
@@ -12,7 +13,7 @@ use Rattle.anti_app.specs.declared.app.StoreDef.{StoreDef}
 use Rattle.anti_shim.specs.declared.looks.PlannedLook.{PlannedLook}
 use Rattle.anti_shim.specs.Plans.{with_look, plan}
 use Rattle.anti_proc.specs.Barriers.{made_at, is_asked}
-use Rattle.anti_app.specs.Objects.{is_here, here_in, if_here, here_from}
+use Rattle.anti_app.specs.Objects.{is_here, here_from}
 
 -- whether a number is among these
 abbrev pub is_among : ℕ → List ℕ → Bool
@@ -20,7 +21,7 @@ is_among store stores = list_any (λ other. other == store) stores
 
 -- ---- the stores with a replica in the region
 
-not_put : (here : Bool) (n store : ℕ) (further : List ℕ) → store < n → is_among store further ≡ false → is_among store (if_here here n further) ≡ false
+not_put : (here : Bool) (n store : ℕ) (further : List ℕ) → store < n → is_among store further ≡ false → is_among store (if here then n ∷ further else further) ≡ false
 not_put true n store further lt none = or_from (n == store) (is_among store further) (ne_eqb n store (λ e. omega arith)) none
 not_put false n store further lt none = none
 
@@ -29,16 +30,16 @@ not_before region n store [] lt = refl
 not_before region n store (s ∷ ss) lt =
     not_put (is_here region s) n store (here_from region (suc n) ss) lt (not_before region (suc n) store ss (omega arith))
 
-is_first : (here : Bool) (n store : ℕ) (further : List ℕ) → store ≡ n → is_among store further ≡ false → is_among store (if_here here n further) ≡ here
+is_first : (here : Bool) (n store : ℕ) (further : List ℕ) → store ≡ n → is_among store further ≡ false → is_among store (if here then n ∷ further else further) ≡ here
 is_first true n store further e none = or_left (n == store) (is_among store further) (eq-eqb n store (sym e))
 is_first false n store further e none = none
 
-is_later : (here : Bool) (n store : ℕ) (further : List ℕ) → n < store → is_among store (if_here here n further) ≡ is_among store further
+is_later : (here : Bool) (n store : ℕ) (further : List ℕ) → n < store → is_among store (if here then n ∷ further else further) ≡ is_among store further
 is_later true n store further lt = ap (λ (b : Bool). b || is_among store further) (ne_eqb n store (λ e. omega arith))
 is_later false n store further lt = refl
 
 -- a store is among them just where it has a replica there
-pub among_here : (region n at store : ℕ) (stores : List StoreDef) → store ≡ n + at → is_among store (here_from region n stores) ≡ here_in region (slice_get stores at)
+pub among_here : (region n at store : ℕ) (stores : List StoreDef) → store ≡ n + at → is_among store (here_from region n stores) ≡ option_map_or (is_here region) (slice_get stores at) false
 among_here region n at store [] e = refl
 among_here region n zero store (s ∷ ss) e =
     is_first (is_here region s) n store (here_from region (suc n) ss) (omega arith) (not_before region (suc n) store ss (omega arith))
@@ -70,7 +71,7 @@ module _ (n o : ℕ) (further : List ℕ) (lineage : List WriteId) (behind : n �
       ap (λ (x : List PlannedLook). with_look n (ids_of n lineage) x) none ∙ ap (λ (m : ℕ). with_look m (ids_of m lineage) []) same
   by_test false t = rest
 
-  at_store : (here : Bool) → made_at o (plan (if_here here n further) lineage) ≡ its_look (is_among o (if_here here n further)) o lineage
+  at_store : (here : Bool) → made_at o (plan (if here then n ∷ further else further) lineage) ≡ its_look (is_among o (if here then n ∷ further else further)) o lineage
   at_store true = at_with_look o n (ids_of n lineage) (plan further lineage) ∙ by_test (n == o) refl
   at_store false = rest
 
@@ -150,7 +151,7 @@ pub looks_are_at : (stores : List ℕ) (lineage : List WriteId) → Each (IsLook
 looks_are_at stores lineage = each_look stores stores lineage (λ store among. among)
 
 -- a store with a replica is one of these
-pub here_within : (region at : ℕ) (stores : List StoreDef) → here_in region (slice_get stores at) ≡ true → at < length stores
+pub here_within : (region at : ℕ) (stores : List StoreDef) → option_map_or (is_here region) (slice_get stores at) false ≡ true → at < length stores
 here_within region at [] here = absurd (cc)
 here_within region zero (s ∷ ss) here = omega arith
 here_within region (suc at) (s ∷ ss) here = let within = here_within region at ss here in omega arith

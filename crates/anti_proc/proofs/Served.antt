@@ -1,7 +1,7 @@
 -- The stores, the inboxes and the handlers that a body of a sound application names are there.
 use Rattle.std.proofs.Common.{◌≡◌, ℕ, suc, ◌+◌, ◌-◌, ◌<◌, ◌≤◌, Bool, true, false, not, cond, ◌&&◌, ◌||◌, List, [], ◌∷◌, ◌++◌, length, map, slice_get, Option, Some, None, refl, sym, ap, ◌∙◌, subst, inl, inr, arith}
 use Rattle.std.specs.List.{All, AllPairs, list_all, list_any}
-use Rattle.std.specs.Option.{option_map_or}
+use Rattle.std.specs.Option.{option_and_then, option_map_or}
 use Rattle.std.specs.Str.{bytes_eq}
 use Rattle.std.proofs.lemmas.Bool.{and_parts, and_from, or_cases, or_from, or_left, or_right}
 use Rattle.std.proofs.lemmas.List.Elements.{All-head, All-tail}
@@ -11,6 +11,7 @@ use Rattle.anti_ids.specs.Names.{is_name}
 use Rattle.anti_kind.specs.Kinds.{facts_of}
 use Rattle.anti_kind.specs.declared.store_kind.StoreKind.{StoreKind}
 use Rattle.anti_lang.specs.Blocks.{lines_of, step_lines}
+use Rattle.anti_lang.specs.Bodies.{block_of}
 use Rattle.anti_lang.specs.Lines.{Line, OpenRepeat, OpenIf, Close}
 use Rattle.anti_lang.specs.Program as program
 use Rattle.anti_lang.specs.Program.{Step, Block}
@@ -20,7 +21,8 @@ use Rattle.anti_app.specs.declared.app.HandlerDef.{HandlerDef}
 use Rattle.anti_app.specs.declared.app.ServiceDef.{ServiceDef}
 use Rattle.anti_app.specs.declared.app.StoreDef.{StoreDef}
 use Rattle.anti_app.specs.Sound.{fits_services, fits_stores, is_near, is_served, is_stored, serves}
-use Rattle.anti_app.specs.Objects.{has_named, body_among, body_in, body_of, has_handler, inbox_of, service_among, store_among, store_names, store_number}
+use Rattle.anti_app.specs.Objects.{has_named, body_of, has_handler, inbox_of, store_names, store_number}
+use Rattle.anti_app.specs.Places.{service_place, store_place}
 use Rattle.anti_app.proofs.SoundLemmas.{SoundApp, SoundBody, SoundHandler, SoundService, SoundStore}
 use Rattle.anti_app.specs.Numbers.{IsStore, service_at}
 use Rattle.anti_proc.proofs.Keeping.{BlockFits, StepFits, plain_is_name}
@@ -45,13 +47,13 @@ same_text a b same = (bytes_eq-Decides a b).0 same
 
 -- ---- stores
 
-below_or : (here : Bool) (m n : ℕ) (further : Bool) → (here || further) ≡ true → (further ≡ true → m < n) → cond here 0 (suc m) < suc n
+below_or : (here : Bool) (m n : ℕ) (further : Bool) → (here || further) ≡ true → (further ≡ true → m < n) → cond (not here) (1 + m) 0 < suc n
 below_or true m n further some later = omega arith
 below_or false m n further some later = let less : m < n = later some in omega arith
 
-stored_below : (stores : List StoreDef) (name : List ℕ) → is_stored stores name ≡ true → store_among stores name < length stores
+stored_below : (stores : List StoreDef) (name : List ℕ) → is_stored stores name ≡ true → store_place stores name < length stores
 stored_below [] name stored = absurd (cc)
-stored_below (s ∷ ss) name stored = below_or (bytes_eq s.name name) (store_among ss name) (length ss) (is_stored ss name) stored (stored_below ss name)
+stored_below (s ∷ ss) name stored = below_or (bytes_eq s.name name) (store_place ss name) (length ss) (is_stored ss name) stored (stored_below ss name)
 
 its_name : (test : StoreKind → Bool) (name : List ℕ) (region : ℕ) (store : StoreDef) → serves test name region store ≡ true → bytes_eq store.name name ≡ true
 unfolding serves
@@ -94,18 +96,20 @@ serves_at services handler at = option_map_or (λ s. has_named handler s.handler
 
 served_or : (here : Bool) (s : ServiceDef) (ss : List ServiceDef) (service handler : List ℕ) → bytes_eq s.name service ≡ here → All (Differ s) ss
     → ((here && has_named handler s.handlers.items) || is_served ss service handler) ≡ true
-    → (is_served ss service handler ≡ true → serves_at ss handler (service_among ss service) ≡ true)
-    → serves_at (s ∷ ss) handler (cond here 0 (suc (service_among ss service))) ≡ true
+    → (is_served ss service handler ≡ true → serves_at ss handler (service_place ss service) ≡ true)
+    → serves_at (s ∷ ss) handler (cond (not here) (1 + service_place ss service) 0) ≡ true
 served_or true s ss service handler here differ served later =
     elim (or_cases (has_named handler s.handlers.items) (is_served ss service handler) served) [
       | inl this ↦ this
       | inr others ↦ absurd (none_served ss s service handler here differ others)
     ]
-served_or false s ss service handler here differ served later = later served
+served_or false s ss service handler here differ served later =
+    let behind : 1 + service_place ss service ≡ suc (service_place ss service) = omega arith in
+    ap (serves_at (s ∷ ss) handler) behind ∙ later served
 
 -- a service that is there and has the handler stands at its number
 served_at : (services : List ServiceDef) (service handler : List ℕ) → AllPairs Differ services → is_served services service handler ≡ true
-    → serves_at services handler (service_among services service) ≡ true
+    → serves_at services handler (service_place services service) ≡ true
 served_at [] service handler differ served = served
 served_at (s ∷ ss) service handler differ served =
     served_or (bytes_eq s.name service) s ss service handler refl (pairs_head Differ s ss differ) served (served_at ss service handler (pairs_tail Differ s ss differ))
@@ -124,7 +128,7 @@ module _ (app : App) where
     inbox_there : (service handler : List ℕ) → is_served app.services.items service handler ≡ true → HasInbox (inbox_of app service) handler
     inbox_there service handler served = (
       omega arith,
-      subst (λ (at : ℕ). has_handler app at handler ≡ true) (sym (its_service (service_among app.services.items service) (length app.stores.items)))
+      subst (λ (at : ℕ). has_handler app at handler ≡ true) (sym (its_service (service_place app.services.items service) (length app.stores.items)))
           (served_at app.services.items service handler differ served),
     )
 
@@ -178,13 +182,14 @@ module _ (app : App) (known : SoundApp app) where
       (all_true (fits_stores app.stores.items region) (lines_of body) sound.fits, all_true (fits_services app.services.items) (lines_of body) sound.serves)
 
   handler_body : (region : ℕ) (handlers : List HandlerDef) (at : ℕ) (found : Option HandlerDef) → slice_get handlers at ≡ found
-      → All (SoundHandler app.stores.items app.services.items region) handlers → There (body_in found)
+      → All (SoundHandler app.stores.items app.services.items region) handlers → There (option_map_or (λ h. block_of h.body) found program.End)
   handler_body region handlers at None is all = tt
   handler_body region handlers at (Some h) is all =
-      sound_body region (body_in (Some h)) (found_in (SoundHandler app.stores.items app.services.items region) handlers at h all is).body
+      sound_body region (block_of h.body) (found_in (SoundHandler app.stores.items app.services.items region) handlers at h all is).body
 
   service_body : (services : List ServiceDef) (at handler : ℕ) (found : Option ServiceDef) → slice_get services at ≡ found
-      → All (SoundService (length app.regions.items) app.stores.items app.services.items) services → There (body_among found handler)
+      → All (SoundService (length app.regions.items) app.stores.items app.services.items) services
+      → There (option_map_or (λ h. block_of h.body) (option_and_then (λ s. slice_get s.handlers.items handler) found) program.End)
   service_body services at handler None is all = tt
   service_body services at handler (Some s) is all =
       handler_body s.region s.handlers.items handler (slice_get s.handlers.items handler) refl

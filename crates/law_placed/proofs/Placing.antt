@@ -2,12 +2,13 @@
 use Rattle.std.proofs.Common.{◌≡◌, ℕ, zero, suc, ◌+◌, Bool, true, false, List, [], ◌∷◌, IsTrue, refl, subst, arith}
 use Rattle.std.specs.Prelude.{Option, Some, None, length, slice_get}
 use Rattle.std.specs.List.{All}
+use Rattle.std.specs.Option.{option_and_then, option_map_or}
 use Rattle.anti_lang.specs.Bodies.{block_of}
 use Rattle.anti_lang.specs.Program.{Block, End}
 use Rattle.anti_app.specs.declared.app.App.{App}
 use Rattle.anti_app.specs.declared.app.HandlerDef.{HandlerDef}
 use Rattle.anti_app.specs.declared.app.ServiceDef.{ServiceDef}
-use Rattle.anti_app.specs.Objects.{body_among, body_in, body_of}
+use Rattle.anti_app.specs.Objects.{body_of}
 use Rattle.anti_app.specs.Sound.{is_sound}
 use Rattle.anti_app.proofs.Runnable.{found_in}
 use Rattle.anti_app.proofs.SoundLemmas.{SoundHandler, SoundService, app_known}
@@ -85,12 +86,12 @@ module _ (app : App) where
       none_there = end_fine (is_called app service handler) (is_named app service handler)
 
       by_handler : (s : ServiceDef) → slice_get app.services.items service ≡ Some s
-          → (found : Option HandlerDef) → slice_get s.handlers.items handler ≡ found → HasNoFault service handler (body_in found)
+          → (found : Option HandlerDef) → slice_get s.handlers.items handler ≡ found → HasNoFault service handler (option_map_or (λ h. block_of h.body) found End)
       by_handler s there None at = none_there
       by_handler s there (Some h) at = service_fine 0 app.services.items placed service s there service (omega arith) handler h at
 
       by_service : (found : Option ServiceDef) → slice_get app.services.items service ≡ found
-          → HasNoFault service handler (body_among found handler)
+          → HasNoFault service handler (option_map_or (λ h. block_of h.body) (option_and_then (λ s. slice_get s.handlers.items handler) found) End)
       by_service None there = none_there
       by_service (Some s) there = by_handler s there (slice_get s.handlers.items handler) refl
 
@@ -101,7 +102,7 @@ module _ (app : App) (sound : IsTrue (is_sound app)) where
   SoundIn region h = SoundHandler app.stores.items app.services.items region h
 
   handler_stands : (region : ℕ) (handlers : List HandlerDef) (i : ℕ) (found : Option HandlerDef) → slice_get handlers i ≡ found
-      → All (SoundIn region) handlers → stops_well (body_in found) ≡ true
+      → All (SoundIn region) handlers → stops_well (option_map_or (λ h. block_of h.body) found End) ≡ true
   handler_stands region handlers i None at all = refl
   handler_stands region handlers i (Some h) at all = stands (block_of h.body) (found_in (SoundIn region) handlers i h all at).body.blocks
 
@@ -109,7 +110,8 @@ module _ (app : App) (sound : IsTrue (is_sound app)) where
   pub body_stands : (service handler : ℕ) → stops_well (body_of app service handler) ≡ true
   body_stands service handler = by_service (slice_get app.services.items service) refl
     where
-      by_service : (found : Option ServiceDef) → slice_get app.services.items service ≡ found → stops_well (body_among found handler) ≡ true
+      by_service : (found : Option ServiceDef) → slice_get app.services.items service ≡ found
+          → stops_well (option_map_or (λ h. block_of h.body) (option_and_then (λ s. slice_get s.handlers.items handler) found) End) ≡ true
       by_service None at = refl
       by_service (Some s) at =
           let Known : ServiceDef → Type 0 = SoundService (length app.regions.items) app.stores.items app.services.items in

@@ -1,6 +1,7 @@
 -- To whom the calls and sends of a process are posted: to handlers that lines of its body name.
 use Rattle.std.proofs.Common.{◌≡◌, ℕ, zero, suc, ◌==◌, Bool, true, false, cond, List, [], ◌∷◌, ◌++◌, Option, Some, None, length, nat_lt, slice_get, refl, ap, ◌∙◌, subst, eq-eqb, arith}
 use Rattle.std.specs.List.{list_any}
+use Rattle.std.specs.Option.{option_and_then, option_map_or}
 use Rattle.std.proofs.lemmas.Bool.{and_from, or_left, or_right}
 use Rattle.std.proofs.lemmas.List.Folds.{list_any_at}
 use Rattle.std.proofs.lemmas.Option.{slice_get_within, get_or_from_slice_get}
@@ -23,7 +24,8 @@ use Rattle.anti_shim.specs.declared.looks.PlannedLook.{PlannedLook}
 use Rattle.anti_app.specs.declared.app.App.{App}
 use Rattle.anti_app.specs.declared.app.HandlerDef.{HandlerDef}
 use Rattle.anti_app.specs.declared.app.ServiceDef.{ServiceDef}
-use Rattle.anti_app.specs.Objects.{body_among, body_in, body_of, handler_number, inbox_of, service_among, store_number}
+use Rattle.anti_app.specs.Objects.{body_of, handler_number, inbox_of, store_number}
+use Rattle.anti_app.specs.Places.{service_place}
 use Rattle.anti_app.specs.Numbers.{service_at}
 use Rattle.anti_place.specs.Placements.{calls_it, is_called, is_handler, sends_it, some_line}
 use Rattle.anti_proc.specs.declared.end.BodyEnd.{BodyEnd}
@@ -96,7 +98,7 @@ body_lines app service handler = by_service (slice_get app.services.items servic
     has_line test h = list_any test (lines_of (block_of h.body))
 
     by_handler : (s : ServiceDef) → slice_get app.services.items service ≡ Some s
-        → (found : Option HandlerDef) → slice_get s.handlers.items handler ≡ found → AllLines (IsOfApp app) (lines_of (body_in found))
+        → (found : Option HandlerDef) → slice_get s.handlers.items handler ≡ found → AllLines (IsOfApp app) (lines_of (option_map_or (λ h. block_of h.body) found program.End))
     by_handler s there None at = tt
     by_handler s there (Some h) at =
         let lines : List Line = lines_of (block_of h.body) in
@@ -107,7 +109,7 @@ body_lines app service handler = by_service (slice_get app.services.items servic
         lines (each_among lines)
 
     by_service : (found : Option ServiceDef) → slice_get app.services.items service ≡ found
-        → AllLines (IsOfApp app) (lines_of (body_among found handler))
+        → AllLines (IsOfApp app) (lines_of (option_map_or (λ h. block_of h.body) (option_and_then (λ s. slice_get s.handlers.items handler) found) program.End))
     by_service None there = tt
     by_service (Some s) there = by_handler s there (slice_get s.handlers.items handler) refl
 
@@ -121,7 +123,7 @@ module _ (app : App) (service name : List ℕ) where
   -- a service and a handler have the numbers that their names are found under
   own_numbers : is_handler app (service_at app its_inbox) its_number service name ≡ true
   own_numbers =
-      let among : ℕ = service_among app.services.items service in
+      let among : ℕ = service_place app.services.items service in
       let at : ℕ = service_at app its_inbox in
       let same : among ≡ at = omega arith in
       and_from (among == at) (its_number == its_number) (eq-eqb among at same) (eq-eqb its_number its_number refl)

@@ -22,7 +22,7 @@ use Rattle.anti_kind.proofs.Showing.{bytes_same, is_shown, same_bytes}
 use Rattle.anti_app.specs.declared.app.App.{App}
 use Rattle.anti_app.specs.declared.app.ServiceDef.{ServiceDef}
 use Rattle.anti_app.specs.declared.app.StoreDef.{StoreDef}
-use Rattle.anti_app.specs.Objects.{here_in, is_store_here}
+use Rattle.anti_app.specs.Objects.{is_here as has_replica, is_store_here}
 use Rattle.anti_object.specs.Starts.{inbox_start, start_of, store_start}
 use Rattle.anti_object.proofs.Starts.{start_of-inbox, start_of-store}
 use Rattle.anti_trace.specs.Legal.{IsLegalTrace}
@@ -70,7 +70,7 @@ rows_shown c reply is = absurd (cc)
 -- ---- replicas
 
 module _ (app : App) (o : ℕ) (s : Store) (region : ℕ) (replica : Contains s.regions region) where
-  of_store : (found : Option StoreDef) → option_map (store_start app o) found ≡ Some (store s) → here_in region found ≡ true
+  of_store : (found : Option StoreDef) → option_map (store_start app o) found ≡ Some (store s) → option_map_or (has_replica region) found false ≡ true
   of_store None is = absurd (cc)
   of_store (Some d) is =
       let same : store_start app o d ≡ store s = cc in

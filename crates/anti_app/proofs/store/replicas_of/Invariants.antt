@@ -1,6 +1,6 @@
 use Rattle.std.proofs.Common.{◌≡◌, ◌++◌, map, drop}
 use Rattle.toml.specs.View.{view}
-use Rattle.anti_app.specs.Parts.{replica_of}
+use Rattle.anti_app.specs.inner.Fit.{replica_of}
 use Rattle.anti_app.proofs.store.replicas_of.Given as goal
 
 -- what is left goes behind what was made

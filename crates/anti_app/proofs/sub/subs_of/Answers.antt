@@ -1,9 +1,16 @@
 use Rattle.std.proofs.Common.{arith}
 use Rattle.std.proofs.lemmas.Grind.{common_steps}
+use Rattle.toml.specs.View.{view}
+use Rattle.anti_app.specs.inner.Fit.{is_fit_sub}
+use Rattle.anti_app.proofs.Kept.{left_pass}
 use Rattle.anti_app.proofs.sub.subs_of.Goals as goal
 
 pub returns : goal.returns
 returns c = grind (arith, common_steps)
 
 pub loop-value-preserved : goal.loop-value-preserved
-loop-value-preserved c = grind (arith, common_steps)
+loop-value-preserved c = record {
+  made = grind (arith, common_steps);
+  spare = grind (arith, common_steps);
+  fit = left_pass view is_fit_sub c.args.values.now c.loop-value.value-index c.value-item.result (omega (arith, c.loop-value-test.true)) c.loop-value.invariant.fit;
+}
