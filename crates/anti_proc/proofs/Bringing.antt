@@ -89,7 +89,7 @@ pub body_carries : (body : Block) (s : Setting) (ids : List WriteId) → Carries
 body_carries body s ids rs ask is i has =
     has_append i (if ask.span == 1 then ids else []) (brought_by s.app ask.span (made (begun body s (Some ids)) rs))
     ∙ reached s.app (first_came ids) (begun body s (Some ids)) rs ask
-    (begun_good s AnyStore AnyInbox Came AllCame AllCame (more_came s.app) AnyReply (keeps_came s.app) (any_duty s.app s.duty) body (any_fits s.app body) ids
+    (begun_good s AnyStore AnyInbox Came AllCame AllCame (more_came s.app) AnyReply (keeps_came s.app) (any_duty s.app s.role.duty) body (any_fits s.app body) ids
     (first_came ids) (λ k here. here)) is i has
 
 ended_carries : (app : App) (first : List WriteId) (end : BodyEnd) → CarriesWhatCame app first (Ends end)

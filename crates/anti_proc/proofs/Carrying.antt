@@ -20,22 +20,20 @@ hands_on s = record {
   scan = λ store prefix l. tt;
   poll = λ store key l. tt;
   look = λ dry planned later l its. its;
-  post = λ inbox kind handler value l. refl;
-  reply = λ inbox number handler l. refl;
+  post = λ inbox kind to depth handler value l. refl;
   ack = λ store version l. tt;
   nack = λ store version l. tt;
   take = λ inbox number l. tt;
 }
 
-at_home : (s : Setting) → OfEachForm s (IsAtHome s.region)
+at_home : (s : Setting) → OfEachForm s (IsAtHome s.role.region)
 at_home s = record {
   write = λ store key value l. tt;
   read = λ store key l. refl;
   scan = λ store prefix l. refl;
   poll = λ store key l. refl;
   look = λ dry planned later l its. refl;
-  post = λ inbox kind handler value l. tt;
-  reply = λ inbox number handler l. tt;
+  post = λ inbox kind to depth handler value l. tt;
   ack = λ store version l. tt;
   nack = λ store version l. tt;
   take = λ inbox number l. tt;
@@ -44,8 +42,8 @@ at_home s = record {
 pub body_hands_on : (body : Block) (s : Setting) (ids : List WriteId) → OfEachCall (HandsOnWhatIsCarried s.app) (begun body s (Some ids))
 body_hands_on body s ids = each_begun (HandsOnWhatIsCarried s.app) s (hands_on s) body ids
 
-pub body_at_home : (body : Block) (s : Setting) (ids : List WriteId) → OfEachCall (IsAtHome s.region) (begun body s (Some ids))
-body_at_home body s ids = each_begun (IsAtHome s.region) s (at_home s) body ids
+pub body_at_home : (body : Block) (s : Setting) (ids : List WriteId) → OfEachCall (IsAtHome s.role.region) (begun body s (Some ids))
+body_at_home body s ids = each_begun (IsAtHome s.role.region) s (at_home s) body ids
 
 pub process_hands_on : (app : App) (birth : Entry) → OfEachCall (HandsOnWhatIsCarried app) (tree_of app birth)
 process_hands_on app birth =

@@ -3,6 +3,7 @@ use Rattle.std.proofs.Common.{◌≡◌, ℕ, zero, suc, ◌+◌, ◌≤◌, Boo
 use Rattle.std.specs.Prelude.{Option, Some, None, nat_le, nat_lt, ◌&&◌, ◌==◌, if◌then◌else◌}
 use Rattle.std.specs.Bool.{then_some}
 use Rattle.std.specs.List.{list_all}
+use Rattle.std.specs.Option.{option_map_or}
 use Rattle.std.specs.Str.{bytes_eq}
 use Rattle.std.proofs.lemmas.Bool.{and_parts, and_from, leb-true, le-leb, or_left}
 use Rattle.std.proofs.lemmas.Bool.Decides.{nat_tests}
@@ -16,12 +17,12 @@ use Rattle.anti_kind.specs.declared.call.Call.{Call}
 use Rattle.anti_kind.specs.declared.call.Call.TheVariants as calls
 use Rattle.anti_kind.specs.declared.call.Reply.{Reply}
 use Rattle.anti_kind.specs.declared.call.Reply.TheVariants as replies
+use Rattle.anti_kind.specs.declared.message.MessageKind.{MessageKind}
+use Rattle.anti_kind.specs.declared.message.MessageKind.TheVariants as kinds
 use Rattle.anti_kind.specs.declared.row.Row.{Row}
 use Rattle.anti_lang.specs.Program as program
 use Rattle.anti_lang.specs.Program.{Step, Block}
 use Rattle.anti_lang.specs.Texts.{plain_name}
-use Rattle.anti_lang.specs.declared.statement.KeyWord.{KeyWord}
-use Rattle.anti_lang.specs.declared.statement.KeyWord.TheVariants as keys
 use Rattle.anti_baggage.specs.Texts.{lineage_text}
 use Rattle.anti_app.specs.declared.app.App.{App}
 use Rattle.anti_shim.specs.Plans.{plan, with_look}
@@ -35,8 +36,8 @@ use Rattle.anti_proc.specs.declared.end.BodyEnd.{BodyEnd}
 use Rattle.anti_proc.specs.declared.end.BodyEnd.TheVariants.{BadKey, Depth, Fine, LineageFull}
 use Rattle.anti_proc.specs.Came.{came}
 use Rattle.anti_proc.specs.Calls.{LooksWhereItMay}
-use Rattle.anti_proc.specs.Local.{Setting, Local, any_name, first_local, held, held_ids, held_in, held_text, ids_in, is_absent, key_of, new_span, removed, rooted, rows_ids, set, set_or, text_of, with_held}
-use Rattle.anti_proc.specs.Meaning.{Go, add, after_post, after_read, after_reply, after_write, begun, block_tree, carry, hear_call, if_deep, kind_of, leave, leave_by, look_at, looks, message, planned, post_call, read_call, stated_in, step_tree, turns, with_key, write_call, wrote}
+use Rattle.anti_proc.specs.Local.{Setting, Local, any_name, first_local, held_ids, held_in, id_at, is_absent, key_text, new_span, removed, rows_ids, set, text_of, with_held}
+use Rattle.anti_proc.specs.Meaning.{Go, after_post, after_read, after_reply, after_write, asks, begun, block_tree, carry, leave, leave_by, looks, message, planned, post_call, read_call, stated_in, step_tree, turns, with_key, write_call}
 use Rattle.anti_app.specs.Objects.{inbox_of, is_store_here, store_names, store_number, stores_here}
 use Rattle.anti_proc.specs.Trees.{Tree, Ask, Asks, Ends}
 use Rattle.anti_proc.proofs.Plans.{IsLookAt, among_here, looks_are_at}
@@ -167,10 +168,8 @@ named_if true text plain = plain_is_name text (sym plain)
 named_if false text plain = tt
 
 -- a key of a write is a name
-key_named : (input : List ℕ) (variables : List Variable) (key : KeyWord) → IfSome (key_of plain_name input variables key) IsNamed
-key_named input variables keys.Input = named_if (is_plain input) input refl
-key_named input variables (keys.Of name) = named_if (is_plain (held_text (held_in variables name))) (held_text (held_in variables name)) refl
-key_named input variables (keys.Plain key) = named_if (is_plain key) key refl
+key_named : (text : List ℕ) → IfSome (plain_name text) IsNamed
+key_named text = named_if (is_plain text) text refl
 
 -- ---- the ids of the looks
 
@@ -195,7 +194,7 @@ module _ (s : Setting) (Store : ℕ → Type 0) (Inbox : ℕ → List ℕ → Ty
   IsGood h tree = Good s.app Store Inbox H Carries more Fair h tree
 
   abbrev AllBring : H → ℕ → List Variable → Type 0
-  AllBring h n vs = Each (λ v. Brings h n (ids_in v.held)) vs
+  AllBring h n vs = Each (λ v. Brings h n (held_ids (Some v.held))) vs
 
   abbrev Sound : H → Local → Type 0
   Sound h l = (1 ≤ l.span) × Carries h l.span l.carried × AllBring h l.span l.variables
@@ -209,17 +208,17 @@ module _ (s : Setting) (Store : ℕ → Type 0) (Inbox : ℕ → List ℕ → Ty
   module _ (keeps : Keeps s.app H Carries Brings more Fair) where
     -- ---- variables
 
-    set_or_more : (here : Bool) (h : H) (n : ℕ) (v w : Variable) (vs further : List Variable) → Brings h n (ids_in w.held) → AllBring h n (v ∷ vs) → AllBring h n further
+    set_or_more : (here : Bool) (h : H) (n : ℕ) (v w : Variable) (vs further : List Variable) → Brings h n (held_ids (Some w.held)) → AllBring h n (v ∷ vs) → AllBring h n further
         → AllBring h n (cond here (w ∷ vs) (v ∷ further))
     set_or_more true h n v w vs further new all others = (new, all.1)
     set_or_more false h n v w vs further new all others = (all.0, others)
 
-    with_held_brings : (h : H) (n : ℕ) (name : List ℕ) (held : Binding) (vs : List Variable) → Brings h n (ids_in held) → AllBring h n vs → AllBring h n (with_held name held vs)
+    with_held_brings : (h : H) (n : ℕ) (name : List ℕ) (held : Binding) (vs : List Variable) → Brings h n (held_ids (Some held)) → AllBring h n vs → AllBring h n (with_held name held vs)
     with_held_brings h n name held [] new all = (new, tt)
     with_held_brings h n name held (v ∷ vs) new all =
         set_or_more (bytes_eq v.name name) h n v (record { name = name; held = held }) vs (with_held name held vs) new all (with_held_brings h n name held vs new all.1)
 
-    here_or : (here : Bool) (h : H) (n : ℕ) (held : Binding) (other : Option Binding) → Brings h n (ids_in held) → Brings h n (held_ids other) → Brings h n (held_ids (cond here (Some held) other))
+    here_or : (here : Bool) (h : H) (n : ℕ) (held : Binding) (other : Option Binding) → Brings h n (held_ids (Some held)) → Brings h n (held_ids other) → Brings h n (held_ids (cond here (Some held) other))
     here_or true h n held other this that = this
     here_or false h n held other this that = that
 
@@ -229,24 +228,26 @@ module _ (s : Setting) (Store : ℕ → Type 0) (Inbox : ℕ → List ℕ → Ty
 
     all_on : (h : H) (ask : Ask) (r : Reply) (n : ℕ) (vs : List Variable) → AllBring h n vs → AllBring (more h ask r) n vs
     all_on h ask r n [] all = tt
-    all_on h ask r n (v ∷ vs) all = (keeps.brought_on h ask r n (ids_in v.held) all.0, all_on h ask r n vs all.1)
+    all_on h ask r n (v ∷ vs) all = (keeps.brought_on h ask r n (held_ids (Some v.held)) all.0, all_on h ask r n vs all.1)
 
     -- ---- what is known stays sound
 
     sound_on : (h : H) (ask : Ask) (r : Reply) (l : Local) → Sound h l → Sound (more h ask r) l
     sound_on h ask r l sound = (sound.0, keeps.carried_on h ask r l.span l.carried sound.1, all_on h ask r l.span l.variables sound.2)
 
-    sound_set : (h : H) (x : List ℕ) (held : Binding) (l : Local) → Brings h l.span (ids_in held) → Sound h l → Sound h (set x held l)
+    sound_set : (h : H) (x : List ℕ) (held : Binding) (l : Local) → Brings h l.span (held_ids (Some held)) → Sound h l → Sound h (set x held l)
     sound_set h x held l new sound = (sound.0, sound.1, with_held_brings h l.span x held l.variables new sound.2)
 
-    sound_set_or : (h : H) (x : Option (List ℕ)) (held : Binding) (l : Local) → Brings h l.span (ids_in held) → Sound h l → Sound h (set_or x held l)
+    -- the same, where there may be no variable to set
+    sound_set_or : (h : H) (x : Option (List ℕ)) (held : Binding) (l : Local) → Brings h l.span (held_ids (Some held)) → Sound h l
+        → Sound h (option_map_or (λ name. set name held l) x l)
     sound_set_or h None held l new sound = sound
     sound_set_or h (Some x) held l new sound = sound_set h x held l new sound
 
     fresh : (h : H) (stopped : Bool) (l : Local) → Sound h (new_span stopped l)
     fresh h stopped l = (omega arith, keeps.none_carried h (l.span + 1), tt)
 
-    sound_rooted : (h : H) (stopped : Bool) (l : Local) → Sound h l → Sound h (rooted stopped l)
+    sound_rooted : (h : H) (stopped : Bool) (l : Local) → Sound h l → Sound h (if stopped then record l { stopped = false } else new_span false l)
     sound_rooted h true l sound = sound
     sound_rooted h false l sound = fresh h false l
 
@@ -268,23 +269,20 @@ module _ (s : Setting) (Store : ℕ → Type 0) (Inbox : ℕ → List ℕ → Ty
         let short : length ids ≤ MOST_IDS = grind (arith, nat_tests) in
         goes h (record l { carried = ids }) (sound.0, carries short, sound.2)
 
-    carry_good : (h : H) (ids : List WriteId) (l : Local) (go : Go) → (length ids ≤ MOST_IDS → Carries h l.span ids) → Sound h l → GoesOn go → IsGood h (carry ids l go)
-    carry_good h ids l go carries sound goes = full_or (nat_lt MOST_IDS (length ids)) h l go ids refl carries sound goes
-
-    more_good : (h : H) (further : List WriteId) (l : Local) (go : Go) → Brings h l.span further → Sound h l → GoesOn go → IsGood h (carry (with_ids further l.carried) l go)
-    more_good h further l go brings sound goes =
-        carry_good h (with_ids further l.carried) l go (λ short. keeps.added h l.span further l.carried brings sound.1 short) sound goes
-
-    add_good : (h : H) (held : Option Binding) (l : Local) (go : Go) → Brings h l.span (held_ids held) → Sound h l → GoesOn go → IsGood h (add held l go)
-    add_good h held l go brings sound goes = more_good h (held_ids held) l go brings sound goes
+    carry_good : (h : H) (further : List WriteId) (l : Local) (go : Go) → Brings h l.span further → Sound h l → GoesOn go → IsGood h (carry further l go)
+    carry_good h further l go brings sound goes =
+        let all : List WriteId = with_ids further l.carried in
+        full_or (nat_lt MOST_IDS (length all)) h l go all refl (λ short. keeps.added h l.span further l.carried brings sound.1 short) sound goes
 
     -- ---- writes
 
-    wrote_good : (untracked : Bool) (h : H) (held : Binding) (l : Local) (go : Go) → Brings h l.span (ids_in held) → Sound h l → GoesOn go → IsGood h (wrote untracked held l go)
-    wrote_good true h held l go brings sound goes = goes h l sound
-    wrote_good false h held l go brings sound goes = add_good h (Some held) l go brings sound goes
+    wrote_good : (untracked : Bool) (h : H) (ids : List WriteId) (l : Local) (go : Go) → Brings h l.span ids → Sound h l → GoesOn go
+        → IsGood h (if untracked then go l else carry ids l go)
+    wrote_good true h ids l go brings sound goes = goes h l sound
+    wrote_good false h ids l go brings sound goes = carry_good h ids l go brings sound goes
 
-    set_or_brings : (h : H) (x : Option (List ℕ)) (held : Binding) (l : Local) (ids : List WriteId) → Brings h l.span ids → Brings h (set_or x held l).span ids
+    set_or_brings : (h : H) (x : Option (List ℕ)) (held : Binding) (l : Local) (ids : List WriteId) → Brings h l.span ids
+        → Brings h (option_map_or (λ name. set name held l) x l).span ids
     set_or_brings h None held l ids brings = brings
     set_or_brings h (Some x) held l ids brings = brings
 
@@ -293,10 +291,11 @@ module _ (s : Setting) (Store : ℕ → Type 0) (Inbox : ℕ → List ℕ → Ty
     write_replied h store key value x untracked l go sound goes (replies.Written written version) fair =
         let ask : Ask = ask_at store (calls.Write key value l.carried) l in
         let r : Reply = replies.Written written version in
-        let id : Binding = Wrote (record { store = store; key = written; version = version }) in
-        let brings : Brings (more h ask r) l.span (ids_in id) = keeps.comes h ask r fair in
-        wrote_good untracked (more h ask r) id (set_or x id l) go (set_or_brings (more h ask r) x id l (ids_in id) brings)
-        (sound_set_or (more h ask r) x id l brings (sound_on h ask r l sound)) goes
+        let held : Binding = Wrote (record { store = store; key = written; version = version }) in
+        let ids : List WriteId = id_at store written version in
+        let brings : Brings (more h ask r) l.span ids = keeps.comes h ask r fair in
+        wrote_good untracked (more h ask r) ids (option_map_or (λ name. set name held l) x l) go (set_or_brings (more h ask r) x held l ids brings)
+        (sound_set_or (more h ask r) x held l brings (sound_on h ask r l sound)) goes
     write_replied h store key value x untracked l go sound goes r fair =
         goes (more h (ask_at store (calls.Write key value l.carried) l) r) l (sound_on h (ask_at store (calls.Write key value l.carried) l) r l sound)
 
@@ -342,11 +341,12 @@ module _ (s : Setting) (Store : ℕ → Type 0) (Inbox : ℕ → List ℕ → Ty
         → Each (ItsIds l.carried) further → Sound h l → GoesOn go → IsGood h (looks region dry further l go)
     looks_good h region dry [] l go each its sound goes = goes h l sound
     looks_good h region dry (look ∷ later) l go each its sound goes =
+        let ask : Ask =
+        record { object = look.store; span = l.span; call = calls.Look region look.ids dry; carried = l.carried; left = Some later } in
         let here : is_store_here s.app region look.store ≡ true =
         sym (among_here region 0 look.store look.store s.app.stores.items (omega arith)) ∙ each.0.among in (
           (sound.0, ((here, each.0.its_own), its.0), sound.1),
-          λ r fair. looks_good (more h (look_at region dry look later l) r) region dry later l go each.1 its.1
-              (sound_on h (look_at region dry look later l) r l sound) goes,
+          λ r fair. looks_good (more h ask r) region dry later l go each.1 its.1 (sound_on h ask r l sound) goes,
         )
 
     -- ---- statements and blocks
@@ -372,16 +372,16 @@ module _ (s : Setting) (Store : ℕ → Type 0) (Inbox : ℕ → List ℕ → Ty
     left_by (duties.Answers inbox number handler) good h end l own sound = ((sound.0, (own, omega arith, refl), sound.1), λ r fair. tt)
     left_by (duties.Works store version) good h end l own sound = ((sound.0, worked good store version l.carried own, sound.1), λ r fair. tt)
 
-    module _ (own : DutyFits s.app Store Inbox s.duty) where
+    module _ (own : DutyFits s.app Store Inbox s.role.duty) where
       leave_good : (good : Bool) (h : H) (end : BodyEnd) (l : Local) → Sound h l → IsGood h (leave good s end l)
-      leave_good good h end l sound = left_by s.duty good h end l own sound
+      leave_good good h end l sound = left_by s.role.duty good h end l own sound
 
-      key_good : (h : H) (l : Local) (key : Option (List ℕ)) (go : List ℕ → Tree) → Sound h l → ((k : List ℕ) → IsGood h (go k)) → IsGood h (with_key s l key go)
+      key_good : (h : H) (l : Local) (key : Option (List ℕ)) (go : List ℕ → Tree) → Sound h l → ((k : List ℕ) → IsGood h (go k)) → IsGood h (with_key key go s l)
       key_good h l None go sound goes = leave_good false h BadKey l sound
       key_good h l (Some k) go sound goes = goes k
 
       named_good : (h : H) (l : Local) (key : Option (List ℕ)) (go : List ℕ → Tree) → IfSome key IsNamed → Sound h l → ((k : List ℕ) → IsNamed k → IsGood h (go k))
-          → IsGood h (with_key s l key go)
+          → IsGood h (with_key key go s l)
       named_good h l None go named sound goes = leave_good false h BadKey l sound
       named_good h l (Some k) go named sound goes = goes k named
 
@@ -392,12 +392,12 @@ module _ (s : Setting) (Store : ℕ → Type 0) (Inbox : ℕ → List ℕ → Ty
       reply_heard h inbox number x l go sound goes (replies.Got got m) fair =
           let r : Reply = replies.Got got m in
           let ask : Ask = ask_at inbox (calls.TakeReply number) l in
-          more_good (more h ask r) (stated_in s.app m) (set x (Heard m.value) l) go (keeps.comes h ask r fair)
+          carry_good (more h ask r) (stated_in s.app m) (set x (Heard m.value) l) go (keeps.comes h ask r fair)
           (sound_set (more h ask r) x (Heard m.value) l (keeps.none_brought (more h ask r) l.span) (sound_on h ask r l sound)) goes
       reply_heard h inbox number x l go sound goes r fair =
           goes (more h (ask_at inbox (calls.TakeReply number) l) r) l (sound_on h (ask_at inbox (calls.TakeReply number) l) r l sound)
 
-      hear_good : (h : H) (inbox number : ℕ) (handler x : List ℕ) (l : Local) (go : Go) → Inbox inbox handler → Sound h l → GoesOn go → IsGood h (hear_call inbox number x s l go)
+      hear_good : (h : H) (inbox number : ℕ) (handler x : List ℕ) (l : Local) (go : Go) → Inbox inbox handler → Sound h l → GoesOn go → IsGood h (asks inbox (calls.TakeReply number) None l (after_reply s x l go))
       hear_good h inbox number handler x l go known sound goes = ((sound.0, (handler, known), sound.1), reply_heard h inbox number x l go sound goes)
 
       was_posted : (h : H) (inbox : ℕ) (handler : List ℕ) (x : Option (List ℕ)) (call : Call) (l : Local) (go : Go) → Inbox inbox handler → Sound h l → GoesOn go
@@ -408,53 +408,58 @@ module _ (s : Setting) (Store : ℕ → Type 0) (Inbox : ℕ → List ℕ → Ty
       was_posted h inbox handler (Some x) call l go known sound goes r = goes (more h (ask_at inbox call l) r) l (sound_on h (ask_at inbox call l) r l sound)
       was_posted h inbox handler None call l go known sound goes r = goes (more h (ask_at inbox call l) r) l (sound_on h (ask_at inbox call l) r l sound)
 
-      post_good : (h : H) (inbox : ℕ) (handler value : List ℕ) (x : Option (List ℕ)) (l : Local) (go : Go) → Inbox inbox handler → s.depth + 1 ≤ MOST_DEPTH
-          → Sound h l → GoesOn go → IsGood h (post_call inbox handler value x s l go)
-      post_good h inbox handler value x l go known deep sound goes =
-          ((sound.0, (known, deep, refl), sound.1), λ r fair. was_posted h inbox handler x (calls.Post (message (kind_of x) s l handler value)) l go known sound goes r)
-
-      deep_or : (deep : Bool) (h : H) (tree : Tree) (l : Local) → deep ≡ nat_lt s.depth MOST_DEPTH → (s.depth + 1 ≤ MOST_DEPTH → IsGood h tree) → Sound h l
-          → IsGood h (cond deep tree (leave false s Depth l))
-      deep_or true h tree l deep good sound = let less : s.depth + 1 ≤ MOST_DEPTH = grind (arith, nat_tests) in good less
+      deep_or : (deep : Bool) (h : H) (tree : Tree) (l : Local) → deep ≡ nat_lt s.role.depth MOST_DEPTH → (s.role.depth + 1 ≤ MOST_DEPTH → IsGood h tree)
+          → Sound h l → IsGood h (cond deep tree (leave false s Depth l))
+      deep_or true h tree l deep good sound = let less : s.role.depth + 1 ≤ MOST_DEPTH = grind (arith, nat_tests) in good less
       deep_or false h tree l deep good sound = leave_good false h Depth l sound
 
-      posts_good : (h : H) (service handler value : List ℕ) (x : Option (List ℕ)) (l : Local) (go : Go) → Inbox (inbox_of s.app service) handler → Sound h l → GoesOn go
-          → IsGood h (if_deep s l (post_call (inbox_of s.app service) handler value x s l go))
-      posts_good h service handler value x l go known sound goes =
-          deep_or (nat_lt s.depth MOST_DEPTH) h (post_call (inbox_of s.app service) handler value x s l go) l refl
-          (λ deep. post_good h (inbox_of s.app service) handler value x l go known deep sound goes) sound
+      post_good : (h : H) (inbox : ℕ) (kind : MessageKind) (handler value : List ℕ) (x : Option (List ℕ)) (l : Local) (go : Go) → Inbox inbox handler
+          → Sound h l → GoesOn go → IsGood h (post_call inbox kind handler value x s l go)
+      post_good h inbox kind handler value x l go known sound goes =
+          let call : Call = calls.Post (message kind 0 (s.role.depth + 1) handler value s l) in
+          deep_or (nat_lt s.role.depth MOST_DEPTH) h (asks inbox call None l (after_post inbox x s l go)) l refl
+          (λ deep. ((sound.0, (known, deep, refl), sound.1), λ r fair. was_posted h inbox handler x call l go known sound goes r)) sound
 
       mutual
         step_good : (step : Step) → StepFits s.app Store Inbox step → BlockGood (step_tree step s)
         step_good (program.Write store key value variable untracked) fits h l go sound goes =
-            named_good h l (key_of plain_name s.input l.variables key) (write_call (store_number s.app store) (text_of s.input l.variables value) variable untracked l go)
-            (key_named s.input l.variables key) sound
-            (λ k named. write_good h (store_number s.app store) (text_of s.input l.variables value) variable untracked l go k fits named sound goes)
-        step_good (program.Append variable) fits h l go sound goes = add_good h (held l variable) l go (held_brings h l.span l.variables variable sound.2) sound goes
-        step_good (program.Remove variable) fits h l go sound goes = goes h (record l { carried = removed (held l variable) l.carried }) (sound_removed h (held l variable) l sound)
-        step_good (program.Transfer variable) fits h l go sound goes = add_good h (held l variable) l go (held_brings h l.span l.variables variable sound.2) sound goes
+            let number : ℕ = store_number s.app store in
+            named_good h l (plain_name (key_text s l key)) (write_call number (text_of s l value) variable untracked l go) (key_named (key_text s l key)) sound
+            (λ k named. write_good h number (text_of s l value) variable untracked l go k fits named sound goes)
+        step_good (program.Append variable) fits h l go sound goes =
+            carry_good h (held_ids (held_in l.variables variable)) l go (held_brings h l.span l.variables variable sound.2) sound goes
+        step_good (program.Remove variable) fits h l go sound goes =
+            goes h (record l { carried = removed (held_in l.variables variable) l.carried }) (sound_removed h (held_in l.variables variable) l sound)
+        step_good (program.Transfer variable) fits h l go sound goes =
+            carry_good h (held_ids (held_in l.variables variable)) l go (held_brings h l.span l.variables variable sound.2) sound goes
         step_good program.Barrier fits h l go sound goes =
-            looks_good h s.region false (planned s l) l go (looks_are_at (stores_here s.app s.region) l.carried) (looks_for_its_ids (stores_here s.app s.region) l.carried) sound goes
+            looks_good h s.role.region false (planned s l) l go (looks_are_at (stores_here s.app s.role.region) l.carried)
+            (looks_for_its_ids (stores_here s.app s.role.region) l.carried) sound goes
         step_good program.DryRun fits h l go sound goes =
-            looks_good h s.region true (planned s l) l go (looks_are_at (stores_here s.app s.region) l.carried) (looks_for_its_ids (stores_here s.app s.region) l.carried) sound goes
+            looks_good h s.role.region true (planned s l) l go (looks_are_at (stores_here s.app s.role.region) l.carried)
+            (looks_for_its_ids (stores_here s.app s.role.region) l.carried) sound goes
         step_good (program.Read store key variable) fits h l go sound goes =
-            key_good h l (key_of plain_name s.input l.variables key) (read_call (store_number s.app store) (calls.Read s.region) variable l go) sound
-            (λ k. read_good h (store_number s.app store) (calls.Read s.region) variable l go k (reads s.region k) fits sound goes)
+            let number : ℕ = store_number s.app store in
+            key_good h l (plain_name (key_text s l key)) (read_call number (calls.Read s.role.region) variable l go) sound
+            (λ k. read_good h number (calls.Read s.role.region) variable l go k (reads s.role.region k) fits sound goes)
         step_good (program.Scan store prefix variable) fits h l go sound goes =
-            read_good h (store_number s.app store) (calls.Scan s.region) variable l go prefix (scans s.region prefix) fits sound goes
+            read_good h (store_number s.app store) (calls.Scan s.role.region) variable l go prefix (scans s.role.region prefix) fits sound goes
         step_good (program.Poll store key variable) fits h l go sound goes =
-            key_good h l (key_of any_name s.input l.variables key) (read_call (store_number s.app store) (calls.Poll s.region) variable l go) sound
-            (λ k. read_good h (store_number s.app store) (calls.Poll s.region) variable l go k (polls s.region k) fits sound goes)
+            let number : ℕ = store_number s.app store in
+            key_good h l (any_name (key_text s l key)) (read_call number (calls.Poll s.role.region) variable l go) sound
+            (λ k. read_good h number (calls.Poll s.role.region) variable l go k (polls s.role.region k) fits sound goes)
         step_good (program.Call service handler value variable) fits h l go sound goes =
-            posts_good h service handler (text_of s.input l.variables value) (Some variable) l go fits sound goes
-        step_good (program.Send service handler value) fits h l go sound goes = posts_good h service handler (text_of s.input l.variables value) None l go fits sound goes
-        step_good (program.Reply value) fits h l go sound goes = goes h (record l { reply = text_of s.input l.variables value }) sound
+            post_good h (inbox_of s.app service) kinds.Call handler (text_of s l value) (Some variable) l go fits sound goes
+        step_good (program.Send service handler value) fits h l go sound goes =
+            post_good h (inbox_of s.app service) kinds.Send handler (text_of s l value) None l go fits sound goes
+        step_good (program.Reply value) fits h l go sound goes = goes h (record l { reply = text_of s l value }) sound
         step_good program.Nack fits h l go sound goes = leave_good false h Fine l sound
-        step_good program.Root fits h l go sound goes = goes h (rooted l.stopped l) (sound_rooted h l.stopped l sound)
+        step_good program.Root fits h l go sound goes =
+            goes h (if l.stopped then record l { stopped = false } else new_span false l) (sound_rooted h l.stopped l sound)
         step_good program.Stop fits h l go sound goes = goes h (new_span true l) (fresh h true l)
         step_good (program.Repeat count block) fits h l go sound goes = turns_good count (block_tree block s) (block_good block fits) h l go sound goes
         step_good (program.IfAbsent variable block) fits h l go sound goes =
-            either (is_absent (held l variable)) h (block_tree block s l go) (go l) (block_good block fits h l go sound goes) (goes h l sound)
+            either (is_absent (held_in l.variables variable)) h (block_tree block s l go) (go l) (block_good block fits h l go sound goes) (goes h l sound)
 
         block_good : (block : Block) → BlockFits s.app Store Inbox block → BlockGood (block_tree block s)
         block_good program.End fits h l go sound goes = goes h l sound

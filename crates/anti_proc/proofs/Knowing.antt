@@ -30,7 +30,7 @@ use Rattle.anti_proc.specs.Stated.{has_stores, stated_lineage}
 use Rattle.anti_proc.specs.Foreign.{is_foreign}
 use Rattle.anti_proc.specs.Known.{AllKnown, AreIdsOf, IsCallAt, IsMessageTo, IsReplyAt, IsRowOf}
 use Rattle.anti_proc.specs.Local.{row_ids}
-use Rattle.anti_proc.specs.Tasks.{is_for, role_at, role_at_inbox, role_at_store, role_in, role_of, role_on, role_pulled, role_taken, task_for, task_of, task_with}
+use Rattle.anti_proc.specs.Tasks.{is_for, role_at, role_in, role_of, role_on, task_for, task_of, task_with}
 use Rattle.anti_proc.specs.Trees.{Tree, Asks, Ends, Make, want_of}
 use Rattle.anti_proc.specs.Asked.{IsAskedAt}
 pub use Rattle.anti_proc.proofs.KnownCalls.{process_known, tree_known}
@@ -81,11 +81,11 @@ inbox_found app o at =
     ∙ ap (λ (here : Bool). if here then Some (Inbox (service_at app o)) else None) (lt-ltb (service_at app o) (length app.services.items) within)
 
 -- what a call on an inbox or a store starts
-role_by_inbox : (app : App) (e : Entry) → IsInbox app e.object → role_of app e ≡ role_at_inbox app e.object (service_at app e.object) e.call e.reply
+role_by_inbox : (app : App) (e : Entry) → IsInbox app e.object → role_of app e ≡ role_at app e.object (Inbox (service_at app e.object)) e.call e.reply
 role_by_inbox app e at =
     ap (λ (found : Option ObjectAt). option_and_then (λ (at : ObjectAt). role_at app e.object at e.call e.reply) found) (inbox_found app e.object at)
 
-role_by_store : (app : App) (e : Entry) → IsStore app e.object → role_of app e ≡ role_at_store app e.object e.call e.reply
+role_by_store : (app : App) (e : Entry) → IsStore app e.object → role_of app e ≡ role_at app e.object (Store e.object) e.call e.reply
 role_by_store app e at =
     ap (λ (found : Option ObjectAt). option_and_then (λ (at : ObjectAt). role_at app e.object at e.call e.reply) found) (store_found app e.object at)
 
@@ -95,8 +95,8 @@ pub taken_known : (app : App) (e : Entry) (nth number : ℕ) (m : Message) → I
     → role_of app e ≡ Some (role_in app e.object (service_at app e.object) number m)
 taken_known app e nth number m at call reply known =
     role_by_inbox app e at
-    ∙ ap (λ (c : Call). role_at_inbox app e.object (service_at app e.object) c e.reply) call
-    ∙ ap (λ (r : Reply). role_taken app e.object (service_at app e.object) r) reply
+    ∙ ap (λ (c : Call). role_at app e.object (Inbox (service_at app e.object)) c e.reply) call
+    ∙ ap (λ (r : Reply). role_at app e.object (Inbox (service_at app e.object)) (calls.Take nth) r) reply
     ∙ ap (λ (good : Bool). if good then Some (role_in app e.object (service_at app e.object) number m) else None) (is_for_known app e.object m known)
 
 -- a row that was pulled is for the handler of its subscription
@@ -105,8 +105,8 @@ pub pulled_known : (app : App) (e : Entry) (position : ℕ) (row : Row) (sub : S
     → role_of app e ≡ Some (role_on app e.object row.version sub)
 pulled_known app e position row sub at call reply found =
     role_by_store app e at
-    ∙ ap (λ (c : Call). role_at_store app e.object c e.reply) call
-    ∙ ap (λ (r : Reply). role_pulled app e.object position r) reply
+    ∙ ap (λ (c : Call). role_at app e.object (Store e.object) c e.reply) call
+    ∙ ap (λ (r : Reply). role_at app e.object (Store e.object) (calls.Pull position) r) reply
     ∙ ap (λ (sub : Option SubDef). option_map (role_on app e.object row.version) sub) found
 
 pub repulled_known : (app : App) (e : Entry) (position version : ℕ) (row : Row) (sub : SubDef) → IsStore app e.object
@@ -114,8 +114,8 @@ pub repulled_known : (app : App) (e : Entry) (position version : ℕ) (row : Row
     → role_of app e ≡ Some (role_on app e.object row.version sub)
 repulled_known app e position version row sub at call reply found =
     role_by_store app e at
-    ∙ ap (λ (c : Call). role_at_store app e.object c e.reply) call
-    ∙ ap (λ (r : Reply). role_pulled app e.object position r) reply
+    ∙ ap (λ (c : Call). role_at app e.object (Store e.object) c e.reply) call
+    ∙ ap (λ (r : Reply). role_at app e.object (Store e.object) (calls.Repull position version) r) reply
     ∙ ap (λ (sub : Option SubDef). option_map (role_on app e.object row.version) sub) found
 
 -- ---- the task of a known message or row

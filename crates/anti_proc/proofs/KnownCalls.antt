@@ -29,7 +29,7 @@ use Rattle.anti_proc.specs.Came.{came}
 use Rattle.anti_proc.specs.Calls.{IsOfProcess}
 use Rattle.anti_proc.specs.declared.task.Task.{Task}
 use Rattle.anti_proc.specs.Foreign.{has_baggage}
-use Rattle.anti_proc.specs.Stated.{read_well}
+use Rattle.std.specs.Result.{result_ok}
 use Rattle.anti_proc.specs.Known.{AllKnown, IsEntryOf, AreIdsOf, IsCallAt, IsOverApp, IsReplyAt, IsRowOf}
 use Rattle.anti_proc.specs.Local.{id_at, row_ids, rows_ids}
 use Rattle.anti_proc.specs.Meaning.{begun, setting_of, tree_of, process_after, reply_of}
@@ -132,8 +132,8 @@ KnownAnyway app (Ends end) = Unit {0}
 module _ (app : App) (known : SoundApp app) where
   text_read : (m : Message) (ids : List WriteId) → m.baggage.items ≡ lineage_text (store_names app) ids → IsOverApp app ids → has_baggage app m ≡ true
   text_read m ids is over =
-      ap (λ (text : List ℕ). is_some (read_well (read_lineage (store_names app) text))) is
-      ∙ ap (λ (found : Result (List WriteId) BaggageFault). is_some (read_well found)) (states_its_lineage (store_names app) ids (stores_named app known) over)
+      ap (λ (text : List ℕ). is_some (result_ok (read_lineage (store_names app) text))) is
+      ∙ ap (λ (found : Result (List WriteId) BaggageFault). is_some (result_ok found)) (states_its_lineage (store_names app) ids (stores_named app known) over)
 
   call_known : (o : ℕ) (carried : List WriteId) (call : Call) → IsMade app (IsStore app) (HasInbox app) o carried call → IsOverApp app carried → IsCallAt app o call
   call_known o carried (calls.Write key value lineage) made over = (made.1, subst (λ (ids : List WriteId). IsOverApp app ids) (sym made.2) over)

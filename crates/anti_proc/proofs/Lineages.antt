@@ -1,6 +1,7 @@
 -- What a process carries is a lineage.
 use Rattle.std.proofs.Common.{◌≡◌, ℕ, ◌≤◌, Bool, true, false, cond, List, [], ◌∷◌, ◌++◌, refl, subst, arith}
 use Rattle.std.specs.Prelude.{Option, Some, None, Result, Ok, Err, length, nat_lt, unwrap_or, if◌then◌else◌}
+use Rattle.std.specs.Result.{result_ok}
 use Rattle.std.proofs.lemmas.Bool.Decides.{nat_tests}
 use Rattle.anti_ids.specs.Each.{Each}
 use Rattle.anti_ids.specs.Invariants.{IsLineage}
@@ -25,7 +26,7 @@ use Rattle.anti_proc.specs.declared.end.BodyEnd.{BodyEnd}
 use Rattle.anti_proc.specs.declared.task.Task.{Task}
 use Rattle.anti_proc.specs.Brought.{CarriesLineages, HasLineages}
 use Rattle.anti_proc.specs.Came.{came}
-use Rattle.anti_proc.specs.Stated.{read_well, stated_lineage}
+use Rattle.anti_proc.specs.Stated.{stated_lineage}
 use Rattle.anti_proc.specs.Known.{IsOverApp}
 use Rattle.anti_proc.specs.Local.{Setting, id_at, row_ids, rows_ids}
 use Rattle.anti_proc.specs.Meaning.{begun, setting_of, stated_in, tree_of}
@@ -85,7 +86,7 @@ ended_lineages end [] ask each is = absurd (cc)
 ended_lineages end (r ∷ rs) ask each is = ended_lineages end rs ask each.1 is
 
 over_found : (stores : List (List ℕ)) (text : List ℕ) (found : Result (List WriteId) BaggageFault) → read_lineage stores text ≡ found
-    → IsOver stores (unwrap_or (read_well found) [])
+    → IsOver stores (unwrap_or (result_ok found) [])
 over_found stores text (Ok ids) is = (is_its_text stores text ids is).0
 over_found stores text (Err fault) is = record { lineage = none_lineage; each = tt }
 
@@ -119,7 +120,7 @@ keeps_lineages app = record {
 pub body_lineages : (body : Block) (s : Setting) (ids : List WriteId) → IsLineage ids → CarriesLineages (begun body s (Some ids))
 body_lineages body s ids lineage rs ask each is =
     reached s.app (begun body s (Some ids)) rs ask
-    (begun_good s AnyStore AnyInbox (Unit {0}) Carries Brings nothing_more Fair (keeps_lineages s.app) (any_duty s.app s.duty) body (any_fits s.app body) ids tt
+    (begun_good s AnyStore AnyInbox (Unit {0}) Carries Brings nothing_more Fair (keeps_lineages s.app) (any_duty s.app s.role.duty) body (any_fits s.app body) ids tt
     lineage) each is
 
 -- ---- what comes first

@@ -30,16 +30,16 @@ goes_on region dry [] l go (reply ∷ replies) e = absurd (omega arith)
 goes_on region dry (first ∷ later) l go [] e = absurd (omega arith)
 goes_on region dry (first ∷ later) l go (reply ∷ replies) e = goes_on region dry later l go replies (omega arith)
 
-pub goes_over : (s : Setting) (l : Local) (dry : Bool) → GoesOver s l dry (looks s.region dry (planned s l) l)
+pub goes_over : (s : Setting) (l : Local) (dry : Bool) → GoesOver s l dry (looks s.role.region dry (planned s l) l)
 goes_over s l dry go replies =
-    (makes_look s.region dry (planned s l) l go replies, goes_on s.region dry (planned s l) l go replies)
+    (makes_look s.role.region dry (planned s l) l go replies, goes_on s.role.region dry (planned s l) l go replies)
 
 pub looks_once_at : (s : Setting) (l : Local) (store : ℕ) → LooksOnceAt s l store
 looks_once_at s l store =
-    one_look s.region 0 store s.app.stores.items l.carried
-    ∙ ap (λ (b : Bool). its_look b store l.carried) (among_here s.region 0 store store s.app.stores.items (omega arith))
+    one_look s.role.region 0 store s.app.stores.items l.carried
+    ∙ ap (λ (b : Bool). its_look b store l.carried) (among_here s.role.region 0 store store s.app.stores.items (omega arith))
 
 pub asks_for : (s : Setting) (l : Local) (i : WriteId) → AsksFor s l i
 asks_for s l i =
-    asked_of i (stores_here s.app s.region) l.carried
-    ∙ ap (λ (b : Bool). b && has_id i l.carried) (among_here s.region 0 i.store i.store s.app.stores.items (omega arith))
+    asked_of i (stores_here s.app s.role.region) l.carried
+    ∙ ap (λ (b : Bool). b && has_id i l.carried) (among_here s.role.region 0 i.store i.store s.app.stores.items (omega arith))

@@ -1,7 +1,9 @@
 -- Each look of a process is the first of all the looks that are planned for what is carried, or follows a look of the same barrier that left
 -- it.
 use Rattle.std.proofs.Common.{◌≡◌, ℕ, zero, suc, Bool, true, false, cond, List, [], ◌∷◌, ◌⊎◌, Option, Some, None, refl, inl, inr}
-use Rattle.std.specs.Prelude.{nat_lt, length, if◌then◌else◌}
+use Rattle.std.specs.Prelude.{◌+◌, nat_lt, length, if◌then◌else◌}
+use Rattle.std.specs.Option.{option_map_or}
+use Rattle.anti_ids.specs.Ids.{with_ids}
 use Rattle.anti_ids.specs.declared.id.WriteId.{WriteId}
 use Rattle.anti_ids.specs.declared.limits.TheConstants.{MOST_DEPTH, MOST_IDS}
 use Rattle.anti_kind.specs.declared.call.Call.{Call}
@@ -9,6 +11,8 @@ use Rattle.anti_kind.specs.declared.call.Call.TheVariants as calls
 use Rattle.anti_kind.specs.declared.call.Reply.{Reply}
 use Rattle.anti_kind.specs.declared.call.Reply.TheVariants as replies
 use Rattle.anti_kind.specs.declared.entry.Entry.{Entry}
+use Rattle.anti_kind.specs.declared.message.MessageKind.{MessageKind}
+use Rattle.anti_kind.specs.declared.message.MessageKind.TheVariants as kinds
 use Rattle.anti_lang.specs.Program as program
 use Rattle.anti_lang.specs.Program.{Step, Block}
 use Rattle.anti_lang.specs.Texts.{plain_name}
@@ -22,9 +26,10 @@ use Rattle.anti_proc.specs.declared.variables.Binding.{Binding}
 use Rattle.anti_proc.specs.declared.variables.Binding.TheVariants.{Wrote, Saw, Heard}
 use Rattle.anti_proc.specs.declared.end.BodyEnd.{BodyEnd}
 use Rattle.anti_proc.specs.declared.end.BodyEnd.TheVariants.{BadKey, Depth, Fine, LineageFull}
-use Rattle.anti_proc.specs.Local.{Setting, Local, any_name, first_local, held, is_absent, key_of, new_span, removed, rooted, set, set_or, text_of}
-use Rattle.anti_proc.specs.Meaning.{Go, after_post, after_read, after_reply, after_write, answer, asks, begun, block_tree, carry, if_deep, kind_of, leave, leave_by, look_at, looks, message, planned, post_call, read_call, setting_of, step_tree, tree_of, turns, with_key, write_call, wrote}
+use Rattle.anti_proc.specs.Local.{Setting, Local, any_name, first_local, held_ids, held_in, id_at, is_absent, key_text, new_span, removed, set, text_of}
+use Rattle.anti_proc.specs.Meaning.{Go, after_post, after_read, after_reply, after_write, asks, begun, block_tree, carry, leave, leave_by, looks, message, planned, post_call, read_call, setting_of, stated_in, step_tree, tree_of, turns, with_key, write_call}
 use Rattle.anti_proc.specs.Trees.{Tree, Ask, Asks, Ends}
+use Rattle.anti_proc.proofs.EachCall.{asked_with}
 use Rattle.anti_proc.proofs.Started.{its_body, started_each}
 
 -- ---- the law
@@ -76,32 +81,33 @@ module _ (app : App) where
 
   -- a call that is no look
   asked : (last : Option Ask) (object : ℕ) (call : Call) (l : Local) (go : Reply → Tree) → ((last : Option Ask) (reply : Reply) → LooksAreDue app last (go reply))
-      → LooksAreDue app last (asks object call l go)
+      → LooksAreDue app last (asks object call None l go)
   asked last object call l go each = (tt, λ reply. each _ reply)
 
   -- looks that are due
   looks_due : (region : ℕ) (dry : Bool) (further : List PlannedLook) (last : Option Ask) (l : Local) (go : Go) → GoesOn go
       → AreDue app last region dry l.carried l.span further → LooksAreDue app last (looks region dry further l go)
   looks_due region dry [] last l go goes due = goes last l
-  looks_due region dry (look ∷ later) last l go goes due = (
-    due,
-    λ reply. looks_due region dry later (Some (look_at region dry look later l)) l go goes
-        (inr (record { before = look_at region dry look later l; ids = look.ids; is = refl; call = refl; left = refl; carried = refl; span = refl })),
-  )
+  looks_due region dry (look ∷ later) last l go goes due =
+      let ask : Ask = asked_with look.store (calls.Look region look.ids dry) (Some later) l in (
+        due,
+        λ reply. looks_due region dry later (Some ask) l go goes
+            (inr (record { before = ask; ids = look.ids; is = refl; call = refl; left = refl; carried = refl; span = refl })),
+      )
 
   carried_on : (ids : List WriteId) (last : Option Ask) (l : Local) (go : Go) → GoesOn go → LooksAreDue app last (carry ids l go)
   carried_on ids last l go goes =
-      let next : Local = record l { carried = ids } in either (nat_lt MOST_IDS (length ids)) last (Ends LineageFull) (go next) tt (goes last next)
-
-  wrote_on : (untracked : Bool) (held : Binding) (last : Option Ask) (l : Local) (go : Go) → GoesOn go → LooksAreDue app last (wrote untracked held l go)
-  wrote_on true held last l go goes = goes last l
-  wrote_on false held last l go goes = carried_on _ last l go goes
+      let all : List WriteId = with_ids ids l.carried in
+      let next : Local = record l { carried = all } in
+      either (nat_lt MOST_IDS (length all)) last (Ends LineageFull) (go next) tt (goes last next)
 
   written : (store : ℕ) (variable : Option (List ℕ)) (untracked : Bool) (l : Local) (go : Go) → GoesOn go → (last : Option Ask) (reply : Reply)
       → LooksAreDue app last (after_write store variable untracked l go reply)
   written store variable untracked l go goes last (replies.Written key version) =
-      let id : Binding = Wrote (record { store = store; key = key; version = version }) in
-      wrote_on untracked id last (set_or variable id l) go goes
+      let held : Binding = Wrote (record { store = store; key = key; version = version }) in
+      let next : Local = option_map_or (λ name. set name held l) variable l in
+      either untracked last (go next) (carry (id_at store key version) next go) (goes last next)
+      (carried_on (id_at store key version) last next go goes)
   written store variable untracked l go goes last reply = goes last l
 
   write_asked : (store : ℕ) (value : List ℕ) (variable : Option (List ℕ)) (untracked : Bool) (last : Option Ask) (l : Local) (go : Go) (key : List ℕ) → GoesOn go
@@ -122,17 +128,17 @@ module _ (s : Setting) where
   left_by : (duty : Duty) (good : Bool) (end : BodyEnd) (last : Option Ask) (l : Local) → LooksAreDue s.app last (leave_by duty good s end l)
   left_by duties.Free good end last l = tt
   left_by (duties.Answers inbox number handler) good end last l =
-      asked s.app last inbox (calls.Post (answer s l number handler)) l (λ reply. Ends end) (λ last reply. tt)
+      asked s.app last inbox (calls.Post (message kinds.Reply number 0 handler l.reply s l)) l (λ reply. Ends end) (λ last reply. tt)
   left_by (duties.Works store version) good end last l =
       asked s.app last store (if good then calls.Ack version else calls.Nack version) l (λ reply. Ends end) (λ last reply. tt)
 
   keyed : (last : Option Ask) (l : Local) (key : Option (List ℕ)) (go : List ℕ → Tree) → ((k : List ℕ) → LooksAreDue s.app last (go k))
-      → LooksAreDue s.app last (with_key s l key go)
-  keyed last l None go goes = left_by s.duty false BadKey last l
+      → LooksAreDue s.app last (with_key key go s l)
+  keyed last l None go goes = left_by s.role.duty false BadKey last l
   keyed last l (Some k) go goes = goes k
 
   heard : (variable : List ℕ) (l : Local) (go : Go) → GoesOn s.app go → (last : Option Ask) (reply : Reply) → LooksAreDue s.app last (after_reply s variable l go reply)
-  heard variable l go goes last (replies.Got number m) = carried_on s.app _ last (set variable (Heard m.value) l) go goes
+  heard variable l go goes last (replies.Got number m) = carried_on s.app (stated_in s.app m) last (set variable (Heard m.value) l) go goes
   heard variable l go goes last reply = goes last l
 
   posted : (inbox : ℕ) (variable : Option (List ℕ)) (l : Local) (go : Go) → GoesOn s.app go → (last : Option Ask) (reply : Reply)
@@ -142,13 +148,12 @@ module _ (s : Setting) where
   posted inbox (Some variable) l go goes last reply = goes last l
   posted inbox None l go goes last reply = goes last l
 
-  post_asked : (service handler value : List ℕ) (variable : Option (List ℕ)) (last : Option Ask) (l : Local) (go : Go) → GoesOn s.app go
-      → LooksAreDue s.app last (if_deep s l (post_call (inbox_of s.app service) handler value variable s l go))
-  post_asked service handler value variable last l go goes =
-      let inbox : ℕ = inbox_of s.app service in
-      let call : Call = calls.Post (message (kind_of variable) s l handler value) in
-      either s.app (nat_lt s.depth MOST_DEPTH) last (post_call inbox handler value variable s l go) (leave false s Depth l)
-      (asked s.app last inbox call l (after_post inbox variable s l go) (posted inbox variable l go goes)) (left_by s.duty false Depth last l)
+  post_asked : (inbox : ℕ) (kind : MessageKind) (handler value : List ℕ) (variable : Option (List ℕ)) (last : Option Ask) (l : Local) (go : Go)
+      → GoesOn s.app go → LooksAreDue s.app last (post_call inbox kind handler value variable s l go)
+  post_asked inbox kind handler value variable last l go goes =
+      let call : Call = calls.Post (message kind 0 (s.role.depth + 1) handler value s l) in
+      either s.app (nat_lt s.role.depth MOST_DEPTH) last (asks inbox call None l (after_post inbox variable s l go)) (leave false s Depth l)
+      (asked s.app last inbox call l (after_post inbox variable s l go) (posted inbox variable l go goes)) (left_by s.role.duty false Depth last l)
 
   -- ---- statements and blocks
 
@@ -159,33 +164,35 @@ module _ (s : Setting) where
   mutual
     step_good : (step : Step) → BlockGood s.app (step_tree step s)
     step_good (program.Write store key value variable untracked) last l go goes =
-        let text : List ℕ = text_of s.input l.variables value in
-        keyed last l (key_of plain_name s.input l.variables key) (write_call (store_number s.app store) text variable untracked l go)
-        (λ k. write_asked s.app (store_number s.app store) text variable untracked last l go k goes)
-    step_good (program.Append variable) last l go goes = carried_on s.app _ last l go goes
-    step_good (program.Remove variable) last l go goes = goes last (record l { carried = removed (held l variable) l.carried })
-    step_good (program.Transfer variable) last l go goes = carried_on s.app _ last l go goes
-    step_good program.Barrier last l go goes = looks_due s.app s.region false (planned s l) last l go goes (inl refl)
-    step_good program.DryRun last l go goes = looks_due s.app s.region true (planned s l) last l go goes (inl refl)
+        let number : ℕ = store_number s.app store in
+        keyed last l (plain_name (key_text s l key)) (write_call number (text_of s l value) variable untracked l go)
+        (λ k. write_asked s.app number (text_of s l value) variable untracked last l go k goes)
+    step_good (program.Append variable) last l go goes = carried_on s.app (held_ids (held_in l.variables variable)) last l go goes
+    step_good (program.Remove variable) last l go goes = goes last (record l { carried = removed (held_in l.variables variable) l.carried })
+    step_good (program.Transfer variable) last l go goes = carried_on s.app (held_ids (held_in l.variables variable)) last l go goes
+    step_good program.Barrier last l go goes = looks_due s.app s.role.region false (planned s l) last l go goes (inl refl)
+    step_good program.DryRun last l go goes = looks_due s.app s.role.region true (planned s l) last l go goes (inl refl)
     step_good (program.Read store key variable) last l go goes =
-        keyed last l (key_of plain_name s.input l.variables key) (read_call (store_number s.app store) (calls.Read s.region) variable l go)
-        (λ k. read_asked s.app (store_number s.app store) (calls.Read s.region) variable last l go k goes)
+        let number : ℕ = store_number s.app store in
+        keyed last l (plain_name (key_text s l key)) (read_call number (calls.Read s.role.region) variable l go)
+        (λ k. read_asked s.app number (calls.Read s.role.region) variable last l go k goes)
     step_good (program.Scan store prefix variable) last l go goes =
-        read_asked s.app (store_number s.app store) (calls.Scan s.region) variable last l go prefix goes
+        read_asked s.app (store_number s.app store) (calls.Scan s.role.region) variable last l go prefix goes
     step_good (program.Poll store key variable) last l go goes =
-        keyed last l (key_of any_name s.input l.variables key) (read_call (store_number s.app store) (calls.Poll s.region) variable l go)
-        (λ k. read_asked s.app (store_number s.app store) (calls.Poll s.region) variable last l go k goes)
+        let number : ℕ = store_number s.app store in
+        keyed last l (any_name (key_text s l key)) (read_call number (calls.Poll s.role.region) variable l go)
+        (λ k. read_asked s.app number (calls.Poll s.role.region) variable last l go k goes)
     step_good (program.Call service handler value variable) last l go goes =
-        post_asked service handler (text_of s.input l.variables value) (Some variable) last l go goes
+        post_asked (inbox_of s.app service) kinds.Call handler (text_of s l value) (Some variable) last l go goes
     step_good (program.Send service handler value) last l go goes =
-        post_asked service handler (text_of s.input l.variables value) None last l go goes
-    step_good (program.Reply value) last l go goes = goes last (record l { reply = text_of s.input l.variables value })
-    step_good program.Nack last l go goes = left_by s.duty false Fine last l
-    step_good program.Root last l go goes = goes last (rooted l.stopped l)
+        post_asked (inbox_of s.app service) kinds.Send handler (text_of s l value) None last l go goes
+    step_good (program.Reply value) last l go goes = goes last (record l { reply = text_of s l value })
+    step_good program.Nack last l go goes = left_by s.role.duty false Fine last l
+    step_good program.Root last l go goes = goes last (if l.stopped then record l { stopped = false } else new_span false l)
     step_good program.Stop last l go goes = goes last (new_span true l)
     step_good (program.Repeat count block) last l go goes = turns_good count (block_tree block s) (block_good block) last l go goes
     step_good (program.IfAbsent variable block) last l go goes =
-        either s.app (is_absent (held l variable)) last (block_tree block s l go) (go l) (block_good block last l go goes) (goes last l)
+        either s.app (is_absent (held_in l.variables variable)) last (block_tree block s l go) (go l) (block_good block last l go goes) (goes last l)
 
     block_good : (block : Block) → BlockGood s.app (block_tree block s)
     block_good program.End last l go goes = goes last l
@@ -193,7 +200,7 @@ module _ (s : Setting) where
         step_good first last l (λ l. block_tree rest s l go) (λ last l. block_good rest last l go goes)
 
 pub body_due : (body : Block) (s : Setting) (ids : List WriteId) → LooksAreDue s.app None (begun body s (Some ids))
-body_due body s ids = block_good s body None (record first_local { carried = ids }) (leave true s Fine) (λ last l. left_by s s.duty true Fine last l)
+body_due body s ids = block_good s body None (record first_local { carried = ids }) (leave true s Fine) (λ last l. left_by s s.role.duty true Fine last l)
 
 pub process_due : (app : App) (birth : Entry) → LooksAreDue app None (tree_of app birth)
 process_due app birth = started_each (LooksAreDue app None) app birth (λ end. tt) (λ task ids is has. body_due (its_body app task) (setting_of app task) ids)

@@ -18,7 +18,7 @@ use Rattle.anti_proc.specs.declared.run.Advance.TheVariants.{Goes, Over, Full}
 use Rattle.anti_proc.specs.declared.run.Life.TheVariants.{Runs}
 use Rattle.anti_proc.specs.declared.run.Run.{Run}
 use Rattle.anti_proc.specs.declared.task.Role.{Role}
-use Rattle.anti_proc.specs.Local.{Setting, Local, held, is_absent}
+use Rattle.anti_proc.specs.Local.{Setting, Local, held_in, is_absent}
 use Rattle.anti_proc.specs.Meaning.{Go, block_tree, body_tree, leave, step_tree}
 use Rattle.anti_proc.specs.inner.Cursors.{Enters, IsStart, again, block_in, block_weight, last_opened, left_at, step_weight, weight}
 use Rattle.anti_proc.specs.inner.Running.{AdvanceHasSpans, HasSpans}
@@ -34,7 +34,7 @@ below_next n = omega arith
 -- the turns of its block weigh less than a statement
 turns_lighter : (step : Step) (l : Local) → turns_of step l * block_weight (block_in step) < step_weight step
 turns_lighter (Repeat count block) l = below_next (count * block_weight block)
-turns_lighter (IfAbsent variable block) l = by_test (is_absent (held l variable)) (block_weight block)
+turns_lighter (IfAbsent variable block) l = by_test (is_absent (held_in l.variables variable)) (block_weight block)
   where
     by_test : (here : Bool) (w : ℕ) → (if here then 1 else 0) * w < 1 + w
     by_test true w = omega arith
@@ -44,7 +44,7 @@ turns_lighter _ l = omega arith
 -- a statement begins the spans that it begins itself, and those of the turns of its block
 spans_apart : (step : Step) (l : Local) → own_spans step + turns_of step l * spans_of (block_in step) ≤ spans_in step
 spans_apart (Repeat count block) l = omega arith
-spans_apart (IfAbsent variable block) l = by_test (is_absent (held l variable)) (spans_of block)
+spans_apart (IfAbsent variable block) l = by_test (is_absent (held_in l.variables variable)) (spans_of block)
   where
     by_test : (here : Bool) (n : ℕ) → 0 + (if here then 1 else 0) * n ≤ n
     by_test true n = omega arith
@@ -55,7 +55,7 @@ spans_apart _ l = omega arith
 block_entered : (step : Step) (s : Setting) (l : Local) (rest : List Step) (go : Go) (k : Local)
     → run (again (turns_of step l) (list_of (block_in step)) ++ rest) s go k ≡ with_block step s l (run rest s go) k
 block_entered (Repeat count block) s l rest go k = run_again count block rest s go k
-block_entered (IfAbsent variable block) s l rest go k = by_test (is_absent (held l variable))
+block_entered (IfAbsent variable block) s l rest go k = by_test (is_absent (held_in l.variables variable))
   where
     by_test : (here : Bool) → run (again (if here then 1 else 0) (list_of block) ++ rest) s go k
         ≡ (if here then block_tree block s k (run rest s go) else run rest s go k)

@@ -28,7 +28,7 @@ use Rattle.anti_proc.specs.declared.task.Task.{Task}
 use Rattle.anti_proc.specs.Stated.{has_stores, stated_lineage}
 use Rattle.anti_proc.specs.Local.{row_ids}
 use Rattle.anti_proc.specs.Meaning.{begun, setting_of, task_tree, tree_of}
-use Rattle.anti_proc.specs.Tasks.{is_for, role_at, role_at_inbox, role_at_store, role_in, role_on, task_for, task_of, task_with}
+use Rattle.anti_proc.specs.Tasks.{is_for, role_at, role_in, role_on, task_for, task_of, task_with}
 use Rattle.anti_proc.specs.Trees.{Tree, Ends}
 
 -- the body of a task's handler
@@ -95,13 +95,13 @@ module _ (app : App) (birth : Entry) (Is : Task → Type 0)
   by_sub row (Some sub) is at starts = by_stores row sub (has_stores app row.lineage) is at starts
 
   at_inbox : (call : Call) (reply : Reply) → birth.reply ≡ reply → IsInbox app birth.object
-      → Starts reply (role_at_inbox app birth.object (service_at app birth.object) call reply) → Is task
+      → Starts reply (role_at app birth.object (Inbox (service_at app birth.object)) call reply) → Is task
   at_inbox (calls.Take nth) (replies.Got number m) is at starts = by_message number m (is_for app (service_at app birth.object) m) is at refl starts
   at_inbox (calls.Take nth) reply is at starts = absurd (cc)
   at_inbox call reply is at starts = absurd (cc)
 
   at_store : (call : Call) (reply : Reply) → birth.reply ≡ reply → IsStore app birth.object
-      → Starts reply (role_at_store app birth.object call reply) → Is task
+      → Starts reply (role_at app birth.object (Store birth.object) call reply) → Is task
   at_store (calls.Pull position) (replies.Pulled row) is at starts = by_sub row (sub_on app birth.object position) is at starts
   at_store (calls.Pull position) reply is at starts = absurd (cc)
   at_store (calls.Repull position version) (replies.Pulled row) is at starts = by_sub row (sub_on app birth.object position) is at starts

@@ -36,11 +36,11 @@ use Rattle.anti_proc.specs.declared.end.End.TheVariants.{Fine, Depth, BadKey, Li
 use Rattle.anti_proc.specs.Brought.{brought, made}
 use Rattle.anti_proc.specs.Foreign.{is_foreign}
 use Rattle.anti_proc.specs.Stated.{stated_lineage}
-use Rattle.anti_proc.specs.Local.{Setting, first_local, row_ids}
-use Rattle.anti_proc.specs.Meaning.{begun, body_tree, hear_call, setting_of, tree_of}
+use Rattle.anti_proc.specs.Local.{Local, Setting, first_local, row_ids}
+use Rattle.anti_proc.specs.Meaning.{after_reply, asks, begun, body_tree, setting_of, tree_of}
 use Rattle.anti_proc.specs.Tasks.{fitting, role_in, role_on, task_of, task_with}
 use Rattle.anti_app.specs.Objects.{stores_here}
-use Rattle.anti_proc.specs.Trees.{Want, Make, Over, Ends}
+use Rattle.anti_proc.specs.Trees.{Tree, Want, Make, Over, Ends}
 use Rattle.anti_proc.specs.Asked.{next_of}
 
 abbrev key : List ℕ
@@ -107,7 +107,8 @@ taken_at handler value = taken_with (message_of kinds.Request 0 0 handler value 
 
 -- what a handler in `eu`, which owes something at its end, does next on a value of this depth, after these replies
 abbrev setting_in : App → Duty → ℕ → List ℕ → Setting
-setting_in app duty depth value = record { app = app; region = 0; depth = depth; duty = duty; input = value }
+setting_in app duty depth value =
+    record { app = app; role = record { service = 0; handler = 0; region = 0; depth = depth; duty = duty }; input = value }
 
 -- the reply of the handler `here` to the call 3 is owed
 abbrev reply_owed : Duty
@@ -359,8 +360,9 @@ brought_back baggage states = rw states refl
 
 -- Where a reply brings too many ids, the process ends.
 full_by_reply : (baggage : List ℕ) (ids carried : List WriteId) → States baggage ids → nat_lt MOST_IDS (length (with_ids ids carried)) ≡ true
-    → next_of (hear_call 1 7 x (setting_in one_store reply_owed 1 []) (record first_local { carried = carried }) (λ l. Ends body_ends.Fine)) (heard (codes "v") baggage ∷ [])
-    ≡ Over LineageFull
+    → let l : Local = record first_local { carried = carried } in
+    let follows : Reply → Tree = after_reply (setting_in one_store reply_owed 1 []) x l (λ l. Ends body_ends.Fine) in
+    next_of (asks 1 (calls.TakeReply 7) None l follows) (heard (codes "v") baggage ∷ []) ≡ Over LineageFull
 full_by_reply baggage ids carried states many = rw (states, many) refl
 
 -- the text in the message holds the id of the write before it

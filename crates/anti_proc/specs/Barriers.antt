@@ -23,7 +23,7 @@ made_at store looks = filter (λ look. look.store == store) looks
 -- there are no such ids. At another store it makes none.
 abbrev pub LooksOnceAt : Setting → Local → ℕ → Type 0
 LooksOnceAt s l store =
-    made_at store (planned s l) ≡ (if is_store_here s.app s.region store then with_look store (ids_of store l.carried) [] else [])
+    made_at store (planned s l) ≡ (if is_store_here s.app s.role.region store then with_look store (ids_of store l.carried) [] else [])
 
 -- whether one of these looks asks for an id
 abbrev pub is_asked : WriteId → List PlannedLook → Bool
@@ -31,13 +31,13 @@ is_asked i looks = list_any (λ look. has_id i look.ids) looks
 
 -- An id is asked for just where the process carries it and its store has a replica in the region.
 abbrev pub AsksFor : Setting → Local → WriteId → Type 0
-AsksFor s l i = is_asked i (planned s l) ≡ (is_store_here s.app s.region i.store && has_id i l.carried)
+AsksFor s l i = is_asked i (planned s l) ≡ (is_store_here s.app s.role.region i.store && has_id i l.carried)
 
 -- After so many replies it makes the look of that number, or goes on, where it has made all.
 abbrev pub GoesOver : Setting → Local → Bool → (Go → Tree) → Type 0
 GoesOver s l dry tree =
     (go : Go) (replies : List Reply)
-    → ((look : PlannedLook) → slice_get (planned s l) (length replies) ≡ Some look → next_of (tree go) replies ≡ Make look.store l.span (calls.Look s.region look.ids dry))
+    → ((look : PlannedLook) → slice_get (planned s l) (length replies) ≡ Some look → next_of (tree go) replies ≡ Make look.store l.span (calls.Look s.role.region look.ids dry))
     × (length replies ≡ length (planned s l) → after (tree go) replies ≡ go l)
 
 -- It begins with the first of its looks, where there are any, and the others are left after that one.
@@ -45,7 +45,7 @@ abbrev pub BeginsItsLooks : Setting → Local → Bool → (Go → Tree) → Typ
 BeginsItsLooks s l dry tree =
     (go : Go) (look : PlannedLook) (later : List PlannedLook) → planned s l ≡ look ∷ later
     → ask_of (tree go)
-    ≡ Some (record { object = look.store; span = l.span; call = calls.Look s.region look.ids dry; carried = l.carried; left = Some later })
+    ≡ Some (record { object = look.store; span = l.span; call = calls.Look s.role.region look.ids dry; carried = l.carried; left = Some later })
 
 -- a look of the same region, as dry, for other ids
 abbrev pub looking_for : List WriteId → Call → Call

@@ -1,9 +1,9 @@
 -- The lineage that a message states, over the stores of an application.
-use Rattle.std.specs.Prelude.{Bool, List, Option, Some, None, Result, Ok, Err}
+use Rattle.std.specs.Prelude.{Bool, List, Option}
 use Rattle.std.specs.List.{list_all}
+use Rattle.std.specs.Result.{result_ok}
 use Rattle.anti_ids.specs.declared.id.WriteId.{WriteId}
 use Rattle.anti_kind.specs.declared.message.Message.{Message}
-use Rattle.anti_baggage.specs.declared.fault.BaggageFault.{BaggageFault}
 use Rattle.anti_baggage.specs.Reading.{read_lineage}
 use Rattle.anti_app.specs.declared.app.App.{App}
 use Rattle.anti_app.specs.Objects.{is_store, store_names}
@@ -12,11 +12,6 @@ use Rattle.anti_app.specs.Objects.{is_store, store_names}
 abbrev pub has_stores : App → List WriteId → Bool
 has_stores app ids = list_all (λ id. is_store app id.store) ids
 
--- what was read, where there was no fault
-abbrev pub read_well : Result (List WriteId) BaggageFault → Option (List WriteId)
-read_well (Ok ids) = Some ids
-read_well (Err fault) = None
-
 -- the lineage over the application's stores that the text of a message states, where it states one
 abbrev pub stated_lineage : App → Message → Option (List WriteId)
-stated_lineage app m = read_well (read_lineage (store_names app) m.baggage.items)
+stated_lineage app m = result_ok (read_lineage (store_names app) m.baggage.items)

@@ -36,53 +36,27 @@ duty_to _ inbox number handler = duties.Free
 abbrev pub is_for : App → ℕ → Message → Bool
 is_for app service m = has_handler app service m.handler && nat_le m.depth MOST_DEPTH
 
+-- a handler of a service, which runs in the service's region
+abbrev pub role_with : App → ℕ → ℕ → ℕ → Duty → Role
+role_with app service handler depth duty =
+    record { service = service; handler = handler; region = region_of app service; depth = depth; duty = duty }
+
+-- the handler that a message names
 abbrev pub role_in : App → ℕ → ℕ → ℕ → Message → Role
-role_in app inbox service number m = record {
-  service = service;
-  handler = handler_number app service m.handler;
-  region = region_of app service;
-  depth = m.depth;
-  duty = duty_to m.kind inbox number m.handler;
-}
+role_in app inbox service number m =
+    role_with app service (handler_number app service m.handler) m.depth (duty_to m.kind inbox number m.handler)
 
--- what is taken from the inbox of a service
-abbrev pub role_taken : App → ℕ → ℕ → Reply → Option Role
-role_taken app inbox service (replies.Got number m) =
-    if is_for app service m then Some (role_in app inbox service number m) else None
-role_taken app inbox service _ = None
-
--- The message of a queue is acked or nacked at the end; the cell of a topic is not.
-abbrev pub duty_of_row : App → ℕ → ℕ → Duty
-duty_of_row app store version = if is_queue_at app store then duties.Works store version else duties.Free
-
--- the handler of a subscription, which begins at depth 0
+-- The handler of a subscription, which begins at depth 0. The message of a queue is acked or nacked at its end; the cell of a topic is not.
 abbrev pub role_on : App → ℕ → ℕ → SubDef → Role
-role_on app store version sub = record {
-  service = sub.service;
-  handler = sub.handler;
-  region = region_of app sub.service;
-  depth = 0;
-  duty = duty_of_row app store version;
-}
+role_on app store version sub =
+    role_with app sub.service sub.handler 0 (if is_queue_at app store then duties.Works store version else duties.Free)
 
--- what is pulled for the subscription at a position among those of the store
-abbrev pub role_pulled : App → ℕ → ℕ → Reply → Option Role
-role_pulled app store position (replies.Pulled row) =
-    option_map (role_on app store row.version) (sub_on app store position)
-role_pulled app store position _ = None
-
-abbrev pub role_at_inbox : App → ℕ → ℕ → Call → Reply → Option Role
-role_at_inbox app inbox service (calls.Take nth) reply = role_taken app inbox service reply
-role_at_inbox app inbox service _ reply = None
-
-abbrev pub role_at_store : App → ℕ → Call → Reply → Option Role
-role_at_store app store (calls.Pull sub) reply = role_pulled app store sub reply
-role_at_store app store (calls.Repull sub version) reply = role_pulled app store sub reply
-role_at_store app store _ reply = None
-
+-- Which handler a call at an object starts by its reply. A row is pulled for the subscription of a position among those of its store.
 abbrev pub role_at : App → ℕ → ObjectAt → Call → Reply → Option Role
-role_at app object (Store store) call reply = role_at_store app store call reply
-role_at app object (Inbox service) call reply = role_at_inbox app object service call reply
+role_at app o (Inbox service) (calls.Take nth) (replies.Got number m) = if is_for app service m then Some (role_in app o service number m) else None
+role_at app o (Store store) (calls.Pull sub) (replies.Pulled row) = option_map (role_on app store row.version) (sub_on app store sub)
+role_at app o (Store store) (calls.Repull sub version) (replies.Pulled row) = option_map (role_on app store row.version) (sub_on app store sub)
+role_at app o at call reply = None
 
 -- Which handler an entry starts.
 abbrev pub role_of : App → Entry → Option Role

@@ -1,9 +1,9 @@
-ghost use Rattle.std.specs.Prelude.{◌≡◌, List, IfOk, option_map};
-ghost use Rattle.anti_ids.specs.Ids.{with_ids};
+ghost use Rattle.std.specs.Prelude.{◌≡◌, ◌==◌, List, IfOk, option_map};
+ghost use Rattle.std.specs.List.{list_all};
 ghost use Rattle.anti_ids.specs.declared.id.WriteId.{WriteId};
 ghost use Rattle.anti_proc.specs.inner.Adding.{Adds};
-ghost use Rattle.anti_proc.specs.Local.{Setting, Local, all_absent, held_ids, id_at, row_ids, rows_ids};
-ghost use Rattle.anti_proc.specs.Meaning.{Go, add, carry};
+ghost use Rattle.anti_proc.specs.Local.{Setting, Local, held_ids, id_at, row_ids, rows_ids};
+ghost use Rattle.anti_proc.specs.Meaning.{Go, carry};
 ghost use Rattle.anti_proc.specs.inner.Standing.{stage_or};
 
 use crate::end::BodyEnd;
@@ -65,9 +65,8 @@ fn next_with(
     added: Result<(), LineageRefused>,
 ) -> Result<Option<Stage>, NoMemory>
     ensures { (ids old : List WriteId) → Adds ids old carried.now added
-        → IfOk result (λ stage. (s : Setting) (l : Local) (go : Go)
-        → stage_or stage s (record l { carried = carried.now }) go
-        ≡ carry (with_ids ids old) l go) }
+        → IfOk result (λ stage. (s : Setting) (l : Local) (go : Go) → l.carried ≡ old
+        → stage_or stage s (record l { carried = carried.now }) go ≡ carry ids l go) }
 {
     match added {
         Ok(()) => {
@@ -85,7 +84,7 @@ fn next_with(
 pub fn add(carried: &mut Lineage, held: Option<&Binding>) -> Result<Option<Stage>, NoMemory>
     ensures { IfOk result (λ stage. (s : Setting) (l : Local) (go : Go) → l.carried ≡ carried.old
         → stage_or stage s (record l { carried = carried.new }) go
-        ≡ add (option_map (λ h. h.now) held.entry) l go) }
+        ≡ carry (held_ids (option_map (λ h. h.now) held.entry)) l go) }
 {
     let added = add_held(carried, held);
     next_with(carried, added)
@@ -93,9 +92,8 @@ pub fn add(carried: &mut Lineage, held: Option<&Binding>) -> Result<Option<Stage
 
 /// Adds the ids of another lineage to a lineage. Where they are too many the process ends.
 pub fn carry(carried: &mut Lineage, more: &Lineage) -> Result<Option<Stage>, NoMemory>
-    ensures { IfOk result (λ stage. (s : Setting) (l : Local) (go : Go)
-        → stage_or stage s (record l { carried = carried.new }) go
-        ≡ carry (with_ids more.now carried.old) l go) }
+    ensures { IfOk result (λ stage. (s : Setting) (l : Local) (go : Go) → l.carried ≡ carried.old
+        → stage_or stage s (record l { carried = carried.new }) go ≡ carry more.now l go) }
 {
     let added = carried.transfer(more);
     next_with(carried, added)
@@ -103,7 +101,7 @@ pub fn carry(carried: &mut Lineage, more: &Lineage) -> Result<Option<Stage>, NoM
 
 /// Whether none of these rows has a version.
 pub fn all_absent(rows: &[Row]) -> bool
-    ensures { result ≡ all_absent rows.now }
+    ensures { result ≡ list_all (λ row. row.version == 0) rows.now }
 {
     for row in rows {
         if row.version != 0 {

@@ -77,7 +77,7 @@ pub fn calls_hand_on_what_is_carried()
 /// every list of replies. It does nothing.
 pub fn calls_are_made_at_home()
     ensures bodies { (body : Block) (s : Setting) (ids : List WriteId)
-        → OfEachCall (IsAtHome s.region) (begun body s (Some ids)) }
+        → OfEachCall (IsAtHome s.role.region) (begun body s (Some ids)) }
     ensures processes { (app : App) (birth : Entry) (task : Task) → task_of app birth ≡ Some task
         → OfEachCall (IsAtHome (region_of app task.role.service)) (tree_of app birth) }
 {}

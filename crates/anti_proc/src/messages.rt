@@ -1,10 +1,10 @@
 // The messages that a process posts, and its last call.
-ghost use Rattle.std.specs.Prelude.{◌≡◌, ◌<◌, Some, None, true, false, IfOk};
+ghost use Rattle.std.specs.Prelude.{◌≡◌, ◌+◌, ◌<◌, Some, None, true, false, IfOk};
 ghost use Rattle.anti_ids.specs.List.{plain};
 ghost use Rattle.anti_ids.specs.declared.limits.TheConstants.{MOST_DEPTH};
 ghost use Rattle.anti_baggage.specs.Texts.{lineage_text};
 ghost use Rattle.anti_proc.specs.Local.{Setting, Local};
-ghost use Rattle.anti_proc.specs.Meaning.{Go, after_post, answer, asks, kind_of, leave, message};
+ghost use Rattle.anti_proc.specs.Meaning.{Go, after_post, asks, leave, message};
 ghost use Rattle.anti_proc.specs.Trees.{Ends};
 ghost use Rattle.anti_app.specs.Objects.{store_names};
 ghost use Rattle.anti_proc.specs.inner.Standing.{local_in, setting_in, stage_or, stage_tree};
@@ -17,16 +17,6 @@ use anti_app::store_names;
 use anti_baggage::Baggage;
 use anti_ids::{Copies, Name, NoMemory, Value};
 use anti_kind::{Call, Handle, Message, MessageKind, Reply};
-
-// The kind of a message whose reply sets a variable, or which has no reply.
-fn kind_of(variable: &Option<Name>) -> MessageKind
-    ensures { result ≡ kind_of variable.now }
-{
-    match variable {
-        Some(_) => MessageKind::Call,
-        None => MessageKind::Send,
-    }
-}
 
 /// What is next after a message was posted to an inbox: the reply to a call is to be taken, and a send has none.
 pub fn hear(inbox: u32, variable: Option<Name>, reply: &Reply) -> Option<Stage>
@@ -46,7 +36,7 @@ pub fn hear(inbox: u32, variable: Option<Name>, reply: &Reply) -> Option<Stage>
 // The last call of a process, behind which it is at its end.
 fn last(object: u32, call: Call, end: BodyEnd) -> Stage
     ensures { (s : Setting) (l : Local) (go : Go) → stage_tree result s l go
-        ≡ asks object call l (λ reply. Ends end) }
+        ≡ asks object call None l (λ reply. Ends end) }
 {
     Stage::Asks(Next {
         object,
@@ -73,19 +63,20 @@ impl<'a> Way<'a> {
     /// The message of a call or a send to a handler, which is not too deep.
     pub fn message(
         &self,
-        variable: &Option<Name>,
+        kind: MessageKind,
         handler: Name,
         value: Value,
     ) -> Result<Handle<Message>, NoMemory>
         requires { self.now.given.now.role.depth < MOST_DEPTH }
         ensures { IfOk result (λ m. m
-            ≡ message (kind_of variable.now) (setting_in self.now) (local_in self.now) handler value) }
+            ≡ message kind 0 (self.now.given.now.role.depth + 1) handler value (setting_in self.now)
+            (local_in self.now)) }
     {
         let baggage = self.baggage()?;
         Handle::new(
             self.given.alloc,
             Message {
-                kind: kind_of(variable),
+                kind,
                 to: 0,
                 depth: self.given.role.depth + 1,
                 handler,
@@ -98,7 +89,8 @@ impl<'a> Way<'a> {
     // The reply to the call of a number, by a handler.
     fn answer(&self, number: u32, handler: Name) -> Result<Handle<Message>, NoMemory>
         ensures { IfOk result (λ m. m
-            ≡ answer (setting_in self.now) (local_in self.now) number handler) }
+            ≡ message MessageKind.Reply number 0 handler self.now.changes.reply (setting_in self.now)
+            (local_in self.now)) }
     {
         let value = self.changes.reply.copy(self.given.alloc)?;
         let baggage = self.baggage()?;
@@ -125,8 +117,8 @@ impl<'a> Way<'a> {
     ) -> Result<Stage, NoMemory>
         ensures { IfOk result (λ stage. (go : Go)
             → stage_tree stage (setting_in self.now) (local_in self.now) go
-            ≡ asks inbox (Call.Post (answer (setting_in self.now) (local_in self.now) number handler))
-            (local_in self.now) (λ reply. Ends end)) }
+            ≡ asks inbox (Call.Post (message MessageKind.Reply number 0 handler self.now.changes.reply
+            (setting_in self.now) (local_in self.now))) None (local_in self.now) (λ reply. Ends end)) }
     {
         let message = self.answer(number, handler)?;
         Ok(last(inbox, Call::Post { message }, end))

@@ -66,8 +66,8 @@ pub fn last_first(alloc: Global, mut looks: Looks) -> Result<Looks, NoMemory>
 
 /// The first of the looks in a region that are left to a barrier, of which the last comes first; `None` where none is left.
 pub fn look_of(mut left: Looks, region: u32, dry: bool) -> Option<Stage>
-    ensures { (s : Setting) (l : Local) (go : Go) → s.region ≡ region
-        → stage_or result s l go ≡ looks s.region dry (reverse left.items) l go }
+    ensures { (s : Setting) (l : Local) (go : Go) → s.role.region ≡ region
+        → stage_or result s l go ≡ looks s.role.region dry (reverse left.items) l go }
 {
     let PlannedLook { store, ids } = left.pop()?;
     Some(Stage::Asks(Next {

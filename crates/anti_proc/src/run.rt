@@ -3,8 +3,7 @@ ghost use Rattle.anti_app.specs.declared.app.App.{App};
 ghost use Rattle.anti_app.specs.Objects.{body_of};
 ghost use Rattle.anti_app.specs.Running.{CanRun};
 ghost use Rattle.anti_proc.specs.declared.given.Given.{Given};
-ghost use Rattle.anti_proc.specs.Meaning.{after_read, after_reply, after_write, body_tree, task_tree, wrote};
-ghost use Rattle.anti_proc.specs.Local.{set_or};
+ghost use Rattle.anti_proc.specs.Meaning.{after_read, after_reply, after_write, body_tree, task_tree};
 ghost use Rattle.anti_proc.specs.Trees.{branch};
 ghost use Rattle.anti_proc.specs.inner.Going.{going_tree};
 ghost use Rattle.anti_proc.specs.inner.Running.{AdvanceHasSpans, HasSpans, LifeHasSpans};
@@ -303,9 +302,8 @@ impl Run {
         requires app { CanRun app.now }
         requires spans { HasSpans app.now self.now.given.role self.now.cursor self.now.state.span }
         ensures goes { IfOk result (λ a. run_after app.now self.now a
-            ≡ wrote untracked (Binding.Wrote id.now) (set_or variable (Binding.Wrote id.now)
-            (local_of self.now.state))
-            (going app.now self.now.given self.now.cursor)) }
+            ≡ after_write id.now.store variable untracked (local_of self.now.state)
+            (going app.now self.now.given self.now.cursor) (Reply.Written id.now.key id.now.version)) }
         ensures spans { IfOk result (λ a. AdvanceHasSpans app.now (Life.Runs self.now) a) }
     {
         let since = set_or(variable, Binding::Wrote(*id));

@@ -1,7 +1,7 @@
 ghost use Rattle.std.specs.Prelude.{◌≡◌, Some, ◌<◌, [], List as Items, IfOk, OnOk, OnErr};
-ghost use Rattle.anti_proc.specs.Local.{first_local, Local, set_or, Setting};
-ghost use Rattle.anti_proc.specs.Meaning.{Go, add, carry};
-ghost use Rattle.anti_ids.specs.Ids.{with_ids};
+ghost use Rattle.std.specs.Option.{option_map_or};
+ghost use Rattle.anti_proc.specs.Local.{first_local, held_ids, Local, set, Setting};
+ghost use Rattle.anti_proc.specs.Meaning.{Go, carry};
 ghost use Rattle.anti_proc.specs.declared.variables.Variable.{Variable};
 ghost use Rattle.anti_proc.specs.inner.Standing.{local_by, local_of, stage_or, variables_in};
 
@@ -124,7 +124,7 @@ impl State {
 /// What becomes of the variables where one is set, if there is one to set.
 pub fn set_or(variable: Option<Name>, held: Binding) -> Since
     ensures { (l : Local) → record l { variables = variables_in result l.variables }
-        ≡ set_or variable held l }
+        ≡ option_map_or (λ name. set name held l) variable l }
 {
     match variable {
         Some(name) => Since::Set(Variable { name, held }),
@@ -151,7 +151,7 @@ impl Changes {
     pub fn add_write(&mut self, id: &WriteId) -> Result<Option<Stage>, NoMemory>
         ensures goes { IfOk result (λ stage. (before : Items Variable) (s : Setting) (go : Go)
             → stage_or stage s (local_by self.new before) go
-            ≡ add (Some (Binding.Wrote id.now)) (local_by self.old before) go) }
+            ≡ carry (held_ids (Some (Binding.Wrote id.now))) (local_by self.old before) go) }
         ensures span { OnOk result (self.new.span ≡ self.old.span) }
     {
         let held = Binding::Wrote(*id);
@@ -162,7 +162,7 @@ impl Changes {
     pub fn carry(&mut self, more: &Lineage) -> Result<Option<Stage>, NoMemory>
         ensures goes { IfOk result (λ stage. (before : Items Variable) (s : Setting) (go : Go)
             → stage_or stage s (local_by self.new before) go
-            ≡ carry (with_ids more.now self.old.carried) (local_by self.old before) go) }
+            ≡ carry more.now (local_by self.old before) go) }
         ensures span { OnOk result (self.new.span ≡ self.old.span) }
     {
         carry(&mut self.carried, more)

@@ -1,11 +1,11 @@
-ghost use Rattle.std.specs.Prelude.{◌≡◌, ◌+◌, ◌^◌, ◌<◌, ◌≤◌, IfOk, OnOk};
+ghost use Rattle.std.specs.Prelude.{◌≡◌, ◌+◌, ◌^◌, ◌<◌, ◌≤◌, None, IfOk, OnOk};
 ghost use Rattle.anti_app.specs.Objects.{inbox_of, store_number};
 ghost use Rattle.anti_app.specs.Running.{CanRun};
 ghost use Rattle.anti_lang.specs.Bodies.{step_of};
 ghost use Rattle.anti_lang.specs.Program as program;
 ghost use Rattle.anti_lang.specs.Spans.{spans_in};
 ghost use Rattle.anti_proc.specs.Local.{text_of};
-ghost use Rattle.anti_proc.specs.Meaning.{Go, after_read, asks, if_deep, looks, planned, post_call};
+ghost use Rattle.anti_proc.specs.Meaning.{Go, after_read, asks, looks, planned, post_call};
 ghost use Rattle.anti_proc.specs.inner.Standing.{local_in, setting_in, stage_or};
 ghost use Rattle.anti_proc.specs.inner.Statements.{ComesTo, own_spans, turns_of};
 
@@ -14,7 +14,7 @@ use crate::next::{After, Next, Stage, last_first, look_of};
 use crate::way::Way;
 use anti_app::{inbox_of, store_number, stores_here};
 use anti_ids::{Copies, MOST_DEPTH, Name, NoMemory, Value};
-use anti_kind::{Call, Handle};
+use anti_kind::{Call, Handle, MessageKind};
 use anti_lang::{KeyWord, Statement, ValueWord};
 use anti_shim::plan;
 
@@ -67,7 +67,7 @@ impl<'a> Way<'a> {
         requires { CanRun self.now.app.now }
         ensures { (go : Go) → let object = store_number self.now.app.now store.now in
             stage_or result (setting_in self.now) (local_in self.now) go
-            ≡ asks object call (local_in self.now)
+            ≡ asks object call None (local_in self.now)
             (after_read object variable (local_in self.now) go) }
     {
         Some(Stage::Asks(Next {
@@ -116,6 +116,7 @@ impl<'a> Way<'a> {
     fn post(
         &self,
         service: &Name,
+        kind: MessageKind,
         handler: Name,
         value: &ValueWord,
         variable: Option<Name>,
@@ -123,16 +124,15 @@ impl<'a> Way<'a> {
         requires { CanRun self.now.app.now }
         ensures { IfOk result (λ stage. (go : Go)
             → stage_or stage (setting_in self.now) (local_in self.now) go
-            ≡ if_deep (setting_in self.now) (local_in self.now)
-            (post_call (inbox_of self.now.app.now service.now) handler
-            (text_of self.now.given.now.input (local_in self.now).variables value.now) variable
-            (setting_in self.now) (local_in self.now) go)) }
+            ≡ post_call (inbox_of self.now.app.now service.now) kind handler
+            (text_of (setting_in self.now) (local_in self.now) value.now) variable
+            (setting_in self.now) (local_in self.now) go) }
     {
         if self.given.role.depth >= MOST_DEPTH {
             return self.nack(BodyEnd::Depth);
         }
         let value = self.text_of(value)?;
-        let message = self.message(&variable, handler, value)?;
+        let message = self.message(kind, handler, value)?;
         Ok(Some(Stage::Asks(Next {
             object: inbox_of(self.app, service),
             call: Call::Post { message },
@@ -213,12 +213,12 @@ impl<'a> Way<'a> {
                 handler,
                 value,
                 variable,
-            } => self.post(service, *handler, value, Some(*variable)),
+            } => self.post(service, MessageKind::Call, *handler, value, Some(*variable)),
             Statement::Send {
                 service,
                 handler,
                 value,
-            } => self.post(service, *handler, value, None),
+            } => self.post(service, MessageKind::Send, *handler, value, None),
             Statement::Reply(value) => {
                 self.changes.reply = self.text_of(value)?;
                 Ok(None)

@@ -1,8 +1,9 @@
-ghost use Rattle.std.specs.Prelude.{ℕ, ◌≡◌, ◌≤◌, [], None, Some, Err, IfOk, length};
+ghost use Rattle.std.specs.Prelude.{ℕ, ◌≡◌, ◌≤◌, [], None, Some, Err, IfOk, length, option_map};
 ghost use Rattle.anti_ids.specs.Ids.{with_ids};
 ghost use Rattle.anti_app.specs.Running.{CanRun};
+ghost use Rattle.anti_app.specs.Subs.{sub_on};
 ghost use Rattle.anti_proc.specs.Local.{row_ids};
-ghost use Rattle.anti_proc.specs.Tasks.{duty_of_row, duty_to, fitting, is_for, role_at_inbox, role_at_store, role_in, role_of, role_on, role_pulled, role_taken, task_for, task_of};
+ghost use Rattle.anti_proc.specs.Tasks.{duty_to, fitting, is_for, role_at, role_in, role_of, role_on, role_with, task_for, task_of};
 
 use crate::additions::add_row;
 use crate::end::ProcFault;
@@ -73,85 +74,70 @@ fn is_for(app: &App, service: usize, message: &Message) -> bool
     has_handler(app, service, &message.handler) && message.depth <= MOST_DEPTH
 }
 
+// A handler of a service, which runs in the service's region.
+fn role_with(app: &App, service: usize, handler: usize, depth: u32, duty: Duty) -> Role
+    ensures { result ≡ role_with app.now service handler depth duty }
+{
+    Role {
+        service,
+        handler,
+        region: region_of(app, service),
+        depth,
+        duty,
+    }
+}
+
 // The handler that a message names.
 fn role_in(app: &App, inbox: u32, service: usize, number: u32, message: &Message) -> Role
     ensures { result ≡ role_in app.now inbox service number message.now }
 {
-    Role {
-        service,
-        handler: handler_number(app, service, &message.handler),
-        region: region_of(app, service),
-        depth: message.depth,
-        duty: duty_to(message.kind, inbox, number, message.handler),
-    }
+    let handler = handler_number(app, service, &message.handler);
+    let duty = duty_to(message.kind, inbox, number, message.handler);
+    role_with(app, service, handler, message.depth, duty)
 }
 
-// The handler that is started by what is taken from the inbox of a service.
-fn role_taken(app: &App, inbox: u32, service: usize, reply: &Reply) -> Option<Role>
-    ensures { result ≡ role_taken app.now inbox service reply.now }
-{
-    match reply {
-        Reply::Got { number, message } if is_for(app, service, message.get()) => {
-            Some(role_in(app, inbox, service, *number, message.get()))
-        }
-        _ => None,
-    }
-}
-
-// What a process owes that is started by the row of a version.
-fn duty_of_row(app: &App, store: u32, version: u64) -> Duty
-    ensures { result ≡ duty_of_row app.now store version }
-{
-    if is_queue_at(app, store) {
-        Duty::Works { store, version }
-    } else {
-        Duty::Free
-    }
-}
-
-// The handler of a subscription.
+// The handler of a subscription. Its process owes the end of a message to a queue, and nothing to a topic.
 fn role_on(app: &App, store: u32, version: u64, sub: &SubDef) -> Role
     ensures { result ≡ role_on app.now store version sub.now }
 {
-    Role {
-        service: sub.service as usize,
-        handler: sub.handler as usize,
-        region: region_of(app, sub.service as usize),
-        depth: 0,
-        duty: duty_of_row(app, store, version),
-    }
+    let duty = if is_queue_at(app, store) {
+        Duty::Works { store, version }
+    } else {
+        Duty::Free
+    };
+    role_with(app, sub.service as usize, sub.handler as usize, 0, duty)
 }
 
 // The handler that is started by what is pulled for the subscription at a position among those of a store.
-fn role_pulled(app: &App, store: u32, position: u32, reply: &Reply) -> Option<Role>
-    ensures { result ≡ role_pulled app.now store position reply.now }
+fn role_pulled(app: &App, store: u32, position: u32, row: &Row) -> Option<Role>
+    ensures { result ≡ option_map (role_on app.now store row.now.version) (sub_on app.now store position) }
 {
-    let Reply::Pulled(row) = reply else {
-        return None;
-    };
     match sub_on(app, store, position as usize) {
-        Some(sub) => Some(role_on(app, store, row.get().version, sub)),
+        Some(sub) => Some(role_on(app, store, row.version, sub)),
         None => None,
     }
 }
 
 // The handler that a call on the inbox of a service starts by its reply.
 fn role_at_inbox(app: &App, inbox: u32, service: usize, call: &Call, reply: &Reply) -> Option<Role>
-    ensures { result ≡ role_at_inbox app.now inbox service call.now reply.now }
+    ensures { result ≡ role_at app.now inbox (ObjectAt.Inbox service) call.now reply.now }
 {
-    match call {
-        Call::Take { .. } => role_taken(app, inbox, service, reply),
+    match (call, reply) {
+        (Call::Take { .. }, Reply::Got { number, message })
+            if is_for(app, service, message.get()) => {
+            Some(role_in(app, inbox, service, *number, message.get()))
+        }
         _ => None,
     }
 }
 
 // The handler that a call on a store starts by its reply.
 fn role_at_store(app: &App, store: u32, call: &Call, reply: &Reply) -> Option<Role>
-    ensures { result ≡ role_at_store app.now store call.now reply.now }
+    ensures { result ≡ role_at app.now store (ObjectAt.Store store) call.now reply.now }
 {
-    match call {
-        Call::Pull { sub } => role_pulled(app, store, *sub, reply),
-        Call::Repull { sub, .. } => role_pulled(app, store, *sub, reply),
+    match (call, reply) {
+        (Call::Pull { sub }, Reply::Pulled(row)) => role_pulled(app, store, *sub, row.get()),
+        (Call::Repull { sub, .. }, Reply::Pulled(row)) => role_pulled(app, store, *sub, row.get()),
         _ => None,
     }
 }

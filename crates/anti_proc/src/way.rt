@@ -1,6 +1,6 @@
-ghost use Rattle.std.specs.Prelude.{◌≡◌, ◌+◌, ◌^◌, ◌<◌, ◌≤◌, true, IfOk, OnOk, option_map};
-ghost use Rattle.anti_proc.specs.Local.{Setting, held, held_in, is_absent, new_span, removed, rooted};
-ghost use Rattle.anti_proc.specs.Meaning.{Go, add};
+ghost use Rattle.std.specs.Prelude.{◌≡◌, ◌+◌, ◌^◌, ◌<◌, ◌≤◌, true, false, IfOk, OnOk, if◌then◌else◌, option_map};
+ghost use Rattle.anti_proc.specs.Local.{Setting, held_ids, held_in, is_absent, new_span, removed};
+ghost use Rattle.anti_proc.specs.Meaning.{Go, carry};
 ghost use Rattle.anti_proc.specs.inner.Standing.{local_in, stage_or, variables_in};
 
 use crate::additions::{add, all_absent};
@@ -45,7 +45,8 @@ fn held_since<'a>(since: &'a Since, before: &'a [Variable], name: &Name) -> Opti
 impl<'a> Way<'a> {
     /// What a variable holds, where it is set.
     pub fn held(&self, name: &Name) -> Option<&Binding>
-        ensures { option_map (λ held. held.now) result ≡ held (local_in self.now) name.now }
+        ensures { option_map (λ held. held.now) result
+            ≡ held_in (local_in self.now).variables name.now }
     {
         held_since(&self.changes.since, self.before, name)
     }
@@ -74,7 +75,8 @@ impl<'a> Way<'a> {
     /// Runs `root`. It takes no memory.
     pub fn root(&mut self)
         requires { self.old.changes.span + 1 < 2 ^ 32 }
-        ensures local { local_in self.new ≡ rooted self.old.changes.stopped (local_in self.old) }
+        ensures local { local_in self.new ≡ (if self.old.changes.stopped
+            then record (local_in self.old) { stopped = false } else new_span false (local_in self.old)) }
         ensures span { self.new.changes.span ≤ self.old.changes.span + 1 }
         ensures same { self.new ≡ record self.old { changes = self.new.changes } }
     {
@@ -88,7 +90,7 @@ impl<'a> Way<'a> {
     /// Runs `remove`. It takes no memory.
     pub fn remove(&mut self, variable: &Name)
         ensures local { local_in self.new ≡ record (local_in self.old) {
-          carried = removed (held (local_in self.old) variable.now) self.old.changes.carried;
+          carried = removed (held_in (local_in self.old).variables variable.now) self.old.changes.carried;
         } }
         ensures same { self.new ≡ record self.old { changes = self.new.changes } }
     {
@@ -99,7 +101,7 @@ impl<'a> Way<'a> {
 
     /// Whether the block of an `if` is run. It takes no memory.
     pub fn is_absent(&self, variable: &Name) -> bool
-        ensures { result ≡ is_absent (held (local_in self.now) variable.now) }
+        ensures { result ≡ is_absent (held_in (local_in self.now).variables variable.now) }
     {
         match self.held(variable) {
             Some(Binding::Saw { rows, .. }) => all_absent(rows.as_slice()),
@@ -111,7 +113,7 @@ impl<'a> Way<'a> {
     pub fn add(&mut self, variable: &Name) -> Result<Option<Stage>, NoMemory>
         ensures goes { IfOk result (λ stage. (s : Setting) (go : Go)
             → stage_or stage s (local_in self.new) go
-            ≡ add (held (local_in self.old) variable.now) (local_in self.old) go) }
+            ≡ carry (held_ids (held_in (local_in self.old).variables variable.now)) (local_in self.old) go) }
         ensures span { OnOk result (self.new.changes.span ≡ self.old.changes.span) }
         ensures same { self.new ≡ record self.old { changes = self.new.changes } }
     {

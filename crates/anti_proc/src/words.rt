@@ -1,8 +1,8 @@
-ghost use Rattle.std.specs.Prelude.{◌≡◌, IfOk};
+ghost use Rattle.std.specs.Prelude.{◌≡◌, IfOk, Some};
 ghost use Rattle.std.specs.Fmt.{decimal};
 ghost use Rattle.anti_lang.specs.Texts.{plain_name};
-ghost use Rattle.anti_proc.specs.Local.{any_name, held_in, held_text, key_of, text_in, text_of};
-ghost use Rattle.anti_proc.specs.inner.Standing.{local_in};
+ghost use Rattle.anti_proc.specs.Local.{any_name, held_in, held_text, key_text, text_of};
+ghost use Rattle.anti_proc.specs.inner.Standing.{local_in, setting_in};
 
 use crate::variables::Binding;
 use crate::way::Way;
@@ -25,7 +25,7 @@ fn decimal(alloc: Global, number: u64) -> Result<Value, NoMemory>
 
 // What `$X` stands for, by what X holds.
 fn held_text(alloc: Global, held: &Binding) -> Result<Value, NoMemory>
-    ensures { IfOk result (λ v. v ≡ text_in held.now) }
+    ensures { IfOk result (λ v. v ≡ held_text (Some held.now)) }
 {
     match held {
         Binding::Wrote(id) => decimal(alloc, id.version),
@@ -62,7 +62,7 @@ impl<'a> Way<'a> {
     /// The text of the word of a value, by what the process was given and its variables.
     pub fn text_of(&self, word: &ValueWord) -> Result<Value, NoMemory>
         ensures { IfOk result (λ v. v
-            ≡ text_of self.now.given.now.input (local_in self.now).variables word.now) }
+            ≡ text_of (setting_in self.now) (local_in self.now) word.now) }
     {
         match word {
             ValueWord::Input => self.given.input.copy(self.given.alloc),
@@ -74,7 +74,7 @@ impl<'a> Way<'a> {
     /// The key of a word, where it is a plain name.
     pub fn plain_key(&self, word: &KeyWord) -> Result<Option<Name>, NoMemory>
         ensures { IfOk result (λ key. key
-            ≡ key_of plain_name self.now.given.now.input (local_in self.now).variables word.now) }
+            ≡ plain_name (key_text (setting_in self.now) (local_in self.now) word.now)) }
     {
         match word {
             KeyWord::Input => Ok(plain_name(self.given.input.bytes())),
@@ -89,7 +89,7 @@ impl<'a> Way<'a> {
     /// The key of a word, where it is a name, as a poll wants it.
     pub fn cell_key(&self, word: &KeyWord) -> Result<Option<Name>, NoMemory>
         ensures { IfOk result (λ key. key
-            ≡ key_of any_name self.now.given.now.input (local_in self.now).variables word.now) }
+            ≡ any_name (key_text (setting_in self.now) (local_in self.now) word.now)) }
     {
         match word {
             KeyWord::Input => Ok(any_name(self.given.input.bytes())),

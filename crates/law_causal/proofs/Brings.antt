@@ -1,5 +1,5 @@
 -- What comes with an entry, in its parts.
-use Rattle.std.proofs.Common.{◌≡◌, ℕ, ◌⊎◌, true, false, List, [], ◌∷◌, ◌++◌, Contains, flat_map, append-nil, refl, sym, ap, ◌∙◌, inl, inr, arith}
+use Rattle.std.proofs.Common.{◌≡◌, ℕ, ◌⊎◌, true, false, List, [], ◌++◌, Contains, flat_map, append-nil, refl, sym, ap, ◌∙◌, inl, inr, arith}
 use Rattle.anti_ids.specs.Ids.{has_id}
 use Rattle.anti_ids.specs.declared.id.WriteId.{WriteId}
 use Rattle.anti_kind.specs.declared.call.Call.{Call}
@@ -23,19 +23,15 @@ pub data Part (app : App) (e : Entry) (w : WriteId) : Type 0 where
   of_lineage : (r : Row) → Contains (rows_in e.call e.reply) r → has_id w r.lineage ≡ true → Part app e w
   of_message : has_id w (taken app e) ≡ true → Part app e w
 
-rows_joined : (o : ℕ) (rows : List Row) → rows_ids o rows ≡ flat_map (row_ids o) rows
-rows_joined o [] = refl
-rows_joined o (r ∷ rs) = ap (λ (ids : List WriteId). row_ids o r ++ ids) (rows_joined o rs)
-
 -- one list, of which the others are empty
 alone : (ids : List WriteId) → ids ≡ ids ++ []
 alone ids = sym (append-nil ids)
 
 all_of : (app : App) (o : ℕ) (c : Call) (r : Reply) → comes_with app o c r ≡ id_written o c r ++ (flat_map (row_ids o) (rows_in c r) ++ taken_in app c r)
 all_of app o (calls.Write key value lineage) (replies.Written name version) = alone (id_at o name version)
-all_of app o (calls.Read region key) (replies.Shown rows) = rows_joined o rows.items ∙ alone (flat_map (row_ids o) rows.items)
-all_of app o (calls.Scan region prefix) (replies.Shown rows) = rows_joined o rows.items ∙ alone (flat_map (row_ids o) rows.items)
-all_of app o (calls.Poll region key) (replies.Shown rows) = rows_joined o rows.items ∙ alone (flat_map (row_ids o) rows.items)
+all_of app o (calls.Read region key) (replies.Shown rows) = alone (rows_ids o rows.items)
+all_of app o (calls.Scan region prefix) (replies.Shown rows) = alone (rows_ids o rows.items)
+all_of app o (calls.Poll region key) (replies.Shown rows) = alone (rows_ids o rows.items)
 all_of app o (calls.Pull sub) (replies.Pulled row) = alone (row_ids o row) ∙ alone (row_ids o row ++ [])
 all_of app o (calls.Repull sub version) (replies.Pulled row) = alone (row_ids o row) ∙ alone (row_ids o row ++ [])
 all_of app o (calls.Take nth) (replies.Got number m) = refl

@@ -27,7 +27,7 @@ use Rattle.anti_proc.specs.Came.{came}
 use Rattle.anti_proc.specs.Stated.{has_stores, stated_lineage}
 use Rattle.anti_proc.specs.Local.{row_ids}
 use Rattle.anti_proc.specs.Meaning.{reply_of, stated_in}
-use Rattle.anti_proc.specs.Tasks.{is_for, role_at, role_at_inbox, role_at_store, role_in, role_on, task_for, task_with}
+use Rattle.anti_proc.specs.Tasks.{is_for, role_at, role_in, role_on, task_for, task_with}
 use Rattle.anti_proc.specs.Trees.{Tree, Asks, Ends}
 use Rattle.anti_trace.specs.Legal.{GoAlong}
 use Rattle.law_causal.specs.Words.{brings, comes_with}
@@ -79,14 +79,14 @@ module _ (app : App) (w : WriteId) where
   of_sub o store row (Some sub) has = of_row o (role_on app store row.version sub) row (has_stores app row.lineage) has
 
   at_inbox : (o service : ℕ) (call : Call) (reply : Reply)
-      → has_id w (begun_with (option_and_then (task_for app o reply) (role_at_inbox app o service call reply))) ≡ true
+      → has_id w (begun_with (option_and_then (task_for app o reply) (role_at app o (Inbox service) call reply))) ≡ true
       → has_id w (comes_with app o call reply) ≡ true
   at_inbox o service (calls.Take nth) (replies.Got number m) has = of_message o number (role_in app o service number m) m (is_for app service m) has
   at_inbox o service (calls.Take nth) reply has = absurd (cc)
   at_inbox o service call reply has = absurd (cc)
 
   at_store : (o store : ℕ) (call : Call) (reply : Reply)
-      → has_id w (begun_with (option_and_then (task_for app o reply) (role_at_store app store call reply))) ≡ true
+      → has_id w (begun_with (option_and_then (task_for app o reply) (role_at app o (Store store) call reply))) ≡ true
       → has_id w (comes_with app o call reply) ≡ true
   at_store o store (calls.Pull sub) (replies.Pulled row) has = of_sub o store row (sub_on app store sub) has
   at_store o store (calls.Pull sub) reply has = absurd (cc)

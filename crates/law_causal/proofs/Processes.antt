@@ -3,6 +3,7 @@
 use Rattle.std.proofs.Common.{◌≡◌, ℕ, suc, ◌==◌, ◌++◌, ◌⊎◌, Bool, true, false, List, [], ◌∷◌, map, refl, sym, ap, ◌∙◌, subst, eqb-true, inl, inr, arith}
 use Rattle.std.specs.Prelude.{All, Contains, IsTrue, Option, Some, None, Result, slice_get, take, drop, unwrap_or, option_and_then, if◌then◌else◌}
 use Rattle.std.specs.Option.{option_map_or}
+use Rattle.std.specs.Result.{result_ok}
 use Rattle.std.proofs.lemmas.List.Elements.{All-filter, All-take}
 use Rattle.anti_ids.specs.Ids.{has_id}
 use Rattle.anti_ids.specs.List.{Listed, plain}
@@ -31,7 +32,6 @@ use Rattle.anti_proc.specs.declared.end.BodyEnd.TheVariants.{Fine}
 use Rattle.anti_proc.specs.Births.{birth_at}
 use Rattle.anti_proc.specs.Brought.{brought_by, came_first, made}
 use Rattle.anti_proc.specs.Carrying.{HandsOn, HandsOnWhatIsCarried, IsAtHome, IsMadeIn, OfEachCall}
-use Rattle.anti_proc.specs.Stated.{read_well}
 use Rattle.anti_proc.specs.Known.{AllKnown, IsEntryOf, IsOverApp}
 use Rattle.anti_proc.specs.Meaning.{process_after, reply_of, stated_in, task_tree, tree_of}
 use Rattle.anti_proc.specs.Tasks.{role_at, task_for, task_of}
@@ -364,8 +364,8 @@ module _ (app : App) (trace : List Entry) (legal : IsLegalTrace app trace) (j : 
     -- a message with the text of a lineage states it
     stated_again : (m : Message) (ids : List WriteId) → m.baggage ≡ plain (lineage_text (store_names app) ids) → IsOverApp app ids → stated_in app m ≡ ids
     stated_again m ids is over =
-        ap (λ (text : Listed ℕ). unwrap_or (read_well (read_lineage (store_names app) text.items)) []) is
-        ∙ ap (λ (found : Result (List WriteId) BaggageFault). unwrap_or (read_well found) [])
+        ap (λ (text : Listed ℕ). unwrap_or (result_ok (read_lineage (store_names app) text.items)) []) is
+        ∙ ap (λ (found : Result (List WriteId) BaggageFault). unwrap_or (result_ok found) [])
         (states_its_lineage (store_names app) ids (stores_named app (app_known app sound)) over)
 
     -- A message is posted by a process, and states what is carried into the post.

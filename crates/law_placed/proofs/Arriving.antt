@@ -31,7 +31,7 @@ use Rattle.anti_proc.specs.Brought.{came_first}
 use Rattle.anti_proc.specs.Stated.{has_stores, stated_lineage}
 use Rattle.anti_proc.specs.Local.{row_ids}
 use Rattle.anti_proc.specs.Meaning.{reply_of, stated_in, tree_of}
-use Rattle.anti_proc.specs.Tasks.{duty_to, is_for, role_at, role_at_inbox, role_at_store, role_in, role_of, role_on, task_for, task_of, task_with}
+use Rattle.anti_proc.specs.Tasks.{duty_to, is_for, role_at, role_in, role_of, role_on, task_for, task_of, task_with}
 use Rattle.anti_trace.specs.Legal.{IsLegalTrace}
 use Rattle.anti_trace.proofs.Numbers.{inbox_is}
 use Rattle.law_causal.specs.Words.{brings, comes_with, hands_all}
@@ -111,7 +111,7 @@ module _ (app : App) (store : ℕ) where
           let same : role_on app store row.version sub ≡ role = cc in
           subst (IsBySub app) same (sub_names position sub at, owes_queue (is_queue_at app store) row.version)
 
-  by_row : (call : Call) (reply : Reply) (role : Role) → role_at_store app store call reply ≡ Some role → IsBySub app role
+  by_row : (call : Call) (reply : Reply) (role : Role) → role_at app store (Store store) call reply ≡ Some role → IsBySub app role
   by_row (calls.Pull position) (replies.Pulled row) role is = by_sub row position role is
   by_row (calls.Pull position) reply role is = absurd (cc)
   by_row (calls.Repull position version) (replies.Pulled row) role is = by_sub row position role is
@@ -130,7 +130,7 @@ record IsTaking (app : App) (o service : ℕ) (c : Call) (r : Reply) (its : Role
   role : role_in app o service number message ≡ its
 
 module _ (app : App) (o service : ℕ) where
-  by_taking : (call : Call) (reply : Reply) (role : Role) → role_at_inbox app o service call reply ≡ Some role
+  by_taking : (call : Call) (reply : Reply) (role : Role) → role_at app o (Inbox service) call reply ≡ Some role
       → IsTaking app o service call reply role
   by_taking (calls.Take nth) (replies.Got number m) role is = by_test (is_for app service m) is
     where
@@ -238,4 +238,4 @@ module _ (app : App) (trace : List Entry) (sound : IsTrue (is_sound app)) (legal
         by_object (Some (Inbox service)) is role =
             let own : service ≡ service_at app b.object = (inbox_is app b.object service is).0 in
             of_message (by_taking app b.object (service_at app b.object) b.call b.reply task.role
-            (subst (λ (n : ℕ). role_at_inbox app b.object n b.call b.reply ≡ Some task.role) own role))
+            (subst (λ (n : ℕ). role_at app b.object (Inbox n) b.call b.reply ≡ Some task.role) own role))

@@ -24,7 +24,7 @@ use Rattle.anti_proc.specs.declared.variables.Binding.TheVariants.{Wrote, Saw, H
 use Rattle.anti_proc.specs.declared.variables.Variable.{Variable}
 use Rattle.anti_proc.specs.Barriers.{is_asked}
 use Rattle.anti_proc.specs.Local.{Local, Setting, held_ids, id_at, rows_ids, with_held}
-use Rattle.anti_proc.specs.Meaning.{Go, after_post, after_read, after_reply, after_write, asks, carry, hear_call, leave_by, looks, stated_in, with_key, write_call}
+use Rattle.anti_proc.specs.Meaning.{Go, after_post, after_read, after_reply, after_write, asks, carry, leave_by, looks, stated_in, with_key, write_call}
 use Rattle.anti_proc.specs.Trees.{Tree, Ends}
 use Rattle.anti_proc.proofs.Setting.{held_set}
 use Rattle.law_causal.specs.Settled.{found_in, region_named}
@@ -54,22 +54,22 @@ read_brings store reply = []
 module _ (s : Setting) where
   -- all goes on well, whatever the process knows, where these doubts are held
   abbrev pub Goes : Doubts → Go → Type 0
-  Goes a go = (l : Local) (h : History) → Inv s.app s.region a l h → Good s.app h (go l)
+  Goes a go = (l : Local) (h : History) → Inv s.app s.role.region a l h → Good s.app h (go l)
 
   -- what goes on with more doubts goes on with fewer
   pub goes_within : (a b : Doubts) (go : Go) → Within a b → Goes b go → Goes a go
-  goes_within a b go within goes l h inv = goes l h (weaker s.app s.region a b within l h inv)
+  goes_within a b go within goes l h inv = goes l h (weaker s.app s.role.region a b within l h inv)
 
   pub one_good : (first : Bool) (h : History) (one other : Tree) → Good s.app h one → Good s.app h other
       → Good s.app h (cond first one other)
   one_good true h one other this that = this
   one_good false h one other this that = that
 
-  pub carry_good : (ids : List WriteId) (l : Local) (h : History) (go : Go) → Good s.app h (go (record l { carried = ids }))
+  pub carry_good : (ids : List WriteId) (l : Local) (h : History) (go : Go) → Good s.app h (go (record l { carried = with_ids ids l.carried }))
       → Good s.app h (carry ids l go)
   carry_good ids l h go goes =
-      let next : Local = record l { carried = ids } in
-      one_good (nat_lt MOST_IDS (length ids)) h (Ends LineageFull) (go next) tt goes
+      let all : List WriteId = with_ids ids l.carried in
+      one_good (nat_lt MOST_IDS (length all)) h (Ends LineageFull) (go (record l { carried = all })) tt goes
 
   -- ---- the end
 
@@ -83,29 +83,29 @@ module _ (s : Setting) where
 
   -- a text that is no key ends the process
   pub key_good : (key : Option (List ℕ)) (l : Local) (h : History) (go : List ℕ → Tree) → AllCarried l h
-      → ((k : List ℕ) → Good s.app h (go k)) → Good s.app h (with_key s l key go)
-  key_good None l h go all goes = leave_good s.duty false BadKey l h (λ owes. all)
+      → ((k : List ℕ) → Good s.app h (go k)) → Good s.app h (with_key key go s l)
+  key_good None l h go all goes = leave_good s.role.duty false BadKey l h (λ owes. all)
   key_good (Some k) l h go all goes = goes k
 
   -- so does a message that would be too deep
   pub deep_good : (deep : Bool) (l : Local) (h : History) (tree : Tree) → AllCarried l h → Good s.app h tree
-      → Good s.app h (cond deep tree (leave_by s.duty false s Depth l))
+      → Good s.app h (cond deep tree (leave_by s.role.duty false s Depth l))
   deep_good deep l h tree all good =
-      one_good deep h tree (leave_by s.duty false s Depth l) good (leave_good s.duty false Depth l h (λ owes. all))
+      one_good deep h tree (leave_by s.role.duty false s Depth l) good (leave_good s.role.duty false Depth l h (λ owes. all))
 
   -- ---- a call at which no rows are left
 
-  module _ (a : Doubts) (none : NoneLeft a) (l : Local) (h : History) (inv : Inv s.app s.region a l h) where
+  module _ (a : Doubts) (none : NoneLeft a) (l : Local) (h : History) (inv : Inv s.app s.role.region a l h) where
     all_here : AllCarried l h
-    all_here = all_carried s.app s.region a l h inv none
+    all_here = all_carried s.app s.role.region a l h inv none
 
     -- a reply that brings nothing leaves all as it was
     unchanged : (object : ℕ) (call : Call) (reply : Reply) → ((i : WriteId) → has_id i (comes_with s.app object call reply) ≡ true → ⊥)
-        → Inv s.app s.region a l (more s.app h object l.span call reply)
+        → Inv s.app s.role.region a l (more s.app h object l.span call reply)
     unchanged object call reply none_comes =
-        answered s.app s.region a a l l.carried l.variables h inv.here inv (λ i kept. kept) object call reply
+        answered s.app s.role.region a a l l.carried l.variables h inv.here inv (λ i kept. kept) object call reply
         (λ i has. absurd (none_comes i has))
-        (λ off. still_found s.app s.region l.span l.carried h object call reply (inv.settled off))
+        (λ off. still_found s.app s.role.region l.span l.carried h object call reply (inv.settled off))
 
     -- ---- with other doubts behind it
 
@@ -116,26 +116,26 @@ module _ (s : Setting) where
           → Good s.app (more s.app h object l.span call reply) (go l)
       nothing_more object call reply none_comes =
           goes l (more s.app h object l.span call reply)
-          (answered s.app s.region a b l l.carried l.variables h here inv
+          (answered s.app s.role.region a b l l.carried l.variables h here inv
           (carried_kept a none b l.carried l.variables l.carried l.variables (λ i has. has)) object call reply
           (λ i has. absurd (none_comes i has))
-          (λ off. still_found s.app s.region l.span l.carried h object call reply (inv.settled (still off))))
+          (λ off. still_found s.app s.role.region l.span l.carried h object call reply (inv.settled (still off))))
 
       -- a message to which no reply is waited for
-      pub send_good : (inbox : ℕ) (m : Message) → Good s.app h (asks inbox (calls.Post m) l (after_post inbox None s l go))
+      pub send_good : (inbox : ℕ) (m : Message) → Good s.app h (asks inbox (calls.Post m) None l (after_post inbox None s l go))
       send_good inbox m = (handing refl all_here, λ reply. nothing_more inbox (calls.Post m) reply (λ i has. cc))
 
       module _ (unsettled : b doubts.Unsettled ≡ true) where
         -- on a reply with ids these are carried too
         more_good : (object : ℕ) (call : Call) (reply : Reply) (ids : List WriteId) (variables : List Variable)
             → ((i : WriteId) → has_id i (comes_with s.app object call reply) ≡ true → has_id i ids ≡ true)
-            → Good s.app (more s.app h object l.span call reply) (carry (with_ids ids l.carried) (record l { variables = variables }) go)
+            → Good s.app (more s.app h object l.span call reply) (carry ids (record l { variables = variables }) go)
         more_good object call reply ids variables comes =
             let carried : List WriteId = with_ids ids l.carried in
             let next : Local = record l { carried = carried; variables = variables } in
-            carry_good carried (record l { variables = variables }) (more s.app h object l.span call reply) go
+            carry_good ids (record l { variables = variables }) (more s.app h object l.span call reply) go
             (goes next (more s.app h object l.span call reply)
-            (answered s.app s.region a b l carried variables h here inv
+            (answered s.app s.role.region a b l carried variables h here inv
             (carried_kept a none b l.carried l.variables carried variables (λ i has. among_old ids l.carried i has)) object call reply
             (λ i has. inl (among_new ids l.carried i (comes i has)))
             (λ off. absurd (cc))))
@@ -162,10 +162,10 @@ module _ (s : Setting) where
             (λ i has. has)
         heard inbox number x reply = nothing_more inbox (calls.TakeReply number) reply (λ i has. cc)
 
-        hear_good : (inbox number : ℕ) (x : List ℕ) → Good s.app h (hear_call inbox number x s l go)
+        hear_good : (inbox number : ℕ) (x : List ℕ) → Good s.app h (asks inbox (calls.TakeReply number) None l (after_reply s x l go))
         hear_good inbox number x = (silent refl refl, λ reply. heard inbox number x reply)
 
-  module _ (a : Doubts) (none : NoneLeft a) (l : Local) (h : History) (inv : Inv s.app s.region a l h) (b : Doubts)
+  module _ (a : Doubts) (none : NoneLeft a) (l : Local) (h : History) (inv : Inv s.app s.role.region a l h) (b : Doubts)
       (here : b doubts.Always ≡ true) (still : b doubts.Unsettled ≡ false → a doubts.Unsettled ≡ false) (go : Go) (goes : Goes b go) where
     -- ---- a message whose reply is taken
 
@@ -179,12 +179,12 @@ module _ (s : Setting) where
       posted inbox m x reply = nothing_more a none l h inv b here still go goes inbox (calls.Post m) reply (λ i has. cc)
 
       pub call_good : (inbox : ℕ) (m : Message) (x : List ℕ)
-          → Good s.app h (asks inbox (calls.Post m) l (after_post inbox (Some x) s l go))
+          → Good s.app h (asks inbox (calls.Post m) None l (after_post inbox (Some x) s l go))
       call_good inbox m x = (handing refl (all_here a none l h inv), λ reply. posted inbox m x reply)
 
     -- ---- reads
 
-    module _ (call : Call) (home : region_named call ≡ s.region)
+    module _ (call : Call) (home : region_named call ≡ s.role.region)
         (brings : (store : ℕ) (reply : Reply) → comes_with s.app store call reply ≡ read_brings store reply)
         (off : a doubts.Unsettled ≡ false) (x : List ℕ) (sets : b (doubts.Rows x) ≡ true) where
       -- the rows that it shows are left, and nothing that is carried is unsettled
@@ -194,7 +194,7 @@ module _ (s : Setting) where
           let held : Binding = Saw store rows in
           let variables : List Variable = with_held x held l.variables in
           goes (record l { variables = variables }) (more s.app h store l.span call reply)
-          (answered s.app s.region a b l l.carried variables h here inv
+          (answered s.app s.role.region a b l l.carried variables h here inv
           (carried_kept a none b l.carried l.variables l.carried variables (λ i has. has)) store call reply
           (λ i has. inr (record {
             name = x;
@@ -202,12 +202,12 @@ module _ (s : Setting) where
             has = ap (λ (found : Option Binding). has_id i (held_ids found)) (held_set x x held l.variables ((bytes_eq-Decides x x).1 refl))
                 ∙ sym (ap (has_id i) (brings store reply)) ∙ has;
           }))
-          (λ still_off. still_found s.app s.region l.span l.carried h store call reply (inv.settled off)))
+          (λ still_off. still_found s.app s.role.region l.span l.carried h store call reply (inv.settled off)))
       shown store reply =
           nothing_more a none l h inv b here still go goes store call reply
           (λ i has. not_none i (comes_with s.app store call reply) (brings store reply) has)
 
-      pub read_good : (store : ℕ) → Good s.app h (asks store call l (after_read store x l go))
+      pub read_good : (store : ℕ) → Good s.app h (asks store call None l (after_read store x l go))
       read_good store = (
         record {
           keeps = λ hands i came. all_here a none l h inv i came;
@@ -222,13 +222,13 @@ module _ (s : Setting) where
   -- Looks bring nothing. What is so of those that are left stays so from one to the next.
   module _ (a : Doubts) (none : NoneLeft a) (l : Local) (dry : Bool) (go : Go) (So : History → List PlannedLook → Type 0)
       (one_more : (h : History) (look : PlannedLook) (later : List PlannedLook) (reply : Reply) → So h (look ∷ later)
-      → So (more s.app h look.store l.span (calls.Look s.region look.ids dry) reply) later)
-      (goes : (h : History) → Inv s.app s.region a l h → So h [] → Good s.app h (go l)) where
-    pub looks_good : (further : List PlannedLook) (h : History) → Inv s.app s.region a l h → So h further
-        → Good s.app h (looks s.region dry further l go)
+      → So (more s.app h look.store l.span (calls.Look s.role.region look.ids dry) reply) later)
+      (goes : (h : History) → Inv s.app s.role.region a l h → So h [] → Good s.app h (go l)) where
+    pub looks_good : (further : List PlannedLook) (h : History) → Inv s.app s.role.region a l h → So h further
+        → Good s.app h (looks s.role.region dry further l go)
     looks_good [] h inv so = goes h inv so
     looks_good (look ∷ later) h inv so =
-        let call : Call = calls.Look s.region look.ids dry in (
+        let call : Call = calls.Look s.role.region look.ids dry in (
           handing refl (all_here a none l h inv),
           λ reply. looks_good later (more s.app h look.store l.span call reply)
               (unchanged a none l h inv look.store call reply (λ i has. cc)) (one_more h look later reply so),
@@ -248,14 +248,14 @@ module _ (s : Setting) where
         h.waited ≡ true → (i : WriteId) → is_asked i planned ≡ true → (h.found l.span i ≡ true) ⊎ (is_asked i left ≡ true)
 
     pub covers_more : (h : History) (look : PlannedLook) (later : List PlannedLook) (reply : Reply) → Covers h (look ∷ later)
-        → Covers (more s.app h look.store l.span (calls.Look s.region look.ids false) reply) later
+        → Covers (more s.app h look.store l.span (calls.Look s.role.region look.ids false) reply) later
     covers_more h look later reply covers waited i asked =
-        let call : Call = calls.Look s.region look.ids false in
+        let call : Call = calls.Look s.role.region look.ids false in
         elim (covers (waited_before s.app h look.store l.span call reply waited) i asked) [
           | inl found ↦ inl (found_on s.app h look.store l.span call reply l.span i found)
           | inr left ↦ elim (or_cases (has_id i look.ids) (is_asked i later) left) [
             | inl own ↦
-                let all = all_found s.region look.ids reply (waited_now s.app h look.store l.span call reply waited) in
+                let all = all_found s.role.region look.ids reply (waited_now s.app h look.store l.span call reply waited) in
                 inl (found_now s.app h look.store l.span call reply l.span i refl (ap (has_id i) all ∙ own))
             | inr further ↦ inr further
           ]

@@ -1,6 +1,6 @@
 -- A body of which no line fails: whatever a process that runs it is answered, each of its calls carries what it must.
 use Rattle.std.proofs.Common.{◌≡◌, ℕ, zero, suc, ◌+◌, ◌||◌, Bool, true, false, cond, List, [], refl, sym, ap, ◌∙◌, inl, inr, bytes_eq, nat_lt, arith}
-use Rattle.std.specs.Prelude.{Some, None}
+use Rattle.std.specs.Prelude.{Some, None, if◌then◌else◌}
 use Rattle.std.proofs.lemmas.Bool.{and_parts, or_left, or_right}
 use Rattle.std.proofs.lemmas.Slice.Eq.{bytes_eq-Decides}
 use Rattle.anti_ids.specs.Ids.{has_id, with_ids}
@@ -9,6 +9,8 @@ use Rattle.anti_ids.specs.declared.limits.TheConstants.{MOST_DEPTH}
 use Rattle.anti_kind.specs.declared.call.Call.TheVariants as calls
 use Rattle.anti_kind.specs.declared.call.Reply.{Reply}
 use Rattle.anti_kind.specs.declared.call.Reply.TheVariants as replies
+use Rattle.anti_kind.specs.declared.message.Message.{Message}
+use Rattle.anti_kind.specs.declared.message.MessageKind.TheVariants as kinds
 use Rattle.anti_lang.specs.Program as program
 use Rattle.anti_lang.specs.Program.{Step, Block}
 use Rattle.anti_lang.specs.Texts.{plain_name}
@@ -20,8 +22,8 @@ use Rattle.anti_place.specs.declared.flow.Flow.TheVariants.{Clears, Keeps, Sets}
 use Rattle.anti_place.specs.Paths.{height}
 use Rattle.anti_place.specs.inner.Joined.{fault_here, left, through_block}
 use Rattle.anti_proc.specs.declared.end.BodyEnd.TheVariants.{Fine}
-use Rattle.anti_proc.specs.Local.{Local, Setting, any_name, held, held_ids, held_in, is_absent, key_of, new_span, rooted, text_of}
-use Rattle.anti_proc.specs.Meaning.{Go, block_tree, carry, kind_of, leave, message, planned, post_call, read_call, step_tree, turns, write_call}
+use Rattle.anti_proc.specs.Local.{Local, Setting, any_name, held_ids, held_in, is_absent, key_text, new_span, text_of}
+use Rattle.anti_proc.specs.Meaning.{Go, after_post, asks, block_tree, carry, leave, message, planned, read_call, step_tree, turns, write_call}
 use Rattle.anti_proc.specs.Trees.{Tree}
 use Rattle.law_causal.specs.Words.{comes_with}
 use Rattle.law_causal.proofs.Looks.{planned_for}
@@ -57,9 +59,9 @@ module _ (app : App) (region : ℕ) (key : List ℕ) (store : ℕ) where
   polls_bring (replies.Shown rows) = refl
   polls_bring reply = refl
 
-module _ (s : Setting) (called : Bool) (owes : owes_reply s.duty ≡ true → called ≡ true) where
+module _ (s : Setting) (called : Bool) (owes : owes_reply s.role.duty ≡ true → called ≡ true) where
   abbrev HoldsIn : Doubts → Local → History → Type 0
-  HoldsIn a l h = Inv s.app s.region a l h
+  HoldsIn a l h = Inv s.app s.role.region a l h
 
   -- All goes well at a statement, and at a block, where it goes on well behind it.
   abbrev StepGood : Step → Doubts → Type 0
@@ -77,9 +79,9 @@ module _ (s : Setting) (called : Bool) (owes : owes_reply s.duty ≡ true → ca
   -- a process that owes a reply has no rows left at its end
   end_good : (good : Bool) (line : ℕ) (a : Doubts) → ((d : Doubt) → fault_here called d line program.Nack (a d) ≡ None)
       → (l : Local) (h : History) → HoldsIn a l h → Good s.app h (leave good s Fine l)
-  end_good good line a none l h inv = leave_good s s.duty good Fine l h (λ owing. all_carried s.app s.region a l h inv (none_left owing))
+  end_good good line a none l h inv = leave_good s s.role.duty good Fine l h (λ owing. all_carried s.app s.role.region a l h inv (none_left owing))
     where
-      none_left : owes_reply s.duty ≡ true → NoneLeft a
+      none_left : owes_reply s.role.duty ≡ true → NoneLeft a
       none_left owing x =
           let rows : Doubt = doubts.Rows x in
           not_held (a rows) _ (ap (λ (b : Bool). fault_here b rows line program.Nack (a rows)) (sym (owes owing)) ∙ none rows)
@@ -89,16 +91,16 @@ module _ (s : Setting) (called : Bool) (owes : owes_reply s.duty ≡ true → ca
   -- the ids of what a variable holds are carried, so its rows are no longer left
   add_good : (a b : Doubts) (x : List ℕ) (l : Local) (h : History) (go : Go) → b doubts.Always ≡ true → b doubts.Unsettled ≡ true
       → ((y : List ℕ) → bytes_eq y x ≡ false → a (doubts.Rows y) ≡ true → b (doubts.Rows y) ≡ true) → HoldsIn a l h → Goes s b go
-      → Good s.app h (carry (with_ids (held_ids (held l x)) l.carried) l go)
+      → Good s.app h (carry (held_ids (held_in l.variables x)) l go)
   add_good a b x l h go here unsettled others inv goes =
-      carry_good s carried l h go
-      (goes (record l { carried = carried }) h (changed s.app s.region a b l carried l.variables h here inv kept (λ off. absurd (cc))))
+      carry_good s ids l h go
+      (goes (record l { carried = carried }) h (changed s.app s.role.region a b l carried l.variables h here inv kept (λ off. absurd (cc))))
     where
       ids : List WriteId
-      ids = held_ids (held l x)
+      ids = held_ids (held_in l.variables x)
 
       carried : List WriteId
-      carried = with_ids (held_ids (held l x)) l.carried
+      carried = with_ids (held_ids (held_in l.variables x)) l.carried
 
       by_name : (i : WriteId) (left : Pending a l.variables i) (same : Bool) → bytes_eq left.name x ≡ same → Kept b carried l.variables i
       by_name i left true same =
@@ -114,7 +116,7 @@ module _ (s : Setting) (called : Bool) (owes : owes_reply s.duty ≡ true → ca
   reply_inv : (a b : Doubts) (l : Local) (reply : List ℕ) (h : History) → Within a b → HoldsIn a l h
       → HoldsIn b (record l { reply = reply }) h
   reply_inv a b l reply h within inv =
-      let same : HoldsIn b l h = weaker s.app s.region a b within l h inv in
+      let same : HoldsIn b l h = weaker s.app s.role.region a b within l h inv in
       record { here = same.here; begun = same.begun; kept = same.kept; settled = same.settled; none_later = same.none_later }
 
   -- nothing came to a new span yet, and nothing is carried in it
@@ -128,7 +130,7 @@ module _ (s : Setting) (called : Bool) (owes : owes_reply s.duty ≡ true → ca
   }
 
   rooted_good : (stopped : Bool) (a b : Doubts) (l : Local) (h : History) (go : Go) → l.stopped ≡ stopped → b doubts.Always ≡ true
-      → HoldsIn a l h → Goes s b go → Good s.app h (go (rooted stopped l))
+      → HoldsIn a l h → Goes s b go → Good s.app h (go (if stopped then record l { stopped = false } else new_span false l))
   rooted_good true a b l h go is here inv goes = absurd (let begun : l.stopped ≡ false = inv.begun in cc)
   rooted_good false a b l h go is here inv goes = goes (new_span false l) h (fresh a b l h here inv)
 
@@ -138,12 +140,12 @@ module _ (s : Setting) (called : Bool) (owes : owes_reply s.duty ≡ true → ca
   barrier_found : (a b : Doubts) (l : Local) (h : History) → b doubts.Always ≡ true → NoneLeft a → HoldsIn a l h
       → Covers s l (planned s l) h [] → HoldsIn b l h
   barrier_found a b l h here none inv covers =
-      changed s.app s.region a b l l.carried l.variables h here inv
+      changed s.app s.role.region a b l l.carried l.variables h here inv
       (carried_kept a none b l.carried l.variables l.carried l.variables (λ i has. has)) (λ off. found)
     where
-      found : AllFound s.app s.region l.span l.carried h
+      found : AllFound s.app s.role.region l.span l.carried h
       found waited i has near =
-          elim (covers waited i (planned_for s.app s.region l.carried i has near)) [
+          elim (covers waited i (planned_for s.app s.role.region l.carried i has near)) [
             | inl there ↦ there
             | inr none_left ↦ absurd (cc)
           ]
@@ -157,7 +159,7 @@ module _ (s : Setting) (called : Bool) (owes : owes_reply s.duty ≡ true → ca
   turns_good zero block stops a b within good l h go inv goes = good l h go inv goes
   turns_good (suc n) block stops a b within good l h go inv goes =
       good l h (λ l. turns (suc n) block l go) inv
-      (λ on l h inv. turns_good n block stops a b within good l h go (weaker s.app s.region b a within l h inv) goes)
+      (λ on l h inv. turns_good n block stops a b within good l h go (weaker s.app s.role.region b a within l h inv) goes)
 
   -- the doubts with which a block is entered that is repeated
   abbrev entered : Block → Doubts → Doubts
@@ -169,7 +171,7 @@ module _ (s : Setting) (called : Bool) (owes : owes_reply s.duty ≡ true → ca
   repeat_good n block a good l h go inv goes =
       turns_good n (block_tree block s) (block_stops block) (entered block a) (behind_block block (entered block a))
       (λ d is. or_right (a d) (behind_block block a d) (once d is)) good l h go
-      (weaker s.app s.region a (entered block a) (λ d is. or_left (a d) (behind_block block a d) is) l h inv)
+      (weaker s.app s.role.region a (entered block a) (λ d is. or_left (a d) (behind_block block a d) is) l h inv)
       (λ on. goes_within s (behind_block block (entered block a)) (behind_block block a) go once (goes on))
     where
       once : Within (behind_block block (entered block a)) (behind_block block a)
@@ -186,9 +188,9 @@ module _ (s : Setting) (called : Bool) (owes : owes_reply s.duty ≡ true → ca
         let none : NoneLeft a = λ y. not_held (a (doubts.Rows y)) _ (fine (doubts.Rows y)) in
         let b : Doubts = behind_step (program.Write store key value x false) a in
         let number : ℕ = store_number s.app store in
-        let text : List ℕ = text_of s.input l.variables value in
-        key_good s (key_of plain_name s.input l.variables key) l h (write_call number text x false l go)
-        (all_carried s.app s.region a l h inv none)
+        let text : List ℕ = text_of s l value in
+        key_good s (plain_name (key_text s l key)) l h (write_call number text x false l go)
+        (all_carried s.app s.role.region a l h inv none)
         (λ k. write_good s a none l h inv b inv.here (λ off. absurd (cc)) go (goes refl) refl number text x k)
     step_good (program.Append x) plain line a fine l h go inv goes =
         add_good a (behind_step (program.Append x) a) x l h go inv.here refl (λ y differs is. is) inv (goes refl)
@@ -207,52 +209,51 @@ module _ (s : Setting) (called : Bool) (owes : owes_reply s.duty ≡ true → ca
         let none : NoneLeft a = λ y. not_held (a (doubts.Rows y)) _ (fine (doubts.Rows y)) in
         let b : Doubts = behind_step program.DryRun a in
         looks_good s a none l true go (λ h left. Unit {0}) (λ h look later reply so. tt)
-        (λ h inv so. goes refl l h (weaker s.app s.region a b (within_all a b inv.here (λ is. is) (λ y is. is)) l h inv))
+        (λ h inv so. goes refl l h (weaker s.app s.role.region a b (within_all a b inv.here (λ is. is) (λ y is. is)) l h inv))
         (planned s l) h inv tt
     step_good (program.Read store key x) plain line a fine l h go inv goes =
         let none : NoneLeft a = λ y. not_held (a (doubts.Rows y)) _ (fine (doubts.Rows y)) in
         let off : a doubts.Unsettled ≡ false = not_held (a doubts.Unsettled) _ (fine doubts.Unsettled) in
         let b : Doubts = behind_step (program.Read store key x) a in
         let number : ℕ = store_number s.app store in
-        key_good s (key_of plain_name s.input l.variables key) l h (read_call number (calls.Read s.region) x l go)
-        (all_carried s.app s.region a l h inv none)
-        (λ k. read_good s a none l h inv b inv.here (λ still. off) go (goes refl) (calls.Read s.region k) refl
-        (reads_bring s.app s.region k) off x (sets_own x (a (doubts.Rows x))) number)
+        key_good s (plain_name (key_text s l key)) l h (read_call number (calls.Read s.role.region) x l go)
+        (all_carried s.app s.role.region a l h inv none)
+        (λ k. read_good s a none l h inv b inv.here (λ still. off) go (goes refl) (calls.Read s.role.region k) refl
+        (reads_bring s.app s.role.region k) off x (sets_own x (a (doubts.Rows x))) number)
     step_good (program.Scan store prefix x) plain line a fine l h go inv goes =
         let none : NoneLeft a = λ y. not_held (a (doubts.Rows y)) _ (fine (doubts.Rows y)) in
         let off : a doubts.Unsettled ≡ false = not_held (a doubts.Unsettled) _ (fine doubts.Unsettled) in
         let b : Doubts = behind_step (program.Scan store prefix x) a in
-        read_good s a none l h inv b inv.here (λ still. off) go (goes refl) (calls.Scan s.region prefix) refl
-        (scans_bring s.app s.region prefix) off x (sets_own x (a (doubts.Rows x))) (store_number s.app store)
+        read_good s a none l h inv b inv.here (λ still. off) go (goes refl) (calls.Scan s.role.region prefix) refl
+        (scans_bring s.app s.role.region prefix) off x (sets_own x (a (doubts.Rows x))) (store_number s.app store)
     step_good (program.Poll store key x) plain line a fine l h go inv goes =
         let none : NoneLeft a = λ y. not_held (a (doubts.Rows y)) _ (fine (doubts.Rows y)) in
         let off : a doubts.Unsettled ≡ false = not_held (a doubts.Unsettled) _ (fine doubts.Unsettled) in
         let b : Doubts = behind_step (program.Poll store key x) a in
         let number : ℕ = store_number s.app store in
-        key_good s (key_of any_name s.input l.variables key) l h (read_call number (calls.Poll s.region) x l go)
-        (all_carried s.app s.region a l h inv none)
-        (λ k. read_good s a none l h inv b inv.here (λ still. off) go (goes refl) (calls.Poll s.region k) refl
-        (polls_bring s.app s.region k) off x (sets_own x (a (doubts.Rows x))) number)
+        key_good s (any_name (key_text s l key)) l h (read_call number (calls.Poll s.role.region) x l go)
+        (all_carried s.app s.role.region a l h inv none)
+        (λ k. read_good s a none l h inv b inv.here (λ still. off) go (goes refl) (calls.Poll s.role.region k) refl
+        (polls_bring s.app s.role.region k) off x (sets_own x (a (doubts.Rows x))) number)
     step_good (program.Call service handler value x) plain line a fine l h go inv goes =
         let none : NoneLeft a = λ y. not_held (a (doubts.Rows y)) _ (fine (doubts.Rows y)) in
         let b : Doubts = behind_step (program.Call service handler value x) a in
         let inbox : ℕ = inbox_of s.app service in
-        let text : List ℕ = text_of s.input l.variables value in
-        deep_good s (nat_lt s.depth MOST_DEPTH) l h (post_call inbox handler text (Some x) s l go)
-        (all_carried s.app s.region a l h inv none)
-        (call_good s a none l h inv b inv.here (λ off. absurd (cc)) go (goes refl) refl inbox
-        (message (kind_of (Some x)) s l handler text) x)
+        let m : Message = message kinds.Call 0 (s.role.depth + 1) handler (text_of s l value) s l in
+        deep_good s (nat_lt s.role.depth MOST_DEPTH) l h (asks inbox (calls.Post m) None l (after_post inbox (Some x) s l go))
+        (all_carried s.app s.role.region a l h inv none)
+        (call_good s a none l h inv b inv.here (λ off. absurd (cc)) go (goes refl) refl inbox m x)
     step_good (program.Send service handler value) plain line a fine l h go inv goes =
         let none : NoneLeft a = λ y. not_held (a (doubts.Rows y)) _ (fine (doubts.Rows y)) in
         let b : Doubts = behind_step (program.Send service handler value) a in
         let inbox : ℕ = inbox_of s.app service in
-        let text : List ℕ = text_of s.input l.variables value in
-        deep_good s (nat_lt s.depth MOST_DEPTH) l h (post_call inbox handler text None s l go)
-        (all_carried s.app s.region a l h inv none)
-        (send_good s a none l h inv b inv.here (λ off. off) go (goes refl) inbox (message (kind_of None) s l handler text))
+        let m : Message = message kinds.Send 0 (s.role.depth + 1) handler (text_of s l value) s l in
+        deep_good s (nat_lt s.role.depth MOST_DEPTH) l h (asks inbox (calls.Post m) None l (after_post inbox None s l go))
+        (all_carried s.app s.role.region a l h inv none)
+        (send_good s a none l h inv b inv.here (λ off. off) go (goes refl) inbox m)
     step_good (program.Reply value) plain line a fine l h go inv goes =
         let b : Doubts = behind_step (program.Reply value) a in
-        let text : List ℕ = text_of s.input l.variables value in
+        let text : List ℕ = text_of s l value in
         goes refl (record l { reply = text }) h
         (reply_inv a b l text h (within_all a b inv.here (λ is. is) (λ y is. is)) inv)
     step_good program.Nack plain line a fine l h go inv goes = end_good false line a fine l h inv
@@ -267,9 +268,9 @@ module _ (s : Setting) (called : Bool) (owes : owes_reply s.duty ≡ true → ca
         let on : Goes s b go = goes (passes (through_block doubts.Always block)) in
         let through_it : Within (behind_block block a) b = λ d is. held_through (through_block d block) (a d) is in
         let past_it : Within a b = λ d is. held_passed (through_block d block) (a d) is in
-        one_good s (is_absent (held l x)) h (block_tree block s l go) (go l)
+        one_good s (is_absent (held_in l.variables x)) h (block_tree block s l go) (go l)
         (block_good block plain (line + 1) a fine l h go inv (λ further. goes_within s (behind_block block a) b go through_it on))
-        (on l h (weaker s.app s.region a b past_it l h inv))
+        (on l h (weaker s.app s.role.region a b past_it l h inv))
 
     block_good : (block : Block) → is_plain_block block ≡ true → (line : ℕ) (a : Doubts) → NoLineFails called line block a
         → BlockGood block a
@@ -291,7 +292,7 @@ module _ (s : Setting) (called : Bool) (owes : owes_reply s.duty ≡ true → ca
 
   -- nor is anything carried in it behind `root`
   stopped_good : (a b : Doubts) (l : Local) (h : History) (go : Go) → b doubts.Always ≡ true → HoldsIn a l h → Goes s b go
-      → Good s.app h (go (rooted true (new_span true l)))
+      → Good s.app h (go (record (new_span true l) { stopped = false }))
   stopped_good a b l h go here inv goes = goes (new_span false l) h (fresh a b l h here inv)
 
   -- A body of which neither a line nor the end fails.
@@ -299,7 +300,7 @@ module _ (s : Setting) (called : Bool) (owes : owes_reply s.duty ≡ true → ca
       → NoEndFails called last body a → (l : Local) (h : History) → HoldsIn a l h → Good s.app h (block_tree body s l (leave true s Fine))
   body_good program.End well line last a fine end l h inv = end_good true last a (end refl) l h inv
   body_good (program.Then program.Stop program.End) well line last a fine end l h inv =
-      leave_good s s.duty true Fine (new_span true l) h (λ owing. stopped_end a l h inv)
+      leave_good s s.role.duty true Fine (new_span true l) h (λ owing. stopped_end a l h inv)
   body_good (program.Then program.Stop (program.Then program.Root rest)) well line last a fine end l h inv =
       let behind : Block = program.Then program.Root rest in
       let next : ℕ = line + height program.Stop in

@@ -1,10 +1,11 @@
 -- To whom the calls and sends of a process are posted: to handlers that lines of its body name.
-use Rattle.std.proofs.Common.{◌≡◌, ℕ, zero, suc, ◌==◌, Bool, true, false, cond, List, [], ◌∷◌, ◌++◌, Option, Some, None, length, nat_lt, slice_get, refl, ap, ◌∙◌, subst, eq-eqb, arith}
+use Rattle.std.proofs.Common.{◌≡◌, ℕ, zero, suc, ◌+◌, ◌==◌, Bool, true, false, cond, List, [], ◌∷◌, ◌++◌, Option, Some, None, length, nat_lt, slice_get, if◌then◌else◌, refl, ap, ◌∙◌, subst, eq-eqb, arith}
 use Rattle.std.specs.List.{list_any}
 use Rattle.std.specs.Option.{option_and_then, option_map_or}
 use Rattle.std.proofs.lemmas.Bool.{and_from, or_left, or_right}
 use Rattle.std.proofs.lemmas.List.Folds.{list_any_at}
 use Rattle.std.proofs.lemmas.Option.{slice_get_within, get_or_from_slice_get}
+use Rattle.anti_ids.specs.Ids.{with_ids}
 use Rattle.anti_ids.specs.declared.id.WriteId.{WriteId}
 use Rattle.anti_ids.specs.declared.limits.TheConstants.{MOST_DEPTH, MOST_IDS}
 use Rattle.anti_kind.specs.declared.call.Call.{Call}
@@ -13,6 +14,7 @@ use Rattle.anti_kind.specs.declared.call.Reply.{Reply}
 use Rattle.anti_kind.specs.declared.call.Reply.TheVariants as replies
 use Rattle.anti_kind.specs.declared.entry.Entry.{Entry}
 use Rattle.anti_kind.specs.declared.message.Message.{Message}
+use Rattle.anti_kind.specs.declared.message.MessageKind.{MessageKind}
 use Rattle.anti_kind.specs.declared.message.MessageKind.TheVariants as kinds
 use Rattle.anti_lang.specs.Blocks.{lines_of, step_lines}
 use Rattle.anti_lang.specs.Bodies.{block_of}
@@ -35,8 +37,8 @@ use Rattle.anti_proc.specs.declared.task.Duty.TheVariants as duties
 use Rattle.anti_proc.specs.declared.variables.Binding.{Binding}
 use Rattle.anti_proc.specs.declared.variables.Binding.TheVariants.{Wrote, Saw, Heard}
 use Rattle.anti_proc.specs.Carrying.{OfEachCall}
-use Rattle.anti_proc.specs.Local.{Local, Setting, any_name, first_local, held, is_absent, key_of, new_span, removed, rooted, set, set_or, text_of}
-use Rattle.anti_proc.specs.Meaning.{Go, after_post, after_read, after_reply, after_write, answer, asks, block_tree, carry, if_deep, kind_of, leave, leave_by, looks, message, planned, post_call, read_call, setting_of, step_tree, tree_of, turns, with_key, write_call, wrote}
+use Rattle.anti_proc.specs.Local.{Local, Setting, any_name, first_local, held_ids, held_in, id_at, is_absent, key_text, new_span, removed, set, text_of}
+use Rattle.anti_proc.specs.Meaning.{Go, after_post, after_read, after_reply, after_write, asks, block_tree, carry, leave, leave_by, looks, message, planned, post_call, read_call, setting_of, stated_in, step_tree, tree_of, turns, with_key, write_call}
 use Rattle.anti_proc.specs.Trees.{Ask, Tree, Ends}
 use Rattle.anti_proc.proofs.Started.{its_body, started_each}
 
@@ -157,29 +159,27 @@ module _ (s : Setting) where
   IsNoPost call = (m : Message) → call ≡ calls.Post m → ⊥
 
   asked : (object : ℕ) (call : Call) (l : Local) (go : Reply → Tree) → IsNoPost call → ((reply : Reply) → Posts (go reply))
-      → Posts (asks object call l go)
+      → Posts (asks object call None l go)
   asked object call l go other goes = (λ m is. absurd (other m is), goes)
 
   carried_on : (ids : List WriteId) (l : Local) (go : Go) → GoesOn go → Posts (carry ids l go)
   carried_on ids l go goes =
-      let next : Local = record l { carried = ids } in either (nat_lt MOST_IDS (length ids)) (Ends LineageFull) (go next) tt (goes next)
-
-  wrote_on : (untracked : Bool) (held : Binding) (l : Local) (go : Go) → GoesOn go → Posts (wrote untracked held l go)
-  wrote_on true held l go goes = goes l
-  wrote_on false held l go goes = carried_on _ l go goes
+      let all : List WriteId = with_ids ids l.carried in
+      let next : Local = record l { carried = all } in either (nat_lt MOST_IDS (length all)) (Ends LineageFull) (go next) tt (goes next)
 
   written : (store : ℕ) (variable : Option (List ℕ)) (untracked : Bool) (l : Local) (go : Go) → GoesOn go → (reply : Reply)
       → Posts (after_write store variable untracked l go reply)
   written store variable untracked l go goes (replies.Written key version) =
-      let id : Binding = Wrote (record { store = store; key = key; version = version }) in
-      wrote_on untracked id (set_or variable id l) go goes
+      let held : Binding = Wrote (record { store = store; key = key; version = version }) in
+      let next : Local = option_map_or (λ name. set name held l) variable l in
+      either untracked (go next) (carry (id_at store key version) next go) (goes next) (carried_on (id_at store key version) next go goes)
   written store variable untracked l go goes reply = goes l
 
   shown : (store : ℕ) (variable : List ℕ) (l : Local) (go : Go) → GoesOn go → (reply : Reply) → Posts (after_read store variable l go reply)
   shown store variable l go goes (replies.Shown rows) = goes (set variable (Saw store rows) l)
   shown store variable l go goes reply = goes l
 
-  looked : (dry : Bool) (further : List PlannedLook) (l : Local) (go : Go) → GoesOn go → Posts (looks s.region dry further l go)
+  looked : (dry : Bool) (further : List PlannedLook) (l : Local) (go : Go) → GoesOn go → Posts (looks s.role.region dry further l go)
   looked dry [] l go goes = goes l
   looked dry (look ∷ later) l go goes = (λ m is. absurd (cc), λ reply. looked dry later l go goes)
 
@@ -187,7 +187,7 @@ module _ (s : Setting) where
   left_by duties.Free good end l = tt
   left_by (duties.Answers inbox number handler) good end l = (
     λ m is.
-        let same : answer s l number handler ≡ m = cc in
+        let same : message kinds.Reply number 0 handler l.reply s l ≡ m = cc in
         let kind : kinds.Reply ≡ m.kind = ap (λ (x : Message). x.kind) same in
         record { call = λ call. absurd (cc); send = λ send. absurd (cc) },
     λ reply. tt,
@@ -195,12 +195,12 @@ module _ (s : Setting) where
   left_by (duties.Works store version) true end l = asked store (calls.Ack version) l (λ reply. Ends end) (λ m is. cc) (λ reply. tt)
   left_by (duties.Works store version) false end l = asked store (calls.Nack version) l (λ reply. Ends end) (λ m is. cc) (λ reply. tt)
 
-  keyed : (l : Local) (key : Option (List ℕ)) (go : List ℕ → Tree) → ((k : List ℕ) → Posts (go k)) → Posts (with_key s l key go)
-  keyed l None go goes = left_by s.duty false BadKey l
+  keyed : (l : Local) (key : Option (List ℕ)) (go : List ℕ → Tree) → ((k : List ℕ) → Posts (go k)) → Posts (with_key key go s l)
+  keyed l None go goes = left_by s.role.duty false BadKey l
   keyed l (Some k) go goes = goes k
 
   heard : (variable : List ℕ) (l : Local) (go : Go) → GoesOn go → (reply : Reply) → Posts (after_reply s variable l go reply)
-  heard variable l go goes (replies.Got number m) = carried_on _ (set variable (Heard m.value) l) go goes
+  heard variable l go goes (replies.Got number m) = carried_on (stated_in s.app m) (set variable (Heard m.value) l) go goes
   heard variable l go goes reply = goes l
 
   posted : (inbox : ℕ) (variable : Option (List ℕ)) (l : Local) (go : Go) → GoesOn go → (reply : Reply)
@@ -210,16 +210,16 @@ module _ (s : Setting) where
   posted inbox (Some variable) l go goes reply = goes l
   posted inbox None l go goes reply = goes l
 
-  post_asked : (service handler value : List ℕ) (variable : Option (List ℕ)) (l : Local) (go : Go)
-      → IsByName s.app (inbox_of s.app service) (message (kind_of variable) s l handler value) → GoesOn go
-      → Posts (if_deep s l (post_call (inbox_of s.app service) handler value variable s l go))
-  post_asked service handler value variable l go named goes =
-      let inbox : ℕ = inbox_of s.app service in
-      either (nat_lt s.depth MOST_DEPTH) (post_call inbox handler value variable s l go) (leave false s Depth l) (
-        λ m is. let same : message (kind_of variable) s l handler value ≡ m = cc in subst (IsByName s.app inbox) same named,
+  post_asked : (inbox : ℕ) (kind : MessageKind) (handler value : List ℕ) (variable : Option (List ℕ)) (l : Local) (go : Go)
+      → IsByName s.app inbox (message kind 0 (s.role.depth + 1) handler value s l) → GoesOn go
+      → Posts (post_call inbox kind handler value variable s l go)
+  post_asked inbox kind handler value variable l go named goes =
+      let m : Message = message kind 0 (s.role.depth + 1) handler value s l in
+      either (nat_lt s.role.depth MOST_DEPTH) (asks inbox (calls.Post m) None l (after_post inbox variable s l go)) (leave false s Depth l) (
+        λ x is. let same : m ≡ x = cc in subst (IsByName s.app inbox) same named,
         posted inbox variable l go goes,
       )
-      (left_by s.duty false Depth l)
+      (left_by s.role.duty false Depth l)
 
   turns_good : (n : ℕ) (block : Local → Go → Tree) → BlockGood block → BlockGood (turns n block)
   turns_good zero block good l go goes = goes l
@@ -234,44 +234,44 @@ module _ (s : Setting) where
     step_posts : (statement : Step) → AllLines (IsOfApp s.app) (step_lines statement) → BlockGood (step_tree statement s)
     step_posts (program.Write store key value variable untracked) all l go goes =
         let number : ℕ = store_number s.app store in
-        let text : List ℕ = text_of s.input l.variables value in
-        keyed l (key_of plain_name s.input l.variables key) (write_call number text variable untracked l go)
+        let text : List ℕ = text_of s l value in
+        keyed l (plain_name (key_text s l key)) (write_call number text variable untracked l go)
         (λ k. asked number (calls.Write k text l.carried) l (after_write number variable untracked l go) (λ m is. cc)
         (written number variable untracked l go goes))
-    step_posts (program.Append variable) all l go goes = carried_on _ l go goes
-    step_posts (program.Remove variable) all l go goes = goes (record l { carried = removed (held l variable) l.carried })
-    step_posts (program.Transfer variable) all l go goes = carried_on _ l go goes
+    step_posts (program.Append variable) all l go goes = carried_on (held_ids (held_in l.variables variable)) l go goes
+    step_posts (program.Remove variable) all l go goes = goes (record l { carried = removed (held_in l.variables variable) l.carried })
+    step_posts (program.Transfer variable) all l go goes = carried_on (held_ids (held_in l.variables variable)) l go goes
     step_posts program.Barrier all l go goes = looked false (planned s l) l go goes
     step_posts program.DryRun all l go goes = looked true (planned s l) l go goes
     step_posts (program.Read store key variable) all l go goes =
         let number : ℕ = store_number s.app store in
-        keyed l (key_of plain_name s.input l.variables key) (read_call number (calls.Read s.region) variable l go)
-        (λ k. asked number (calls.Read s.region k) l (after_read number variable l go) (λ m is. cc) (shown number variable l go goes))
+        keyed l (plain_name (key_text s l key)) (read_call number (calls.Read s.role.region) variable l go)
+        (λ k. asked number (calls.Read s.role.region k) l (after_read number variable l go) (λ m is. cc) (shown number variable l go goes))
     step_posts (program.Scan store prefix variable) all l go goes =
         let number : ℕ = store_number s.app store in
-        asked number (calls.Scan s.region prefix) l (after_read number variable l go) (λ m is. cc) (shown number variable l go goes)
+        asked number (calls.Scan s.role.region prefix) l (after_read number variable l go) (λ m is. cc) (shown number variable l go goes)
     step_posts (program.Poll store key variable) all l go goes =
         let number : ℕ = store_number s.app store in
-        keyed l (key_of any_name s.input l.variables key) (read_call number (calls.Poll s.region) variable l go)
-        (λ k. asked number (calls.Poll s.region k) l (after_read number variable l go) (λ m is. cc) (shown number variable l go goes))
+        keyed l (any_name (key_text s l key)) (read_call number (calls.Poll s.role.region) variable l go)
+        (λ k. asked number (calls.Poll s.role.region k) l (after_read number variable l go) (λ m is. cc) (shown number variable l go goes))
     step_posts (program.Call service handler value variable) all l go goes =
         let called : IsCalledAt s.app (inbox_of s.app service) handler =
         called_at s.app service handler (Does (program.Call service handler value variable)) all.0 (own_numbers s.app service handler) in
-        post_asked service handler (text_of s.input l.variables value) (Some variable) l go
+        post_asked (inbox_of s.app service) kinds.Call handler (text_of s l value) (Some variable) l go
         (record { call = λ is. called; send = λ is. absurd (cc) }) goes
     step_posts (program.Send service handler value) all l go goes =
         let sent : IsSentTo s.app (inbox_of s.app service) handler =
         sent_to s.app service handler (Does (program.Send service handler value)) all.0 (own_numbers s.app service handler) in
-        post_asked service handler (text_of s.input l.variables value) None l go
+        post_asked (inbox_of s.app service) kinds.Send handler (text_of s l value) None l go
         (record { call = λ is. absurd (cc); send = λ is. sent }) goes
-    step_posts (program.Reply value) all l go goes = goes (record l { reply = text_of s.input l.variables value })
-    step_posts program.Nack all l go goes = left_by s.duty false Fine l
-    step_posts program.Root all l go goes = goes (rooted l.stopped l)
+    step_posts (program.Reply value) all l go goes = goes (record l { reply = text_of s l value })
+    step_posts program.Nack all l go goes = left_by s.role.duty false Fine l
+    step_posts program.Root all l go goes = goes (if l.stopped then record l { stopped = false } else new_span false l)
     step_posts program.Stop all l go goes = goes (new_span true l)
     step_posts (program.Repeat count block) all l go goes =
         turns_good count (block_tree block s) (block_posts block (inner_lines (OpenRepeat count) block all)) l go goes
     step_posts (program.IfAbsent variable block) all l go goes =
-        either (is_absent (held l variable)) (block_tree block s l go) (go l)
+        either (is_absent (held_in l.variables variable)) (block_tree block s l go) (go l)
         (block_posts block (inner_lines (OpenIf variable) block all) l go goes) (goes l)
 
     block_posts : (block : Block) → AllLines (IsOfApp s.app) (lines_of block) → BlockGood (block_tree block s)

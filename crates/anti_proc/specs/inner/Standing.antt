@@ -38,13 +38,7 @@ use Rattle.anti_proc.specs.Trees.{Ask, Tree, Asks, Ends}
 -- ---- what it knows
 
 abbrev pub setting : App → Given → Setting
-setting app given = record {
-  app = app;
-  region = given.role.region;
-  depth = given.role.depth;
-  duty = given.role.duty;
-  input = given.input;
-}
+setting app given = record { app = app; role = given.role; input = given.input }
 
 abbrev pub local_of : State → Local
 local_of s = record {
@@ -98,7 +92,7 @@ going app given cursor l = body_tree (block_from (left_to_run app given.role cur
 abbrev pub after_tree : After → ℕ → Setting → Local → Go → Reply → Tree
 after_tree (afters.Wrote variable untracked) o s l go reply = after_write o variable untracked l go reply
 after_tree (afters.Saw variable) o s l go reply = after_read o variable l go reply
-after_tree (afters.Looked later dry) o s l go reply = looks s.region dry (reverse later.items) l go
+after_tree (afters.Looked later dry) o s l go reply = looks s.role.region dry (reverse later.items) l go
 after_tree (afters.Posted variable) o s l go reply = after_post o variable s l go reply
 after_tree (afters.Heard variable) o s l go reply = after_reply s variable l go reply
 after_tree (afters.Left end) o s l go reply = Ends end

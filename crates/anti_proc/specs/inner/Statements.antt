@@ -7,21 +7,21 @@ use Rattle.anti_lang.specs.Program.{Step, Root, Stop, Repeat, IfAbsent}
 use Rattle.anti_app.specs.declared.app.App.{App}
 use Rattle.anti_proc.specs.declared.next.Stage.{Stage}
 use Rattle.anti_proc.specs.declared.way.Way.{Way}
-use Rattle.anti_proc.specs.Local.{Setting, Local, held, is_absent}
+use Rattle.anti_proc.specs.Local.{Setting, Local, held_in, is_absent}
 use Rattle.anti_proc.specs.Meaning.{Go, block_tree, stated_in, step_tree, turns}
 use Rattle.anti_proc.specs.inner.Standing.{local_in, setting_in, stage_or}
 
 -- how many times the block of a statement is run; not at all where it opens none
 abbrev pub turns_of : Step → Local → ℕ
 turns_of (Repeat count block) l = count
-turns_of (IfAbsent variable block) l = if is_absent (held l variable) then 1 else 0
+turns_of (IfAbsent variable block) l = if is_absent (held_in l.variables variable) then 1 else 0
 turns_of _ l = 0
 
 -- what follows a statement that was reached with what is known: its block, and then what follows that
 abbrev pub with_block : Step → Setting → Local → Go → Go
 with_block (Repeat count block) s reached go = λ l. turns count (block_tree block s) l go
 with_block (IfAbsent variable block) s reached go =
-    λ l. if is_absent (held reached variable) then block_tree block s l go else go l
+    λ l. if is_absent (held_in reached.variables variable) then block_tree block s l go else go l
 with_block _ s reached go = go
 
 -- A statement that is run comes to this, beside its block: a call that is next, the end, or neither.

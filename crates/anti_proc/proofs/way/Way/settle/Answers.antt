@@ -9,7 +9,7 @@ use Rattle.anti_proc.specs.Local.{Setting}
 use Rattle.anti_proc.specs.Meaning.{Go, step_tree}
 use Rattle.anti_proc.specs.inner.Cursors.{Enters, weight}
 use Rattle.anti_proc.specs.inner.Running.{HasSpans}
-use Rattle.anti_proc.specs.inner.Standing.{going, left_to_run, local_in, setting, setting_in, stage_or, stage_tree}
+use Rattle.anti_proc.specs.inner.Standing.{going, left_to_run, local_in, setting, setting_in, stage_or}
 use Rattle.anti_proc.specs.inner.Statements.{turns_of, with_block}
 use Rattle.anti_proc.proofs.Settling.{passed_goes, passed_lighter, passed_spans}
 use Rattle.anti_proc.proofs.way.Way.settle.Goals as goal

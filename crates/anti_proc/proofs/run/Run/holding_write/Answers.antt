@@ -1,0 +1,42 @@
+use Rattle.std.proofs.Common.{◌≡◌, ℕ, Bool, true, false, List, Option, Some, ap, ◌∙◌}
+use Rattle.std.specs.Option.{option_map_or}
+use Rattle.std.proofs.lemmas.Result.{IfOk-weaker}
+use Rattle.anti_ids.specs.declared.id.WriteId.{WriteId}
+use Rattle.anti_kind.specs.declared.call.Reply.TheVariants.{Written}
+use Rattle.anti_proc.specs.declared.variables.Binding.TheVariants.{Wrote}
+use Rattle.anti_proc.specs.Local.{Local, held_ids, set}
+use Rattle.anti_proc.specs.Meaning.{Go, after_write, carry}
+use Rattle.anti_proc.specs.inner.Standing.{going, local_by, local_of, setting}
+use Rattle.anti_proc.proofs.run.Run.holding_write.Goals as goal
+
+-- what a process knows next whose variable was set, where there is one
+module _ (id : WriteId) (variable : Option (List ℕ)) (l next : Local) (go : Go) (is : next ≡ option_map_or (λ name. set name (Wrote id) l) variable l) where
+  without_its_id : (untracked : Bool) → untracked ≡ true → go next ≡ after_write id.store variable untracked l go (Written id.key id.version)
+  without_its_id true on = ap go is
+  without_its_id false on = absurd (cc)
+
+  with_its_id : (untracked : Bool) → untracked ≡ false
+      → carry (held_ids (Some (Wrote id))) next go ≡ after_write id.store variable untracked l go (Written id.key id.version)
+  with_its_id true off = absurd (cc)
+  with_its_id false off = ap (λ (known : Local). carry (held_ids (Some (Wrote id))) known go) is
+
+pub returns-then-untracked-clause-goes : goal.returns-then-untracked-clause-goes
+returns-then-untracked-clause-goes c =
+    let r = c.args.self.now in
+    let l : Local = local_of r.state in
+    let next : Local = local_by c.in_ok-changes.changes r.state.variables.items in
+    let go : Go = going c.args.app.now r.given r.cursor in
+    IfOk-weaker c.go_on.result _ _
+    (λ a goes. goes ∙ without_its_id c.args.id.now c.args.variable l next go (c.in_ok-changes.ensures ∙ c.set_or-since.ensures l) c.args.untracked c.if-untracked.true)
+    c.go_on.ensures.goes
+
+pub returns-clause-goes : goal.returns-clause-goes
+returns-clause-goes c =
+    let r = c.args.self.now in
+    let l : Local = local_of r.state in
+    let next : Local = local_by c.in_ok-changes.changes r.state.variables.items in
+    let go : Go = going c.args.app.now r.given r.cursor in
+    IfOk-weaker c.go_on-2.result _ _
+    (λ a goes. goes ∙ c.in_ok-stage.ensures.goes r.state.variables.items (setting c.args.app.now r.given) go
+    ∙ with_its_id c.args.id.now c.args.variable l next go (c.in_ok-changes.ensures ∙ c.set_or-since.ensures l) c.args.untracked c.if-untracked.false)
+    c.go_on-2.ensures.goes
