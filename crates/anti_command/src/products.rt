@@ -30,8 +30,8 @@ fn play_app<F: Form>(alloc: Global, app: App) -> Result<Prepared, NoMemory>
     ensures { IfOk result (λ p.
         IsMade (Run F.text_of) (λ played. played ≡ app) p.0 p.1.items) }
 {
-    let (kept, ends) = run(alloc, app)?;
-    let text = F::print(alloc, &kept.app, &kept.trace, &kept.waits, ends)?;
+    let (kept, after) = run(alloc, app)?;
+    let text = F::print(alloc, &kept.app, &kept.trace, &kept.waits, after)?;
     Ok((Some(kept), text))
 }
 

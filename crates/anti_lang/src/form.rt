@@ -1,4 +1,4 @@
-// The forms of lines: each is read by the words behind its keyword, and written.
+// The forms of lines: each is read by the words behind its first word, and written.
 ghost use Rattle.std.specs.Prelude.{◌≡◌, [], ◌∷◌, IfOk, map, option_map, codes, decimal};
 ghost use Rattle.std.specs.Bool.{then_some};
 ghost use Rattle.anti_ids.specs.Decimals.{decimal_in};
@@ -261,11 +261,11 @@ pub fn reply_text(alloc: Global, value: &ValueWord) -> Result<Bytes, NoMemory>
     pair_text(alloc, b"reply", value.bytes())
 }
 
-// A keyword, and the one word behind it.
-pub fn pair_text<'a>(alloc: Global, keyword: &'a [u8], word: &'a [u8]) -> Result<Bytes, NoMemory>
-    ensures { IfOk result (λ text. text.items ≡ spaced (keyword.now ∷ word.now ∷ [])) }
+// A first word, and the one word behind it.
+pub fn pair_text<'a>(alloc: Global, first: &'a [u8], word: &'a [u8]) -> Result<Bytes, NoMemory>
+    ensures { IfOk result (λ text. text.items ≡ spaced (first.now ∷ word.now ∷ [])) }
 {
-    spaced(alloc, &[keyword, word])
+    spaced(alloc, &[first, word])
 }
 
 // `append VARIABLE`.

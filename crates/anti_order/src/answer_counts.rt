@@ -1,6 +1,7 @@
 ghost use Rattle.std.specs.Prelude.{◌≡◌, ◌<◌, length, count_by, All, IfOk, IsTrue};
 ghost use Rattle.anti_app.specs.Sound.{is_sound};
 ghost use Rattle.anti_trace.specs.Legal.{IsLegalTrace};
+ghost use Rattle.anti_trace.specs.inner.Trails.{IsTrailOf};
 ghost use Rattle.anti_past.specs.Told.{AreReadsBySpan};
 ghost use Rattle.anti_order.specs.Tallies.{AreCountsOf};
 ghost use Rattle.anti_order.specs.inner.Grounds.{has_unsettled};
@@ -9,7 +10,7 @@ use crate::grounds::first_unsettled;
 use anti_app::App;
 use anti_ids::NoMemory;
 use anti_past::{Course, Past, ReadsOfSpan, reads_by_span};
-use anti_trace::Trace;
+use anti_trace::{Trace, Trail};
 use std::alloc::Global;
 
 /// How many spans with a read have which answer.
@@ -50,10 +51,12 @@ fn counted(
     alloc: Global,
     app: &App,
     trace: &Trace,
+    trail: &Trail,
     spans: &[ReadsOfSpan],
 ) -> Result<AnswerCounts, NoMemory>
     requires sound { IsTrue (is_sound app.now) }
     requires legal { IsLegalTrace app.now trace.now }
+    requires trail { IsTrailOf app.now trace.now trail.now }
     requires spans { AreReadsBySpan trace.now spans.now }
     ensures { IfOk result (AreCountsOf app.now trace.now) }
 {
@@ -64,7 +67,7 @@ fn counted(
             lossy: 0,
         });
     }
-    match Course::of(alloc, app, trace)? {
+    match Course::along(alloc, app, trace, trail)? {
         Course::Loss(_) => Ok(AnswerCounts {
             ordered: 0,
             unguarded: 0,
@@ -81,12 +84,28 @@ fn counted(
     }
 }
 
-/// How many spans with a read have which answer. The orders are not made. The only error is want of memory.
+/// How many spans with a read have which answer, by the trail of the trace. The orders are not made. The only error is want of memory.
+pub fn count_answers_along(
+    alloc: Global,
+    app: &App,
+    trace: &Trace,
+    trail: &Trail,
+) -> Result<AnswerCounts, NoMemory>
+    requires sound { IsTrue (is_sound app.now) }
+    requires legal { IsLegalTrace app.now trace.now }
+    requires trail { IsTrailOf app.now trace.now trail.now }
+    ensures { IfOk result (AreCountsOf app.now trace.now) }
+{
+    let spans = reads_by_span(alloc, trace)?;
+    counted(alloc, app, trace, trail, spans.as_slice())
+}
+
+/// How many spans with a read have which answer. The trail of the trace is found by one walk along it.
 pub fn count_answers(alloc: Global, app: &App, trace: &Trace) -> Result<AnswerCounts, NoMemory>
     requires sound { IsTrue (is_sound app.now) }
     requires legal { IsLegalTrace app.now trace.now }
     ensures { IfOk result (AreCountsOf app.now trace.now) }
 {
-    let spans = reads_by_span(alloc, trace)?;
-    counted(alloc, app, trace, spans.as_slice())
+    let trail = Trail::of(alloc, app, trace.as_slice())?;
+    count_answers_along(alloc, app, trace, &trail)
 }

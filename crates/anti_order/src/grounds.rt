@@ -6,6 +6,7 @@ ghost use Rattle.law_causal.specs.Carried.{IsLossless};
 ghost use Rattle.law_causal.specs.Reads.{is_at};
 ghost use Rattle.law_causal.specs.Words as words;
 ghost use Rattle.anti_trace.specs.Legal.{IsLegalTrace};
+ghost use Rattle.anti_trace.specs.inner.Trails.{IsTrailOf};
 ghost use Rattle.anti_past.specs.Pasts.{ArePastsOf};
 ghost use Rattle.anti_order.specs.Answers.{IsAnswer};
 ghost use Rattle.anti_order.specs.inner.Grounds.{AreGroundsOf, is_settled_at};
@@ -18,7 +19,7 @@ use crate::writes::Writes;
 use anti_app::App;
 use anti_ids::NoMemory;
 use anti_past::{Course, Past};
-use anti_trace::{Mark, Trace};
+use anti_trace::{Mark, Trace, Trail};
 use std::alloc::Global;
 
 /// What all answers of reads of a trace rest on, found once for all of them.
@@ -80,19 +81,35 @@ fn answer_lossless(
 }
 
 impl Grounds {
-    /// The grounds of a legal trace. The only error is want of memory.
-    pub fn of(alloc: Global, app: &App, trace: &Trace) -> Result<Grounds, NoMemory>
+    /// The grounds of a legal trace, by its trail. The only error is want of memory.
+    pub fn along(
+        alloc: Global,
+        app: &App,
+        trace: &Trace,
+        trail: &Trail,
+    ) -> Result<Grounds, NoMemory>
         requires sound { IsTrue (is_sound app.now) }
         requires legal { IsLegalTrace app.now trace.now }
+        requires trail { IsTrailOf app.now trace.now trail.now }
         ensures { IfOk result (AreGroundsOf app.now trace.now) }
     {
-        match Course::of(alloc, app, trace)? {
+        match Course::along(alloc, app, trace, trail)? {
             Course::Loss(mark) => Ok(Grounds::Loss(mark)),
             Course::NoLoss(pasts) => {
                 let writes = Writes::of(alloc, trace)?;
                 Ok(Grounds::NoLoss { pasts, writes })
             }
         }
+    }
+
+    /// The grounds of a legal trace, whose trail is found by one walk along it.
+    pub fn of(alloc: Global, app: &App, trace: &Trace) -> Result<Grounds, NoMemory>
+        requires sound { IsTrue (is_sound app.now) }
+        requires legal { IsLegalTrace app.now trace.now }
+        ensures { IfOk result (AreGroundsOf app.now trace.now) }
+    {
+        let trail = Trail::of(alloc, app, trace.as_slice())?;
+        Grounds::along(alloc, app, trace, &trail)
     }
 
     /// What is answered of reads of the trace. The only error is want of memory.

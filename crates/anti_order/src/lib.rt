@@ -12,6 +12,6 @@ mod orders;
 mod writes;
 
 pub use answer::{Marks, OrderAnswer, SpanAnswer, SpanAnswers};
-pub use answer_counts::{AnswerCounts, count_answers};
+pub use answer_counts::{AnswerCounts, count_answers, count_answers_along};
 pub use laws::answered_orders_explain;
-pub use orders::{answers, order, order_of};
+pub use orders::{answers, answers_along, order, order_of};

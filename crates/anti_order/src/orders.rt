@@ -5,6 +5,7 @@ ghost use Rattle.anti_app.specs.Sound.{is_sound};
 ghost use Rattle.law_causal.specs.Reads.{is_at, is_read_of, reads_of};
 ghost use Rattle.law_causal.specs.Words as words;
 ghost use Rattle.anti_trace.specs.Legal.{IsLegalTrace};
+ghost use Rattle.anti_trace.specs.inner.Trails.{IsTrailOf};
 ghost use Rattle.anti_order.specs.Answers.{AreAnswersOf, AreMarksOf, IsAnswer};
 ghost use Rattle.anti_order.specs.inner.Grounds.{AreAnswersFor, AreGroundsOf};
 
@@ -15,7 +16,7 @@ use anti_app::App;
 use anti_ids::NoMemory;
 use anti_kind::{Actor, Birth, Entry};
 use anti_past::{PlaceByMark, ReadsOfSpan, reads, reads_by_span};
-use anti_trace::{Trace, is_by};
+use anti_trace::{Trace, Trail, is_by};
 use std::alloc::Global;
 
 /// What is answered of reads of a trace that are given by their marks, in this order. The only error is want of memory.
@@ -113,27 +114,45 @@ fn answered_of(
     alloc: Global,
     app: &App,
     trace: &Trace,
+    trail: &Trail,
     spans: &[ReadsOfSpan],
 ) -> Result<SpanAnswers, NoMemory>
     requires sound { IsTrue (is_sound app.now) }
     requires legal { IsLegalTrace app.now trace.now }
+    requires trail { IsTrailOf app.now trace.now trail.now }
     requires reads { All (λ s. s.reads.items ≡ reads_of trace.now s.span.birth s.span.span) spans.now }
     ensures { IfOk result (λ answers. AreAnswersFor app.now trace.now spans.now answers.items) }
 {
     if spans.is_empty() {
         return Ok(SpanAnswers::new(alloc));
     }
-    let grounds = Grounds::of(alloc, app, trace)?;
+    let grounds = Grounds::along(alloc, app, trace, trail)?;
     answered(alloc, trace, &grounds, spans)
 }
 
 /// What is answered of the reads of each span in which something was read, by the objects and places of the births of their processes, and
-/// by their numbers. The losses and the pasts are found once for all of them. The only error is want of memory.
+/// by their numbers. The losses and the pasts are found once for all of them, by the trail of the trace. The only error is want of memory.
+pub fn answers_along(
+    alloc: Global,
+    app: &App,
+    trace: &Trace,
+    trail: &Trail,
+) -> Result<SpanAnswers, NoMemory>
+    requires sound { IsTrue (is_sound app.now) }
+    requires legal { IsLegalTrace app.now trace.now }
+    requires trail { IsTrailOf app.now trace.now trail.now }
+    ensures { IfOk result (λ answers. AreAnswersOf app.now trace.now answers.items) }
+{
+    let spans = reads_by_span(alloc, trace)?;
+    answered_of(alloc, app, trace, trail, spans.as_slice())
+}
+
+/// The same, where the trail of the trace is found by one walk along it.
 pub fn answers(alloc: Global, app: &App, trace: &Trace) -> Result<SpanAnswers, NoMemory>
     requires sound { IsTrue (is_sound app.now) }
     requires legal { IsLegalTrace app.now trace.now }
     ensures { IfOk result (λ answers. AreAnswersOf app.now trace.now answers.items) }
 {
-    let spans = reads_by_span(alloc, trace)?;
-    answered_of(alloc, app, trace, spans.as_slice())
+    let trail = Trail::of(alloc, app, trace.as_slice())?;
+    answers_along(alloc, app, trace, &trail)
 }

@@ -1,3 +1,4 @@
+mod AlongTrail
 mod Asked
 mod CameBefore
 mod Finding

@@ -1,4 +1,5 @@
 pub mod Came
+pub mod Cursors
 pub mod Found
 pub mod Keys
 pub mod Looking

@@ -17,6 +17,7 @@ mod processes_before;
 mod settled_reads;
 mod span_keys;
 mod span_reads;
+mod trail_cursor;
 mod walk;
 
 pub use before_reads::Past;

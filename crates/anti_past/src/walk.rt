@@ -2,23 +2,24 @@ ghost use Rattle.std.specs.Prelude.{◌<◌, length, IfOk, IsTrue};
 ghost use Rattle.anti_app.specs.Sound.{is_sound};
 ghost use Rattle.anti_trace.specs.Histories.{Entries};
 ghost use Rattle.anti_trace.specs.Legal.{IsLegalTrace};
+ghost use Rattle.anti_trace.specs.inner.Trails.{IsTrailOf};
 ghost use Rattle.anti_past.specs.inner.Walking.{HasCome, IsStep};
 
 use crate::before_reads::Past;
 use crate::came::AllCame;
 use crate::finds::Finds;
-use crate::processes_before::handed_at;
-use anti_app::{App, object_count};
+use crate::trail_cursor::TrailCursor;
+use anti_app::App;
 use anti_ids::NoMemory;
-use anti_trace::{Mark, Processes, Trace};
+use anti_trace::{Mark, Trace, Trail};
 use std::alloc::Global;
 
-/// A walk along a legal trace, which has come to one of its entries: the processes as they are before it, what came to their spans, and
-/// what their looks found. No entry before it loses an id.
+/// A walk along a legal trace and its trail, which has come to one of the entries: how far it is in the trail, what came to the spans of the
+/// processes, and what their looks found. No entry before it loses an id.
 #[derive(Drop)]
 pub struct Walk {
     pub(crate) alloc: Global,
-    pub(crate) processes: Processes,
+    pub(crate) cursor: TrailCursor,
     pub(crate) came: AllCame,
     pub(crate) found: Finds,
 }
@@ -38,26 +39,32 @@ impl Walk {
         requires { IsTrue (is_sound app.now) }
         ensures { (trace : Entries) → IsLegalTrace app.now trace → IfOk result (HasCome app.now trace 0) }
     {
-        let processes = Processes::new(alloc, object_count(app) as usize)?;
+        let cursor = TrailCursor::new(alloc, app)?;
         let came = AllCame::new(alloc);
         let found = Finds::new(alloc);
         Ok(Walk {
             alloc,
-            processes,
+            cursor,
             came,
             found,
         })
     }
 
-    /// Goes past the entry at an index, to which it has come, unless the entry loses an id. The process of the entry is found once.
-    pub fn step(&mut self, app: &App, trace: &Trace, index: u32) -> Result<Step, NoMemory>
+    /// Goes past the entry at an index, to which it has come, unless the entry loses an id.
+    pub fn step(
+        &mut self,
+        app: &App,
+        trace: &Trace,
+        trail: &Trail,
+        index: u32,
+    ) -> Result<Step, NoMemory>
         requires come { HasCome app.now trace.now index self.old }
+        requires trail { IsTrailOf app.now trace.now trail.now }
         requires there { index < length trace.now }
         ensures { IfOk result (IsStep app.now trace.now index self.new) }
     {
         let entry = trace.at(index);
-        let place = self.processes.place_of(entry);
-        let handed = handed_at(&self.processes, entry, place);
+        let handed = self.cursor.handed(trail, entry);
         if self.came.loses(self.alloc, app, trace, entry, handed)? {
             return Ok(Step::Loss(Mark {
                 object: entry.object,
@@ -67,7 +74,7 @@ impl Walk {
         let past = self.found.past(self.alloc, app, entry, handed)?;
         self.came.note(self.alloc, index, entry, handed)?;
         self.found.add(entry)?;
-        self.processes.follow_from(self.alloc, app, entry, place)?;
+        self.cursor.go_past(entry);
         Ok(Step::Goes(past))
     }
 }

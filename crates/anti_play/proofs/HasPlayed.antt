@@ -1,7 +1,7 @@
--- One choice more of a run.
+-- One choice more of a run, and all of them.
 use Rattle.std.proofs.Common.{◌≡◌, ℕ, suc, ◌+◌, ◌<◌, ◌++◌, ◌∷◌, List, [], Bool, true, false, cond, length, take, get_or, refl, sym, ap, ◌∙◌, subst, arith}
 use Rattle.std.specs.Prelude.{IsTrue, IfOk, Option, None, Some, Result, Ok, Err}
-use Rattle.std.proofs.lemmas.List.{take_more, length-take-le}
+use Rattle.std.proofs.lemmas.List.{take_all, take_more, length-take-le}
 use Rattle.std.specs.List.{AllPass}
 use Rattle.std.proofs.lemmas.Bool.{and_parts}
 use Rattle.std.proofs.lemmas.List.Sums.{AllPass-from_list_all}
@@ -13,7 +13,10 @@ use Rattle.anti_ids.specs.declared.memory.NoMemory.{NoMemory}
 use Rattle.anti_kind.specs.declared.entry.Entry.{Entry}
 use Rattle.anti_app.specs.Sound.{is_sound, is_sound_choice, are_sound_regions, are_sound_stores, are_sound_services, are_sound_subs, are_sound_requests, are_sound_choices}
 use Rattle.anti_play.specs.declared.world.World.{World}
-use Rattle.anti_play.specs.Schedule.{Run, chosen, run_from, stepped, turned}
+use Rattle.anti_trace.specs.Legal.{IsLegalTrace}
+use Rattle.anti_trace.specs.declared.aftermath.Aftermath.{Aftermath}
+use Rattle.anti_trace.specs.inner.Trails.{IsAftermathOf}
+use Rattle.anti_play.specs.Schedule.{Run, chosen, played, run_from, stepped, trace_of, turned, waits_of}
 use Rattle.anti_play.specs.inner.Standing.{Chose, WorldStands}
 use Rattle.anti_play.specs.inner.Closing.{HasPlayed, Steps, run_until}
 
@@ -98,3 +101,30 @@ module _ (app : App) (i : ℕ) (c d : Choice) (lt : i < length app.choices.items
         added ∙ ap (λ (ns : Listed ℕ). plain (ns.items ++ (i + 1) ∷ [])) are
         ∙ ap (λ (ns : List ℕ). plain ns) (sym steps.waits_are ∙ ap (λ (r : Run). r.waits) (sym run_more));
   }
+
+-- ---- all choices
+
+module _ (app : App) (w : World) (waits : Listed ℕ) (all : HasPlayed app (length app.choices.items) w waits) where
+  all_made : run_until app (length app.choices.items) ≡ played app
+  all_made =
+      ap (run_from app (record { trace = []; waits = [] }) 1)
+      (take_all (length app.choices.items) app.choices.items (omega arith))
+
+  pub played_waits : waits ≡ plain (waits_of app)
+  played_waits = all.waits_are ∙ ap (λ (r : Run). plain r.waits) all_made
+
+  -- the trace of the world, and what is left of its processes
+  module _ (trace : List Entry) (after : Aftermath) (over : (t : List Entry) → WorldStands app w t → (trace ≡ t) × IsAftermathOf app t after) where
+    same : trace ≡ (run_until app (length app.choices.items)).trace
+    same = (over (run_until app (length app.choices.items)).trace all.world).0
+
+    pub played_trace : trace ≡ trace_of app
+    played_trace = same ∙ ap (λ (r : Run). r.trace) all_made
+
+    pub played_after : IsAftermathOf app trace after
+    played_after =
+        subst (λ (t : List Entry). IsAftermathOf app t after) (sym same)
+        (over (run_until app (length app.choices.items)).trace all.world).1
+
+    pub played_legal : IsLegalTrace app trace
+    played_legal = subst (IsLegalTrace app) (sym same) all.world.run

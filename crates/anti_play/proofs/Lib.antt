@@ -9,7 +9,7 @@ pub mod GoOn
 pub mod GoNext
 pub mod Choose
 pub mod NewWorld
-pub mod IntoTrace
+pub mod OneTrace
 pub mod HasPlayed
 pub mod FirstOf
 pub mod Finished

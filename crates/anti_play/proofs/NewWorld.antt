@@ -17,8 +17,10 @@ use Rattle.anti_trace.proofs.PutLegal.{legal_none}
 use Rattle.anti_play.specs.declared.world.World.{World}
 use Rattle.anti_play.specs.inner.Standing.{IsObject, WorldStands}
 use Rattle.anti_trace.specs.inner.Living.{NoneBorn, lists}
+use Rattle.anti_trace.specs.inner.Trails.{IsBare}
 use Rattle.anti_play.specs.inner.Closing.{AreFirst}
 use Rattle.anti_trace.proofs.NoneBorn.{none_are}
+use Rattle.anti_trace.proofs.Trails.{bare_is}
 
 -- an item more in a list that has no room, which has none then
 pub added : {T : Type 0} (l : Listed T) (x : T) → l.spare ≡ 0 → pushed l x ≡ plain (l.items ++ x ∷ [])
@@ -81,11 +83,12 @@ module _ (app : App) (objects : List (Record Object)) (first : AreFirst app (len
       subst (λ (n : ℕ). AreFirst app n objects) count first
 
 -- the whole, of which nothing has happened
-pub world_new : (app : App) (w : World) (count : ℕ) → AreFirst app (object_count app) w.objects.items → NoneBorn count (lists w.processes) → count ≡ object_count app
+pub world_new : (app : App) (w : World) (count : ℕ) → AreFirst app (object_count app) w.objects.items → NoneBorn count (lists w.processes) → IsBare count w.trail.at.items → count ≡ object_count app
     → w.carrier ≡ 0 → WorldStands app w []
-world_new app w count first none all carrier = record {
+world_new app w count first none bare all carrier = record {
   run = legal_none app;
   objects = record { count = first.many; each = λ o d lt. first.each o d lt };
   processes = none_are app (lists w.processes) count none all;
+  trail = bare_is app w.trail count bare all;
   carrier = carrier;
 }

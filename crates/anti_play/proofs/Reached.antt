@@ -23,7 +23,7 @@ use Rattle.anti_trace.proofs.Followed.{goes_on as histories_go_on}
 use Rattle.anti_play.specs.inner.Standing.{Chose, IsObject, WorldStands}
 use Rattle.anti_play.specs.inner.Finishing.{WentOn}
 use Rattle.anti_kind.proofs.Histories.{few_entries}
-use Rattle.anti_play.proofs.IntoTrace.{histories_are}
+use Rattle.anti_play.proofs.OneTrace.{histories_are}
 use Rattle.anti_play.proofs.Tried.{MadeOne, chose_true, chose_false}
 use Rattle.anti_play.proofs.Finished.{Further, made_further, goes_further, finished_next, finished_none}
 

@@ -81,6 +81,10 @@ module _ (app : App) (sound : IsTrue (is_sound app)) (w : World) (trace : List E
     known = let a : e.object ≡ q.object = step.object in let b : q.object < object_count app = step.known in let count : length w.objects.items ≡ object_count app = stands.objects.count in omega arith;
   }
 
+  -- its object is one of the trail
+  pub has_trail : e.object < length w.trail.at.items
+  has_trail = let a : e.object ≡ q.object = step.object in let b : q.object < object_count app = step.known in let count : length w.trail.at.items ≡ object_count app = stands.trail.count in omega arith
+
   -- its object has a list of processes
   pub has_list : e.object < length (lists w.processes)
   has_list = let a : e.object ≡ q.object = step.object in let b : q.object < object_count app = step.known in let count : length (lists w.processes) ≡ object_count app = stands.processes.count in omega arith

@@ -11,7 +11,7 @@ use anti_app::App;
 use anti_ids::NoMemory;
 use anti_kind::{Machine, Recorded};
 use anti_object::Object;
-use anti_trace::Processes;
+use anti_trace::{Processes, Trail};
 use std::alloc::Global;
 
 impl World {
@@ -21,10 +21,13 @@ impl World {
         ensures { IfOk result (λ w. WorldStands app.now w []) }
     {
         let objects = objects(alloc, app)?;
-        let processes = Processes::new(alloc, objects.len())?;
+        let count = objects.len();
+        let processes = Processes::new(alloc, count)?;
+        let trail = Trail::new(alloc, count)?;
         Ok(World {
             objects,
             processes,
+            trail,
             carrier: 0,
             alloc,
         })

@@ -2,15 +2,15 @@ ghost use Rattle.std.specs.Prelude.{◌≡◌, ℕ, ◌+◌, ◌<◌, [], length
 ghost use Rattle.anti_ids.specs.List.{plain};
 ghost use Rattle.anti_app.specs.Sound.{is_sound, is_sound_choice};
 ghost use Rattle.anti_play.specs.Schedule.{Run, trace_of, waits_of};
-ghost use Rattle.anti_trace.specs.Ends.{ends_of};
 ghost use Rattle.anti_trace.specs.Legal.{IsLegalTrace};
+ghost use Rattle.anti_trace.specs.inner.Trails.{IsAftermathOf};
 ghost use Rattle.anti_play.specs.inner.Standing.{IsWorldOf, WorldStands};
 ghost use Rattle.anti_play.specs.inner.Closing.{HasPlayed, Steps};
 
 use crate::world::World;
 use anti_app::{App, Choice, Waits};
 use anti_ids::{List, NoMemory};
-use anti_trace::{Ends, Trace};
+use anti_trace::{Aftermath, Trace};
 use std::alloc::Global;
 
 /// What the choices of an application made.
@@ -20,8 +20,8 @@ pub struct Played {
     pub trace: Trace,
     /// The choices that were waits.
     pub waits: Waits,
-    /// How each process ended.
-    pub ends: Ends,
+    /// How each process ended, and what they carried into their reads, looks and posts.
+    pub after: Aftermath,
 }
 
 impl World {
@@ -74,12 +74,15 @@ pub fn play(alloc: Global, app: &App) -> Result<Played, NoMemory>
     requires { IsTrue (is_sound app.now) }
     ensures trace { IfOk result (λ p. p.trace ≡ trace_of app.now) }
     ensures waits { IfOk result (λ p. p.waits ≡ plain (waits_of app.now)) }
-    ensures ends { IfOk result (λ p. p.ends.items ≡ ends_of app.now p.trace) }
+    ensures after { IfOk result (λ p. IsAftermathOf app.now p.trace p.after) }
     ensures legal { IfOk result (λ p. IsLegalTrace app.now p.trace) }
 {
     let mut world = World::new(alloc, app)?;
     let waits = world.step_all(app)?;
-    let ends = world.ends(alloc)?;
-    let trace = world.into_trace(alloc)?;
-    Ok(Played { trace, waits, ends })
+    let (trace, after) = world.over(alloc)?;
+    Ok(Played {
+        trace,
+        waits,
+        after,
+    })
 }

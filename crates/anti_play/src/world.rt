@@ -5,7 +5,7 @@ ghost use Rattle.anti_trace.specs.Legal.{bears, carries};
 ghost use Rattle.anti_play.specs.Schedule.{bearing, carrying, chosen, clock_of, made_at};
 ghost use Rattle.anti_trace.specs.Histories.{Entries};
 ghost use Rattle.anti_trace.specs.inner.Living.{Grows, born_at, is_named, lists};
-ghost use Rattle.anti_play.specs.inner.Choosing.{IsNextOf, MakesNext, StopsUnfit};
+ghost use Rattle.anti_play.specs.inner.Choosing.{IsNextEntry, IsNextOf, MakesNext, StopsUnfit};
 ghost use Rattle.anti_play.specs.inner.Standing.{AllStand, Chose, IsOutcome, IsSoundWorld, IsWorldOf, MayGrow, StopsBy, WorldStands, asked_in};
 
 use crate::choice_call::ChoiceCall;
@@ -13,14 +13,15 @@ use anti_app::{App, Choice};
 use anti_ids::{Copies, NoMemory};
 use anti_kind::{Actor, Asking, Birth, Call, Entry, Machine, Recorded, Refusal};
 use anti_object::Object;
-use anti_trace::{Processes, advance, born};
+use anti_trace::{Processes, Trail, advance, born};
 use std::alloc::Global;
 
-/// The objects of an application with their histories, and its processes: one moment of a run.
+/// The objects of an application with their histories, and its processes with the trail that they left: one moment of a run.
 #[derive(Drop)]
 pub struct World {
     pub(crate) objects: Vec<Recorded<Object>>,
     pub(crate) processes: Processes,
+    pub(crate) trail: Trail,
     // the last stamp of the carrier
     pub(crate) carrier: u64,
     pub(crate) alloc: Global,
@@ -169,14 +170,7 @@ impl World {
     {
         let object = asking.object;
         match self.next_entry(asking)? {
-            Ok(entry) => {
-                let advance = advance(app, self.processes.get(birth.object, at), &entry)?;
-                self.processes.make_room(birth.object, at)?;
-                let stamp = entry.stamp;
-                make_entry(&mut self.objects, entry)?;
-                self.processes.take_over(birth.object, at, stamp, advance);
-                Ok(true)
-            }
+            Ok(entry) => self.go_past(app, birth, at, entry),
             Err(Refusal::NotYet) => Ok(false),
             Err(Refusal::Full { .. }) => {
                 self.processes.end(birth.object, at, object);
@@ -185,6 +179,35 @@ impl World {
             // `next_entry` ensures that stamps are never spent
             Err(Refusal::Spent { .. }) => unreachable!(),
         }
+    }
+
+    // Makes the next entry of a process, which goes past it and leaves its footprint.
+    fn go_past(
+        &mut self,
+        app: &App,
+        birth: Birth,
+        at: usize,
+        entry: Entry,
+    ) -> Result<bool, NoMemory>
+        requires sound { IsTrue (is_sound app.now) }
+        requires world { IsWorldOf app.now self.old }
+        requires object { birth.object < length (lists self.old.processes) }
+        requires found { position (is_named birth) (born_at (lists self.old.processes) birth.object)
+            ≡ Some at }
+        requires entry { IsNextEntry app.now self.old birth at entry }
+        ensures chose { MakesNext app.now self.old birth result self.new }
+        ensures ended { StopsUnfit app.now self.old birth result self.new }
+    {
+        let process = self.processes.get(birth.object, at);
+        let advance = advance(app, process, &entry)?;
+        let carried = self.trail.prepare(self.alloc, entry.object, process)?;
+        self.processes.make_room(birth.object, at)?;
+        let object = entry.object;
+        let stamp = entry.stamp;
+        make_entry(&mut self.objects, entry)?;
+        self.processes.take_over(birth.object, at, stamp, advance);
+        self.trail.put(object, carried);
+        Ok(true)
     }
 
     // Makes the next call of the process that was born by an entry.

@@ -2,7 +2,7 @@ ghost use Rattle.std.specs.Prelude.{◌≡◌, map, IfOk, IsTrue};
 ghost use Rattle.anti_app.specs.declared.app.App.{App};
 ghost use Rattle.anti_app.specs.Sound.{is_sound};
 ghost use Rattle.anti_trace.specs.Histories.{Entries};
-ghost use Rattle.anti_trace.specs.Ends.{ends_of};
+ghost use Rattle.anti_trace.specs.inner.Trails.{IsAftermathOf};
 ghost use Rattle.anti_play.specs.inner.Standing.{IsSoundWorld, WorldIsAfter, WorldStands};
 ghost use Rattle.anti_play.specs.inner.Closing.{histories_of};
 
@@ -10,7 +10,7 @@ use crate::world::World;
 use anti_ids::{List, NoMemory};
 use anti_kind::{Call, History, Machine, Recorded};
 use anti_object::Object;
-use anti_trace::{EndOfObjects, Ends, Histories, Trace, merge};
+use anti_trace::{Aftermath, EndOfObjects, Histories, Trace, merge};
 use std::alloc::Global;
 
 impl EndOfObjects for World {
@@ -25,22 +25,17 @@ impl EndOfObjects for World {
 }
 
 impl World {
-    /// How each process ended by now.
-    pub fn ends(&self, alloc: Global) -> Result<Ends, NoMemory>
-        requires { IsSoundWorld self.now }
-        ensures { (app : App) (trace : Entries) → IsTrue (is_sound app)
-            → WorldStands app self.now trace → IfOk result (λ ends. ends.items ≡ ends_of app trace) }
-    {
-        self.processes.ends(alloc, self)
-    }
-
-    /// The trace of all that has happened. The entries are moved, and none is copied.
-    pub fn into_trace(self, alloc: Global) -> Result<Trace, NoMemory>
+    /// The trace of all that has happened, and what is left of the processes. The entries are moved, and none is copied.
+    pub fn over(self, alloc: Global) -> Result<(Trace, Aftermath), NoMemory>
         requires { IsSoundWorld self }
-        ensures { (app : App) (trace : Entries) → WorldStands app self trace → IfOk result (λ t. t ≡ trace) }
+        ensures { (app : App) (trace : Entries) → IsTrue (is_sound app) → WorldStands app self trace
+            → IfOk result (λ over. (over.0 ≡ trace) × IsAftermathOf app trace over.1) }
     {
+        let ends = self.processes.ends(alloc, &self)?;
         let histories = histories(alloc, self.objects)?;
-        merge(alloc, histories)
+        let trace = merge(alloc, histories)?;
+        let trail = self.trail;
+        Ok((trace, Aftermath { ends, trail }))
     }
 }
 

@@ -8,8 +8,7 @@ use Rattle.anti_trace.specs.Ends.{ends_of}
 use Rattle.law_causal.specs.Words.{reads}
 use Rattle.anti_order.specs.Tallies.{AreCountsOf}
 use Rattle.anti_order.specs.declared.answer_counts.AnswerCounts.{AnswerCounts}
-use Rattle.anti_report.specs.Report.{Told}
-use Rattle.anti_report.specs.RunCounts.{calls_counted, is_fine, is_ship, is_write, run_counts}
+use Rattle.anti_report.specs.RunCounts.{calls_counted, is_fine, is_ship, is_write}
 use Rattle.anti_report.specs.Tallies.{AreRunCountsOf}
 use Rattle.anti_report.specs.declared.run_counts.RunCounts.{RunCounts}
 

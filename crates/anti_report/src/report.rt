@@ -1,13 +1,13 @@
-ghost use Rattle.std.specs.Prelude.{◌≡◌, IfOk, IsTrue};
-ghost use Rattle.anti_trace.specs.Ends.{ends_of};
+ghost use Rattle.std.specs.Prelude.{IfOk, IsTrue};
 ghost use Rattle.anti_app.specs.Sound.{is_sound};
 ghost use Rattle.anti_trace.specs.Legal.{IsLegalTrace};
+ghost use Rattle.anti_trace.specs.inner.Trails.{IsAftermathOf};
 ghost use Rattle.anti_report.specs.Report.{IsTold};
 
 use anti_app::{App, Waits};
 use anti_ids::NoMemory;
-use anti_order::{SpanAnswers, answers};
-use anti_trace::{Ends, Trace, ends_of};
+use anti_order::{SpanAnswers, answers_along};
+use anti_trace::{Aftermath, Ends, Trace};
 use std::alloc::Global;
 use std::marker::Model;
 
@@ -34,21 +34,22 @@ impl<'t, 'w> Model for Report<'t, 'w> {
 }
 
 impl<'t, 'w> Report<'t, 'w> {
-    /// The report of a run of an application, of whose processes these are the ends. What is answered of the spans is found by one walk along
-    /// the trace.
-    pub fn with_ends(
+    /// The report of a run of an application, of whose processes this is left. What is answered of the spans is found by one walk along the
+    /// trace.
+    pub fn along(
         alloc: Global,
         app: &App,
         trace: &'t Trace,
         waits: &'w Waits,
-        ends: Ends,
+        after: Aftermath,
     ) -> Result<Report<'t, 'w>, NoMemory>
         requires sound { IsTrue (is_sound app.now) }
         requires legal { IsLegalTrace app.now trace.now }
-        requires ends { ends.items ≡ ends_of app.now trace.now }
+        requires after { IsAftermathOf app.now trace.now after }
         ensures { IfOk result (IsTold app.now trace.now waits.now.items) }
     {
-        let spans = answers(alloc, app, trace)?;
+        let Aftermath { ends, trail } = after;
+        let spans = answers_along(alloc, app, trace, &trail)?;
         Ok(Report {
             trace,
             waits,
@@ -57,7 +58,7 @@ impl<'t, 'w> Report<'t, 'w> {
         })
     }
 
-    /// The report of a run of an application. The ends of its processes are found by one more walk along the trace.
+    /// The report of a run of an application. What is left of its processes is found by one more walk along the trace.
     pub fn of(
         alloc: Global,
         app: &App,
@@ -68,7 +69,7 @@ impl<'t, 'w> Report<'t, 'w> {
         requires legal { IsLegalTrace app.now trace.now }
         ensures { IfOk result (IsTold app.now trace.now waits.now.items) }
     {
-        let ends = ends_of(alloc, app, trace.as_slice())?;
-        Report::with_ends(alloc, app, trace, waits, ends)
+        let after = Aftermath::of(alloc, app, trace.as_slice())?;
+        Report::along(alloc, app, trace, waits, after)
     }
 }

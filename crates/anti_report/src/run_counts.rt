@@ -1,8 +1,8 @@
 ghost use Rattle.std.specs.Prelude.{◌≡◌, ℕ, List, count_by, IfOk, IsTrue};
 ghost use Rattle.anti_app.specs.Sound.{is_sound};
 ghost use Rattle.anti_proc.specs.Looks.{is_look};
-ghost use Rattle.anti_trace.specs.Ends.{ends_of};
 ghost use Rattle.anti_trace.specs.Legal.{IsLegalTrace};
+ghost use Rattle.anti_trace.specs.inner.Trails.{IsAftermathOf};
 ghost use Rattle.law_causal.specs.Words.{reads};
 ghost use Rattle.anti_report.specs.RunCounts.{calls_counted, is_fine, is_ship, is_write};
 ghost use Rattle.anti_report.specs.Tallies.{AreRunCountsOf};
@@ -10,10 +10,10 @@ ghost use Rattle.anti_report.specs.Tallies.{AreRunCountsOf};
 use anti_app::App;
 use anti_ids::NoMemory;
 use anti_kind::{Call, Entry};
-use anti_order::{AnswerCounts, count_answers};
+use anti_order::{AnswerCounts, count_answers_along};
 use anti_past::reads;
 use anti_proc::End;
-use anti_trace::{ProcessEnd, Trace};
+use anti_trace::{Aftermath, ProcessEnd, Trace};
 use std::alloc::Global;
 
 /// How many entries, processes and spans of each kind a run has.
@@ -84,21 +84,22 @@ fn count_fine(ends: &[ProcessEnd]) -> usize
 }
 
 impl RunCounts {
-    /// The counts of a run of an application, of whose processes these are the ends. The orders of the spans are counted, and not made. The
-    /// only error is want of memory.
+    /// The counts of a run of an application, of whose processes this is left. The orders of the spans are counted, and not made. The only
+    /// error is want of memory.
     pub fn of(
         alloc: Global,
         app: &App,
         trace: &Trace,
-        ends: &[ProcessEnd],
+        after: &Aftermath,
     ) -> Result<RunCounts, NoMemory>
         requires sound { IsTrue (is_sound app.now) }
         requires legal { IsLegalTrace app.now trace.now }
-        requires ends { ends.now ≡ ends_of app.now trace.now }
+        requires after { IsAftermathOf app.now trace.now after.now }
         ensures { (waits : List ℕ) → IfOk result (AreRunCountsOf app.now trace.now waits) }
     {
-        let spans = count_answers(alloc, app, trace)?;
+        let spans = count_answers_along(alloc, app, trace, &after.trail)?;
         let entries = trace.as_slice();
+        let ends = after.ends.as_slice();
         Ok(RunCounts {
             entries: entries.len(),
             writes: count_writes(entries),

@@ -15,7 +15,7 @@ use crate::printer::Printer;
 use anti_app::{App, Waits};
 use anti_ids::{Bytes, NoMemory};
 use anti_report::{Form, Report};
-use anti_trace::{Ends, Trace};
+use anti_trace::{Aftermath, Trace};
 use std::alloc::Global;
 
 // Adds the items behind the first of a list.
@@ -97,9 +97,9 @@ impl Form for RecordJson {
         app: &App,
         trace: &Trace,
         waits: &Waits,
-        ends: Ends,
+        after: Aftermath,
     ) -> Result<Bytes, NoMemory> {
-        let report = Report::with_ends(alloc, app, trace, waits, ends)?;
+        let report = Report::along(alloc, app, trace, waits, after)?;
         print_json(alloc, app, &report)
     }
 }

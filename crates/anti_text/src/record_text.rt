@@ -20,7 +20,7 @@ use anti_ids::{Bytes, NoMemory};
 use anti_kind::Entry;
 use anti_order::SpanAnswer;
 use anti_report::{Form, Report};
-use anti_trace::{Ends, ProcessEnd, Trace};
+use anti_trace::{Aftermath, ProcessEnd, Trace};
 use itoa::Buffer;
 use std::alloc::Global;
 
@@ -130,9 +130,9 @@ impl Form for RecordText {
         app: &App,
         trace: &Trace,
         waits: &Waits,
-        ends: Ends,
+        after: Aftermath,
     ) -> Result<Bytes, NoMemory> {
-        let report = Report::with_ends(alloc, app, trace, waits, ends)?;
+        let report = Report::along(alloc, app, trace, waits, after)?;
         print(alloc, app, &report)
     }
 }

@@ -9,7 +9,7 @@ use anti_app::{App, Waits};
 use anti_ids::{Bytes, NoMemory};
 use anti_order::AnswerCounts;
 use anti_report::{Form, RunCounts};
-use anti_trace::{Ends, Trace, ends_of};
+use anti_trace::{Aftermath, Trace};
 use itoa::Buffer;
 use std::alloc::Global;
 
@@ -74,21 +74,21 @@ impl Form for SummaryText {
         app: &App,
         trace: &Trace,
         _waits: &Waits,
-        ends: Ends,
+        after: Aftermath,
     ) -> Result<Bytes, NoMemory> {
-        let counts = RunCounts::of(alloc, app, trace, ends.as_slice())?;
+        let counts = RunCounts::of(alloc, app, trace, &after)?;
         print_summary(alloc, &counts)
     }
 }
 
-/// The summary of a run of an application, by its trace. The ends of its processes are found by one more walk along the trace. The only error
-/// is want of memory.
+/// The summary of a run of an application, by its trace. What is left of its processes is found by one more walk along the trace. The only
+/// error is want of memory.
 pub fn summary(alloc: Global, app: &App, trace: &Trace) -> Result<Bytes, NoMemory>
     requires sound { IsTrue (is_sound app.now) }
     requires legal { IsLegalTrace app.now trace.now }
     ensures { (waits : List ℕ) → IfOk result (λ t. IsPrinted summary_of app.now trace.now waits t.items) }
 {
-    let ends = ends_of(alloc, app, trace.as_slice())?;
-    let counts = RunCounts::of(alloc, app, trace, ends.as_slice())?;
+    let after = Aftermath::of(alloc, app, trace.as_slice())?;
+    let counts = RunCounts::of(alloc, app, trace, &after)?;
     print_summary(alloc, &counts)
 }

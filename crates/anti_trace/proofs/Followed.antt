@@ -1,7 +1,7 @@
 -- The processes of a trace that gets one entry more: what they are after a birth, after a reply, after a carrier's entry, and after room was
 -- made. A trace gets the next entry of a legal one, or one that is put into it.
 use Rattle.std.proofs.Common.{◌≡◌, ℕ, ◌+◌, ◌<◌, ◌≤◌, ◌++◌, List, [], ◌∷◌, true, false, length, map, get_or, refl, sym, ap, ◌∙◌, subst, arith, inl, inr, append-nil}
-use Rattle.std.specs.Prelude.{All, Result, Ok, Err, IsErr, MatchResult, Option, None, Some, IfSome, IsTrue, slice_get, slice_set, position}
+use Rattle.std.specs.Prelude.{All, Result, Ok, Err, IsErr, MatchResult, OnOk, Option, None, Some, IfSome, IsTrue, slice_get, slice_set, position}
 use Rattle.std.proofs.lemmas.Bool.{cases_lt, false_from_ne_true}
 use Rattle.std.proofs.lemmas.List.Elements.{filter-append}
 use Rattle.std.proofs.lemmas.Option.{slice_get_past, get_or_from_slice_get}
@@ -175,18 +175,17 @@ module _ (app : App) (sound : IsTrue (is_sound app)) (before : List Entry) (e : 
   pub next_starts : bears e.call ≡ true → task_of app e ≡ None → ⊥
   next_starts = at_cut (λ x. bears x.call ≡ true → task_of app x ≡ None → ⊥) before e later (all_start app whole legal sound)
 
+  -- its stamp is above those of all that its actor had done
+  pub next_above : All (λ d. d.stamp < e.stamp) (entries_by e.actor before)
+  next_above k d lt =
+      let stamp = legal.stamps before e later refl in
+      let low : (get_or (entries_by e.actor before) k d).stamp ≤ last_stamp (entries_by e.actor before) = below_last (entries_by e.actor before) k d lt in
+      omega arith
+
   module _ (b : Birth) (at : e.actor ≡ Acting b) where
     -- its process did it behind what it had done
     did : IsLife app b (entries_by (Acting b) before ++ e ∷ entries_by (Acting b) later)
     did = subst (λ (a : Actor). IsOfActor app a (entries_by a before ++ e ∷ entries_by a later)) at (actor_cut app whole legal before e later refl)
-
-    -- above its last stamp
-    pub next_above : All (λ d. d.stamp < e.stamp) (entries_by (Acting b) before)
-    next_above k d lt =
-        let stamp = legal.stamps before e later refl in
-        let low : (get_or (entries_by (Acting b) before) k d).stamp ≤ last_stamp (entries_by (Acting b) before) = below_last (entries_by (Acting b) before) k d lt in
-        let own : last_stamp (entries_by e.actor before) ≡ last_stamp (entries_by (Acting b) before) = ap (λ (a : Actor). last_stamp (entries_by a before)) at in
-        omega arith
 
     -- where it did nothing yet this is its birth
     module _ (unborn : entries_by (Acting b) before ≡ []) where
@@ -201,7 +200,7 @@ module _ (app : App) (sound : IsTrue (is_sound app)) (before : List Entry) (e : 
 
     -- where it did something already it asks for this call
     module _ (p : Process) (on : LivesOn app before p (entries_by (Acting b) before)) where
-      left_wants : want_of (process_after app (entries_by (Acting b) before)) ≡ Make e.object e.span e.call
+      pub left_wants : want_of (process_after app (entries_by (Acting b) before)) ≡ Make e.object e.span e.call
       left_wants =
           let life : IsLife app b (on.birth ∷ (on.later ++ e ∷ entries_by (Acting b) later)) =
           subst (λ (es : List Entry). IsLife app b (es ++ e ∷ entries_by (Acting b) later)) on.entries_are did in
@@ -242,6 +241,11 @@ module _ (app : App) (sound : IsTrue (is_sound app)) (before : List Entry) (e : 
 pub lost : {T : Type 0} (A B : Type 0) (r : Result T NoMemory) → IsErr r → B → MatchResult r (λ _. A) (λ _. B)
 lost A B (Ok x) err b = absurd (cc)
 lost A B (Err x) err b = b
+
+-- what comes of it where there was memory
+pub done : {T : Type 0} (A B C : Type 0) (r : Result T NoMemory) → MatchResult r (λ _. A) (λ _. B) → (A → C) → OnOk r C
+done A B C (Ok x) a so = so a
+done A B C (Err x) b so = tt
 
 -- an object at which a process was born is there
 object_found : (ps : List AtObject) (o : ℕ) → 0 < length (born_at ps o) → o < length ps
@@ -293,7 +297,7 @@ module _ (app : App) (sound : IsTrue (is_sound app)) (ps : List AtObject) (e : E
           let old : p ≡ both.old = (let two : Some p ≡ Some both.old = sym is ∙ both.was in cc) in
           let going : full_of p ≡ None = next_going app sound before e later legal b at p on in
           went_are app ps before (before ++ e ∷ []) are e (gets_next app before e later legal) b at i found
-          (next_other app sound before e later legal b at p on) (next_above app sound before e later legal b at) ns a both
+          (next_other app sound before e later legal b at p on) (subst (λ (a : Actor). All (λ d. d.stamp < e.stamp) (entries_by a before)) at (next_above app sound before e later legal)) ns a both
           (subst (λ (x : Process). full_of x ≡ None) old going)
           (subst (λ (x : Process). standing.advanced app x a ≡ branch (process_of app x) e.reply) old (goes going))
           (subst (λ (x : Process). IsAdvanceOf app x a) old spans)

@@ -22,4 +22,5 @@ pub mod ReadyStays
 pub mod InOrder
 pub mod Followed
 pub mod Ended
+pub mod Trails
 mod Worked

@@ -8,11 +8,10 @@ ghost use Rattle.anti_trace.specs.inner.Living.{AreProcessesOf, LivesItself, lis
 ghost use Rattle.anti_trace.specs.inner.Shown.{shown_end};
 ghost use Rattle.anti_proc.specs.inner.Standing.{birth_of};
 
-use crate::objects::{EndOfObjects, ObjectsAfter};
+use crate::objects::EndOfObjects;
 use crate::processes::Processes;
-use anti_app::{App, object_count};
 use anti_ids::{List, NoMemory};
-use anti_kind::{Birth, Entry};
+use anti_kind::Birth;
 use anti_proc::{End, Process};
 use std::alloc::Global;
 
@@ -81,18 +80,6 @@ fn add_ends<T: EndOfObjects>(
     Ok(())
 }
 
-fn processes_of(alloc: Global, app: &App, trace: &[Entry]) -> Result<Processes, NoMemory>
-    requires sound { IsTrue (is_sound app.now) }
-    requires legal { IsLegalTrace app.now trace.now }
-    ensures { IfOk result (λ processes. AreProcessesOf app.now (lists processes) trace.now) }
-{
-    let mut processes = Processes::new(alloc, object_count(app) as usize)?;
-    for entry in trace {
-        processes.follow(alloc, app, entry)?;
-    }
-    Ok(processes)
-}
-
 impl Processes {
     /// How each process ended by the end of a legal trace, by the objects after it.
     pub fn ends<T: EndOfObjects>(&self, alloc: Global, objects: &T) -> Result<Ends, NoMemory>
@@ -106,15 +93,4 @@ impl Processes {
         }
         Ok(ends)
     }
-}
-
-/// How each process of a legal trace ended. One walk goes along the trace.
-pub fn ends_of(alloc: Global, app: &App, trace: &[Entry]) -> Result<Ends, NoMemory>
-    requires sound { IsTrue (is_sound app.now) }
-    requires legal { IsLegalTrace app.now trace.now }
-    ensures { IfOk result (λ ends. ends.items ≡ ends_of app.now trace.now) }
-{
-    let objects = ObjectsAfter::of(alloc, app, trace)?;
-    let processes = processes_of(alloc, app, trace)?;
-    processes.ends(alloc, &objects)
 }

@@ -7,6 +7,7 @@
 //! processes go past each entry.
 #![tactic(auto)]
 
+mod aftermath;
 mod ends;
 mod heads;
 mod history_merge;
@@ -18,8 +19,10 @@ mod process_steps;
 mod processes;
 mod processes_along;
 mod trace;
+mod trail;
 
-pub use ends::{Ends, ProcessEnd, ends_of};
+pub use aftermath::Aftermath;
+pub use ends::{Ends, ProcessEnd};
 pub use history_merge::{Histories, merge};
 pub use laws::{legal_traces_are_known, nothing_is_foreign};
 pub use mark::Mark;
@@ -28,3 +31,4 @@ pub use owners::{is_by, is_on};
 pub use process_steps::{advance, born};
 pub use processes::{AtObject, Processes};
 pub use trace::Trace;
+pub use trail::{Trail, leaves_trail};

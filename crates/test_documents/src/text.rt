@@ -52,9 +52,13 @@ fn printed(alloc: Global, app: &App) -> Option<Bytes>
     requires { IsTrue (is_sound app.now) }
 {
     match play(alloc, app) {
-        Ok(Played { trace, waits, ends }) => match Report::with_ends(
-            alloc, app, &trace, &waits, ends,
-        ) {
+        Ok(
+            Played {
+                trace,
+                waits,
+                after,
+            },
+        ) => match Report::along(alloc, app, &trace, &waits, after) {
             Ok(report) => print(alloc, app, &report).ok(),
             Err(_) => None,
         },

@@ -7,7 +7,7 @@ use Rattle.anti_app.specs.Sound.{is_sound}
 use Rattle.anti_proc.specs.Trees.{Ask}
 use Rattle.anti_trace.specs.Legal.{IsLegalTrace}
 use Rattle.anti_trace.specs.declared.processes.AtObject.{AtObject}
-use Rattle.anti_trace.specs.inner.Living.{AreProcessesOf, lists}
+use Rattle.anti_trace.specs.inner.Living.{AreProcessesOf}
 use Rattle.law_causal.specs.Words.{hands_all}
 use Rattle.law_causal.specs.Carried.{IsLossless, ask_at, carried_at}
 use Rattle.anti_past.specs.Losses.{LosesFirst}
@@ -20,6 +20,7 @@ use Rattle.anti_past.specs.declared.walk.Step.TheVariants as steps
 use Rattle.anti_past.specs.declared.walk.Walk.{Walk}
 use Rattle.anti_past.specs.inner.Came.{IsKnown, NoneLoses}
 use Rattle.anti_past.specs.inner.Found.{AreFound}
+use Rattle.anti_past.specs.inner.Cursors.{IsCursorAt}
 
 -- The entry e is at place j of a legal trace, and the processes stand for what comes before it.
 pub record IsNextAt (app : App) (trace : List Entry) (j : ℕ) (processes : List AtObject) (e : Entry) : Type 0 where
@@ -39,12 +40,12 @@ abbrev pub IsHanded : App → List Entry → ℕ → Entry → Option (List Writ
 IsHanded app trace j e None = hands_all e.call ≡ false
 IsHanded app trace j e (Some ids) = (hands_all e.call ≡ true) × (ids ≡ carried_at app trace j e)
 
--- The walk has come to place k of a legal trace: the processes stand for what comes before it, what came to their spans and what their
--- looks found is known, and no entry lost an id.
+-- The walk has come to place k of a legal trace: how far it is in the trail, what came to the spans before, and what the looks found is
+-- known, and no entry lost an id.
 pub record HasCome (app : App) (trace : List Entry) (k : ℕ) (w : Walk) : Type 0 where
   pub sound : IsTrue (is_sound app)
   pub legal : IsLegalTrace app trace
-  pub are : AreProcessesOf app (lists w.processes) (take k trace)
+  pub cursor : IsCursorAt app trace k w.cursor
   pub known : IsKnown app trace k w.came
   pub none : NoneLoses app trace k
   pub found : AreFound (take k trace) w.found

@@ -17,7 +17,7 @@ use Rattle.anti_trace.specs.inner.Living.{born_at, lists}
 use Rattle.anti_play.specs.declared.choice_call.ChoiceCall.{ChoiceCall}
 use Rattle.anti_play.specs.declared.choice_call.ChoiceCall.TheVariants.{Bears, Carries, GoesOn}
 use Rattle.anti_play.specs.declared.world.World.{World}
-use Rattle.anti_play.specs.Schedule.{asked, bearing, carrying, chosen}
+use Rattle.anti_play.specs.Schedule.{asked, asking_at, bearing, carrying, chosen, made_at}
 use Rattle.anti_play.specs.inner.Standing.{Chose, Stops, StopsBy, WorldStands}
 
 -- by the schedule it asks for this, and not for a process to go on
@@ -38,6 +38,12 @@ pub record IsNextOf (w : World) (b : Birth) (i : ℕ) (q : Asking) : Type 0 wher
   pub asks : (app : App) → want_of (standing.process_of app process) ≡ Make q.object q.span q.call
   pub actor : q.actor ≡ Acting b
   pub clock : q.clock ≡ standing.clock_of process
+
+-- the entry is made of what such a process asks for
+pub record IsNextEntry (app : App) (w : World) (b : Birth) (i : ℕ) (e : Entry) : Type 0 where
+  pub asking : Asking
+  pub next : IsNextOf w b i asking
+  pub made : (trace : List Entry) → WorldStands app w trace → made_at app trace (asking_at trace asking.object (Acting b) asking.span asking.call) ≡ Some e
 
 -- A process was to go on: the entry of its choice was made, or none;
 abbrev pub MakesNext : App → World → Birth → Result Bool NoMemory → World → Type 0

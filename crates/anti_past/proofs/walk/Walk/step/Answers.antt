@@ -1,39 +1,41 @@
-use Rattle.std.proofs.Common.{Bool, refl, subst}
-use Rattle.std.specs.Prelude.{option_map}
+use Rattle.std.proofs.Common.{◌≡◌, ℕ, ◌<◌, ◌^◌, Bool, List, refl, subst, arith}
+use Rattle.std.specs.Prelude.{Some, option_map, slice_get}
 use Rattle.anti_kind.specs.declared.entry.Entry.{Entry}
+use Rattle.anti_app.specs.declared.app.App.{App}
 use Rattle.law_causal.proofs.Lists.{same_at}
 use Rattle.anti_past.specs.Pasts.{IsPastOf}
 use Rattle.anti_past.specs.inner.Came.{TellsLoss}
-use Rattle.anti_past.specs.inner.Walking.{IsHanded, IsNextAt}
-use Rattle.anti_past.proofs.CameBefore.{of_front}
+use Rattle.anti_past.specs.declared.walk.Walk.{Walk}
+use Rattle.anti_past.specs.inner.Cursors.{IsPassing}
+use Rattle.anti_past.specs.inner.Walking.{HasCome, IsHanded}
 use Rattle.anti_past.proofs.Finding.{found_more}
-use Rattle.anti_past.proofs.Fronts.{followed, next_of}
 use Rattle.anti_past.proofs.Losing.{none_more}
 use Rattle.anti_past.proofs.walk.Walk.step.Goals as goal
 use Rattle.anti_past.proofs.walk.Walk.step.Goals.{In_ok-loses}
 
-pub place_of-place-requires : goal.place_of-place-requires
-place_of-place-requires c =
-    of_front c.args.app.now c.args.trace.now c.requires.come.legal c.args.index c.args.self.now.processes.at.items c.requires.come.are
+-- the walk comes to the entry
+passing : (app : App) (trace : List Entry) (k : ℕ) (w : Walk) (e : Entry) → HasCome app trace k w → slice_get trace k ≡ Some e → k < 2 ^ 32
+    → IsPassing app trace k e w.cursor
+passing app trace k w e come there low = record { legal = come.legal; there = there; low = low; cursor = come.cursor }
+
+pub handed-handed-requires : goal.handed-handed-requires
+handed-handed-requires c =
+    (c.args.app.now, c.args.trace.now, c.args.index, passing c.args.app.now c.args.trace.now c.args.index c.args.self.now c.at-entry.result.now c.requires.come c.at-entry.ensures (omega arith))
 
 pub loses-requires : goal.loses-requires
 loses-requires c = c.requires.come.sound
 
-pub follow_from-requires-clause-sound : goal.follow_from-requires-clause-sound
-follow_from-requires-clause-sound c = c.requires.come.sound
-
-pub follow_from-requires-clause-next : goal.follow_from-requires-clause-next
-follow_from-requires-clause-next c =
-    next_of c.args.app.now c.args.trace.now c.requires.come.legal c.args.index c.at-entry.result.now c.at-entry.ensures _ c.requires.come.are
+pub go_past-requires : goal.go_past-requires
+go_past-requires c =
+    (c.args.app.now, c.args.trace.now, c.args.index, passing c.args.app.now c.args.trace.now c.args.index c.args.self.now c.at-entry.result.now c.requires.come c.at-entry.ensures (omega arith))
 
 -- what is handed at the entry
 its : (c : In_ok-loses)
-    → IsHanded c.args.app.now c.args.trace.now c.args.index c.at-entry.result.now (option_map (λ ids. ids.now) c.handed_at-handed.result)
+    → IsHanded c.args.app.now c.args.trace.now c.args.index c.at-entry.result.now (option_map (λ ids. ids.now) c.handed-handed.result)
 its c =
-    let come = c.requires.come in
-    let next : IsNextAt c.args.app.now c.args.trace.now c.args.index c.args.self.now.processes.at.items c.at-entry.result.now =
-    record { sound = come.sound; legal = come.legal; there = c.at-entry.ensures; are = come.are } in
-    c.handed_at-handed.ensures c.args.app.now c.args.trace.now c.args.index next
+    c.handed-handed.ensures c.args.app.now c.args.trace.now c.args.index
+    (passing c.args.app.now c.args.trace.now c.args.index c.args.self.now c.at-entry.result.now c.requires.come c.at-entry.ensures (omega arith))
+    c.requires.trail
 
 -- whether it loses an id
 told : (c : In_ok-loses) → TellsLoss c.args.app.now c.args.trace.now c.args.index c.at-entry.result.now c.in_ok-loses.field-0
@@ -64,7 +66,7 @@ returns c =
       record {
         sound = come.sound;
         legal = come.legal;
-        are = followed app trace come.legal k e at _ come.are c.follow_from.new.self.at.items c.in_ok-follow_from.ensures;
+        cursor = c.go_past.ensures app trace k (passing app trace k c.args.self.now e come at (omega arith));
         known = c.in_ok-note.ensures app trace come.legal at (its before) kept come.known;
         none = none_more app trace k e at come.none kept;
         found = found_more trace k e at c.args.self.now.found c.add.new.self come.found c.in_ok-add.ensures;

@@ -44,14 +44,14 @@ reserve-requires c =
 pub returns-in_err-process-2 : goal.returns-in_err-process-2
 returns-in_err-process-2 c = λ trace s.
     chose_kept c.args.app.now c.args.self.now _ trace _ _ c.from_residual-in_err-process-2.ensures.0 s s.objects
-    (reserved_are c.args.app.now (lists c.args.self.now.processes) _ trace c.in-Ok.entry.object s.processes c.reserve.ensures.changes) refl
+    (reserved_are c.args.app.now (lists c.args.self.now.processes) _ trace c.in-Ok.entry.object s.processes c.reserve.ensures.changes) s.trail refl
 
 pub returns-in_err-process-3 : goal.returns-in_err-process-3
 returns-in_err-process-3 c = λ trace s.
     chose_kept c.args.app.now c.args.self.now _ trace _ _ c.from_residual-in_err-process-3.ensures.0 s
     (lost_before c.make_entry.result c.in_ok-process-2.process c.and-2.result c.and-2.ensures c.in_err-process-3.field-0.0 c.in_err-process-3.was
     (c.make_entry.ensures.err c.args.app.now trace s.objects))
-    (reserved_are c.args.app.now (lists c.args.self.now.processes) _ trace c.in-Ok.entry.object s.processes c.reserve.ensures.changes) refl
+    (reserved_are c.args.app.now (lists c.args.self.now.processes) _ trace c.in-Ok.entry.object s.processes c.reserve.ensures.changes) s.trail refl
 
 pub returns : goal.returns
 returns c = λ trace s.
@@ -73,7 +73,7 @@ returns c = λ trace s.
     (λ prior later all grows.
     done_before c.make_entry.result c.in_ok-process-2.process c.and-2.result c.and-2.ensures last c.in_ok-process-3.was
     (c.make_entry.ensures.stand c.args.app.now prior later all grows))
-    added refl
+    added s.trail refl
     (record {
       run = c.in_ok-process.ensures.run;
       tree = c.in_ok-process.ensures.stands;

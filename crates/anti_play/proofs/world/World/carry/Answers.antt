@@ -6,7 +6,7 @@ use Rattle.anti_play.proofs.Chose.{carry_done, chose_kept, chose_none}
 use Rattle.anti_play.proofs.world.World.carry.Goals as goal
 
 pub returns-in_err-entry : goal.returns-in_err-entry
-returns-in_err-entry c = λ app trace sound s. chose_kept app c.args.self.now _ trace _ _ c.from_residual.ensures.0 s s.objects s.processes refl
+returns-in_err-entry c = λ app trace sound s. chose_kept app c.args.self.now _ trace _ _ c.from_residual.ensures.0 s s.objects s.processes s.trail refl
 
 pub returns-in_default : goal.returns-in_default
 returns-in_default c = λ app trace sound s.
@@ -23,11 +23,11 @@ make_entry-requires c =
 
 pub returns-in_err-make_entry : goal.returns-in_err-make_entry
 returns-in_err-make_entry c = λ app trace sound s.
-    chose_kept app c.args.self.now _ trace _ _ c.from_residual-in_err-make_entry.ensures.0 s (c.in_err-make_entry.ensures.err app trace s.objects) s.processes refl
+    chose_kept app c.args.self.now _ trace _ _ c.from_residual-in_err-make_entry.ensures.0 s (c.in_err-make_entry.ensures.err app trace s.objects) s.processes s.trail refl
 
 pub returns : goal.returns
 returns c = λ app trace sound s.
     let q = carrying trace c.args.object c.args.call in
     carry_done app sound c.args.self.now _ trace c.args.object c.args.call c.in-Ok.entry s c.requires.carried
     (outcome_is app trace q c.in_ok-entry.field-0 (Ok c.in-Ok.entry) c.in-Ok.is (c.in_ok-entry.ensures app trace sound s s.carrier))
-    (c.in_ok-make_entry.ensures.stand app) s.processes refl
+    (c.in_ok-make_entry.ensures.stand app) s.processes s.trail refl

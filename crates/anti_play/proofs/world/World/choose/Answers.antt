@@ -1,6 +1,4 @@
 use Rattle.std.proofs.Common.{◌≡◌, OnOk, sym, subst, true}
-use Rattle.std.specs.Prelude.{List}
-use Rattle.anti_kind.specs.declared.entry.Entry.{Entry}
 use Rattle.anti_app.specs.declared.app.Choice.{Choice}
 use Rattle.anti_trace.specs.Legal.{bears, carries}
 use Rattle.anti_trace.specs.inner.Living.{lists}

@@ -1,25 +1,18 @@
 use Rattle.std.proofs.Common.{arith, List, ◌≡◌, Result, Ok, Err, refl, ap, sym, ◌∙◌, subst}
 use Rattle.std.proofs.lemmas.Grind.{common_steps}
-use Rattle.std.specs.Prelude.{None}
 use Rattle.anti_kind.specs.declared.actor.Actor.{Actor}
 use Rattle.anti_kind.specs.declared.actor.Actor.TheVariants.{Process as Acting}
 use Rattle.anti_kind.specs.declared.recorded.Refusal.{Refusal}
 use Rattle.anti_kind.specs.declared.recorded.Refusal.TheVariants.{NotYet, Full, Spent}
 use Rattle.anti_kind.specs.declared.entry.Entry.{Entry}
-use Rattle.anti_proc.specs.inner.Standing.{advanced, full_by, full_of, process_of}
-use Rattle.anti_proc.specs.inner.Running.{IsAdvanceOf, IsRunOf}
-use Rattle.anti_proc.specs.Trees.{branch}
-use Rattle.anti_proc.specs.declared.process.Process.{Process}
 use Rattle.anti_play.specs.Schedule.{asking_at, clock_of}
 use Rattle.anti_trace.specs.inner.Living.{MayMeetFull, born_at, lists}
 use Rattle.anti_play.specs.inner.Standing.{IsOutcome, WorldStands, asked_in}
-use Rattle.anti_trace.proofs.Changed.{room_then}
 use Rattle.anti_play.proofs.NextEntry.{outcome_is}
-use Rattle.anti_play.proofs.Stepped.{reply_of, may_grow}
 use Rattle.anti_play.proofs.GoNext.{is_next_found}
-use Rattle.anti_play.proofs.GoOn.{found_again, may_meet_full, goes_run, goes_clock, goes_asked, go_done, go_waits, go_ended, go_lost, stops_made, stops_waits, stops_ended}
+use Rattle.anti_play.proofs.GoOn.{found_again, may_meet_full, goes_clock, go_waits, go_ended, stops_waits, stops_ended}
 use Rattle.anti_play.proofs.world.World.make_next.Goals as goal
-use Rattle.anti_play.proofs.world.World.make_next.Goals.{In_ok-entry, After-get}
+use Rattle.anti_play.proofs.world.World.make_next.Goals.{In_ok-entry}
 
 -- what came of the call
 came : (c : In_ok-entry) (trace : List Entry) → WorldStands c.args.app.now c.args.self.now trace
@@ -34,74 +27,10 @@ came c trace s then is =
     subst (λ (a : Actor). IsOutcome c.args.app.now trace (asking_at trace q.object a q.span q.call) then) next.actor
     (outcome_is c.args.app.now trace (asked_in trace q) c.in_ok-entry.field-0 then is (c.in_ok-entry.ensures c.args.app.now trace c.requires.sound s clock))
 
--- the process was found again
-again : (c : After-get) → c.get.result.now ≡ c.requires.next.process
-again c = found_again (born_at (lists c.args.self.now.processes) c.args.birth.object) c.args.at c.requires.next.process c.get.result.now c.requires.next.there c.get.ensures
-
-pub advance-requires-clause-run : goal.advance-requires-clause-run
-advance-requires-clause-run c =
-    let g = is_next_found c.args.self.now c.args.birth c.args.at c.args.asking c.requires.found c.requires.next in
-    subst (IsRunOf c.args.app.now) (sym (again ((goal.at.advance-requires-clause-run c).After-get)))
-    (goes_run c.args.app.now c.args.self.now c.requires.world.trace c.args.birth c.args.at c.requires.next.process c.requires.world.stands g)
-
-pub advance-requires-clause-known : goal.advance-requires-clause-known
-advance-requires-clause-known c =
-    let app = c.args.app.now in
-    let w = c.args.self.now in
-    let trace = c.requires.world.trace in
-    let s = c.requires.world.stands in
-    let p = c.requires.next.process in
-    let g = is_next_found c.args.self.now c.args.birth c.args.at c.args.asking c.requires.found c.requires.next in
-    reply_of app c.requires.sound w trace s (asking_at trace c.args.asking.object (Acting c.args.birth) c.args.asking.span c.args.asking.call)
-    (goes_asked app w trace c.args.birth c.args.at p s g c.args.asking.object c.args.asking.span c.args.asking.call c.requires.next.going (c.requires.next.asks c.args.app.now)) refl
-    c.in-Ok.entry (came ((goal.at.advance-requires-clause-known c).In_ok-entry) trace s (Ok c.in-Ok.entry) c.in-Ok.is)
-
-pub make_entry-requires : goal.make_entry-requires
-make_entry-requires c =
-    let app = c.args.app.now in
-    let w = c.args.self.now in
-    let trace = c.requires.world.trace in
-    let s = c.requires.world.stands in
-    let p = c.requires.next.process in
-    let g = is_next_found c.args.self.now c.args.birth c.args.at c.args.asking c.requires.found c.requires.next in
-    may_grow app c.requires.sound w trace s (asking_at trace c.args.asking.object (Acting c.args.birth) c.args.asking.span c.args.asking.call)
-    (goes_asked app w trace c.args.birth c.args.at p s g c.args.asking.object c.args.asking.span c.args.asking.call c.requires.next.going (c.requires.next.asks c.args.app.now)) refl
-    c.in-Ok.entry (came ((goal.at.make_entry-requires c).In_ok-entry) trace s (Ok c.in-Ok.entry) c.in-Ok.is)
-
-pub returns-in_err-make_room-in-Ok-clause-chose : goal.returns-in_err-make_room-in-Ok-clause-chose
-returns-in_err-make_room-in-Ok-clause-chose c = λ trace s.
-    go_lost c.args.app.now c.args.self.now trace c.args.birth c.args.at c.requires.next.process s (is_next_found c.args.self.now c.args.birth c.args.at c.args.asking c.requires.found c.requires.next)
-    _ _ c.from_residual-in_err-make_room-in-Ok.ensures.0 s.objects c.make_room.ensures.becomes refl
-
-pub returns-in_err-make_entry-in-Ok-clause-chose : goal.returns-in_err-make_entry-in-Ok-clause-chose
-returns-in_err-make_entry-in-Ok-clause-chose c = λ trace s.
-    go_lost c.args.app.now c.args.self.now trace c.args.birth c.args.at c.requires.next.process s (is_next_found c.args.self.now c.args.birth c.args.at c.args.asking c.requires.found c.requires.next)
-    _ _ c.from_residual-in_err-make_entry-in-Ok.ensures.0 (c.in_err-make_entry-in-Ok.ensures.err c.args.app.now trace s.objects) c.make_room.ensures.becomes refl
-
-pub returns-in_ok-make_entry-in-Ok-clause-chose : goal.returns-in_ok-make_entry-in-Ok-clause-chose
-returns-in_ok-make_entry-in-Ok-clause-chose c = λ trace s.
-    let app = c.args.app.now in
-    let p = c.requires.next.process in
-    let g = is_next_found c.args.self.now c.args.birth c.args.at c.args.asking c.requires.found c.requires.next in
-    let same = again ((goal.at.returns-in_ok-make_entry-in-Ok-clause-chose c).After-get) in
-    let a = c.in_ok-advance-in-Ok.advance in
-    let e = c.in-Ok.entry in
-    go_done app c.args.self.now trace c.args.birth c.args.at p s g
-    c.args.asking.object c.args.asking.span c.args.asking.call c.requires.next.going (c.requires.next.asks c.args.app.now)
-    c.requires.sound _ e a (came ((goal.at.returns-in_ok-make_entry-in-Ok-clause-chose c).In_ok-entry) trace s (Ok e) c.in-Ok.is)
-    (c.in_ok-make_entry-in-Ok.ensures.stand app)
-    (room_then (lists c.args.self.now.processes) (lists c.make_room.new.self) (lists c.take_over.new.self) c.args.birth.object c.args.at e.stamp a c.make_room.ensures.becomes c.take_over.ensures)
-    refl
-    (subst (λ (x : Process). full_of x ≡ None → advanced app x a ≡ branch (process_of app x) e.reply) same c.in_ok-advance-in-Ok.ensures.goes c.requires.next.going)
-    (subst (λ (x : Process). IsAdvanceOf app x a) same c.in_ok-advance-in-Ok.ensures.run)
-    (subst (λ (x : Process). full_by a ≡ full_of x) same c.in_ok-advance-in-Ok.ensures.full)
-
-pub returns-in_ok-make_entry-in-Ok-clause-ended : goal.returns-in_ok-make_entry-in-Ok-clause-ended
-returns-in_ok-make_entry-in-Ok-clause-ended c = λ trace s.
-    let g = is_next_found c.args.self.now c.args.birth c.args.at c.args.asking c.requires.found c.requires.next in
-    stops_made c.args.app.now c.args.self.now trace c.args.birth c.args.at c.requires.next.process s g
-    c.args.asking.object c.args.asking.span c.args.asking.call c.requires.next.going (c.requires.next.asks c.args.app.now)
-    _ c.in-Ok.entry (came ((goal.at.returns-in_ok-make_entry-in-Ok-clause-ended c).In_ok-entry) trace s (Ok c.in-Ok.entry) c.in-Ok.is)
+pub go_past-requires-clause-entry : goal.go_past-requires-clause-entry
+go_past-requires-clause-entry c =
+    let it = (goal.at.go_past-requires-clause-entry c).In_ok-entry in
+    record { asking = c.args.asking; next = c.requires.next; made = λ trace s. came it trace s (Ok c.in-Ok.entry) c.in-Ok.is }
 
 pub unreachable-requires : goal.unreachable-requires
 unreachable-requires c =
@@ -136,7 +65,7 @@ returns-in-Err-Full-clause-chose c = λ trace s.
     go_ended c.args.app.now c.args.self.now trace c.args.birth c.args.at c.requires.next.process s g
     c.args.asking.object c.args.asking.span c.args.asking.call c.requires.next.going (c.requires.next.asks c.args.app.now)
     _ (came ((goal.at.returns-in-Err-Full-clause-chose c).In_ok-entry) trace s (Err (Full c.in-Err-Full.field-0-0 c.in-Err-Full.field-0-1 c.in-Err-Full.field-0-2)) (c.in-Err-Full.is ∙ ap Err c.in-Err-Full.field-0-is))
-    refl c.end.ensures refl
+    refl c.end.ensures s.trail refl
 
 pub returns-in-Err-Full-clause-ended : goal.returns-in-Err-Full-clause-ended
 returns-in-Err-Full-clause-ended c = λ trace s.
@@ -147,18 +76,6 @@ returns-in-Err-Full-clause-ended c = λ trace s.
 
 pub returns-in_err-entry-clause-chose : goal.returns-in_err-entry-clause-chose
 returns-in_err-entry-clause-chose c = grind arith
-
-pub returns-in_err-advance-in-Ok-clause-chose : goal.returns-in_err-advance-in-Ok-clause-chose
-returns-in_err-advance-in-Ok-clause-chose c = grind arith
-
-pub get-requires-clause-at : goal.get-requires-clause-at
-get-requires-clause-at c = grind (arith, common_steps)
-
-pub take_over-requires-clause-at : goal.take_over-requires-clause-at
-take_over-requires-clause-at c = grind (arith, common_steps)
-
-pub make_room-requires-clause-at : goal.make_room-requires-clause-at
-make_room-requires-clause-at c = grind (arith, common_steps)
 
 pub end-requires-clause-at : goal.end-requires-clause-at
 end-requires-clause-at c = grind (arith, common_steps)

@@ -5,5 +5,5 @@ use Rattle.anti_play.proofs.world.World.new.Goals as goal
 
 pub returns : goal.returns
 returns c =
-    let all : c.len.result ≡ object_count c.args.app.now = omega (arith, c.len.ensures, c.in_ok-objects.objects.ok.0, c.in_ok-objects.ensures.many) in
-    world_new c.args.app.now _ c.len.result c.in_ok-objects.ensures c.in_ok-processes.ensures all refl
+    let all : c.len-count.result ≡ object_count c.args.app.now = omega (arith, c.len-count.ensures, c.in_ok-objects.objects.ok.0, c.in_ok-objects.ensures.many) in
+    world_new c.args.app.now _ c.len-count.result c.in_ok-objects.ensures c.in_ok-processes.ensures c.in_ok-trail.ensures all refl

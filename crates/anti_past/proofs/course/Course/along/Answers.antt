@@ -2,7 +2,7 @@ use Rattle.std.proofs.Common.{◌≡◌, ◌+◌, ◌≤◌, length, sym, subst,
 use Rattle.anti_past.specs.inner.Walking.{ArePastsBefore, IsStep}
 use Rattle.anti_past.proofs.Losing.{lossless}
 use Rattle.anti_past.proofs.Told.{all_told, pasts_more}
-use Rattle.anti_past.proofs.course.Course.of.Goals as goal
+use Rattle.anti_past.proofs.course.Course.along.Goals as goal
 
 pub returns-in-Loss : goal.returns-in-Loss
 returns-in-Loss c = subst (IsStep c.args.app.now c.args.trace.now c.loop-index.index c.step.new.self) c.in-Loss.is c.in_ok-mark.ensures

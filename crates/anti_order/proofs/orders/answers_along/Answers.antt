@@ -1,7 +1,7 @@
 use Rattle.std.proofs.Common.{map, sym, ap, ◌∙◌, subst}
 use Rattle.std.proofs.lemmas.Result.{IfOk-weaker}
 use Rattle.anti_past.specs.Spans.{AreSpansOf}
-use Rattle.anti_order.proofs.orders.answers.Goals as goal
+use Rattle.anti_order.proofs.orders.answers_along.Goals as goal
 
 pub returns : goal.returns
 returns c =

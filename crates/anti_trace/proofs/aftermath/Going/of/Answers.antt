@@ -1,13 +1,9 @@
 use Rattle.std.proofs.Common.{arith, ◌+◌, take, drop, subst}
 use Rattle.std.proofs.lemmas.Grind.{common_steps}
-use Rattle.anti_app.proofs.Runnable.{can_run}
 use Rattle.anti_trace.specs.Legal.{IsLegalTrace}
-use Rattle.anti_trace.specs.inner.Living.{AreProcessesOf}
+use Rattle.anti_trace.specs.inner.Trails.{HasGone}
 use Rattle.anti_trace.proofs.GonePast.{cut_at, taken_more}
-use Rattle.anti_trace.proofs.ends.processes_of.Goals as goal
-
-pub object_count-requires : goal.object_count-requires
-object_count-requires c = can_run c.args.app.now c.requires.sound
+use Rattle.anti_trace.proofs.aftermath.Going.of.Goals as goal
 
 pub follow-requires-clause-next : goal.follow-requires-clause-next
 follow-requires-clause-next c =
@@ -17,7 +13,7 @@ follow-requires-clause-next c =
       before = take i trace;
       after = drop (i + 1) trace;
       legal = subst (IsLegalTrace c.args.app.now) (cut_at c.args.app.now trace c.requires.legal i c.entry-item.result c.loop-entry-test.true c.entry-item.is) c.requires.legal;
-      are = c.loop-entry.invariant;
+      gone = c.loop-entry.invariant;
     }
 
 pub loop-entry-preserved : goal.loop-entry-preserved
@@ -26,7 +22,7 @@ loop-entry-preserved c =
     let trace = c.args.trace.now in
     let i = c.loop-entry.entry-index in
     let e = c.entry-item.result in
-    subst (λ t. AreProcessesOf app c.follow.new.self.at.items t) (taken_more app trace c.requires.legal i e c.loop-entry-test.true c.entry-item.is)
+    subst (λ t. HasGone app t c.follow.new.self) (taken_more app trace c.requires.legal i e c.loop-entry-test.true c.entry-item.is)
     (c.in_ok-follow.ensures (take i trace) (drop (i + 1) trace)
     (subst (IsLegalTrace app) (cut_at app trace c.requires.legal i e c.loop-entry-test.true c.entry-item.is) c.requires.legal) c.loop-entry.invariant)
 

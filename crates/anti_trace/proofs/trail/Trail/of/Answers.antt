@@ -1,6 +1,6 @@
 use Rattle.std.proofs.Common.{arith}
 use Rattle.std.proofs.lemmas.Grind.{common_steps}
-use Rattle.anti_trace.proofs.ends.ends_of.Goals as goal
+use Rattle.anti_trace.proofs.trail.Trail.of.Goals as goal
 
 pub returns : goal.returns
 returns c = grind (arith, common_steps)
