@@ -1,7 +1,7 @@
 ghost use Rattle.std.specs.Prelude.{◌≡◌, ◌<◌, length, count_by, All, IfOk, IsTrue};
 ghost use Rattle.anti_app.specs.Sound.{is_sound};
 ghost use Rattle.anti_trace.specs.Legal.{IsLegalTrace};
-ghost use Rattle.anti_trace.specs.inner.Trails.{IsTrailOf};
+ghost use Rattle.anti_trace.specs.inner.Trails.{IsTrailIfKept};
 ghost use Rattle.anti_past.specs.Told.{AreReadsBySpan};
 ghost use Rattle.anti_order.specs.Tallies.{AreCountsOf};
 ghost use Rattle.anti_order.specs.inner.Grounds.{has_unsettled};
@@ -56,7 +56,7 @@ fn counted(
 ) -> Result<AnswerCounts, NoMemory>
     requires sound { IsTrue (is_sound app.now) }
     requires legal { IsLegalTrace app.now trace.now }
-    requires trail { IsTrailOf app.now trace.now trail.now }
+    requires trail { IsTrailIfKept app.now trace.now trail.now }
     requires spans { AreReadsBySpan trace.now spans.now }
     ensures { IfOk result (AreCountsOf app.now trace.now) }
 {
@@ -84,7 +84,7 @@ fn counted(
     }
 }
 
-/// How many spans with a read have which answer, by the trail of the trace. The orders are not made. The only error is want of memory.
+/// How many spans with a read have which answer, by the trail of the trace where that is kept. The orders are not made. The only error is want of memory.
 pub fn count_answers_along(
     alloc: Global,
     app: &App,
@@ -93,7 +93,7 @@ pub fn count_answers_along(
 ) -> Result<AnswerCounts, NoMemory>
     requires sound { IsTrue (is_sound app.now) }
     requires legal { IsLegalTrace app.now trace.now }
-    requires trail { IsTrailOf app.now trace.now trail.now }
+    requires trail { IsTrailIfKept app.now trace.now trail.now }
     ensures { IfOk result (AreCountsOf app.now trace.now) }
 {
     let spans = reads_by_span(alloc, trace)?;

@@ -6,7 +6,7 @@ ghost use Rattle.law_causal.specs.Carried.{IsLossless};
 ghost use Rattle.law_causal.specs.Reads.{is_at};
 ghost use Rattle.law_causal.specs.Words as words;
 ghost use Rattle.anti_trace.specs.Legal.{IsLegalTrace};
-ghost use Rattle.anti_trace.specs.inner.Trails.{IsTrailOf};
+ghost use Rattle.anti_trace.specs.inner.Trails.{IsTrailIfKept};
 ghost use Rattle.anti_past.specs.Pasts.{ArePastsOf};
 ghost use Rattle.anti_order.specs.Answers.{IsAnswer};
 ghost use Rattle.anti_order.specs.inner.Grounds.{AreGroundsOf, is_settled_at};
@@ -81,7 +81,7 @@ fn answer_lossless(
 }
 
 impl Grounds {
-    /// The grounds of a legal trace, by its trail. The only error is want of memory.
+    /// The grounds of a legal trace, by its trail where that is kept. The only error is want of memory.
     pub fn along(
         alloc: Global,
         app: &App,
@@ -90,7 +90,7 @@ impl Grounds {
     ) -> Result<Grounds, NoMemory>
         requires sound { IsTrue (is_sound app.now) }
         requires legal { IsLegalTrace app.now trace.now }
-        requires trail { IsTrailOf app.now trace.now trail.now }
+        requires trail { IsTrailIfKept app.now trace.now trail.now }
         ensures { IfOk result (AreGroundsOf app.now trace.now) }
     {
         match Course::along(alloc, app, trace, trail)? {

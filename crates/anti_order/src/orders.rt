@@ -5,7 +5,7 @@ ghost use Rattle.anti_app.specs.Sound.{is_sound};
 ghost use Rattle.law_causal.specs.Reads.{is_at, is_read_of, reads_of};
 ghost use Rattle.law_causal.specs.Words as words;
 ghost use Rattle.anti_trace.specs.Legal.{IsLegalTrace};
-ghost use Rattle.anti_trace.specs.inner.Trails.{IsTrailOf};
+ghost use Rattle.anti_trace.specs.inner.Trails.{IsTrailIfKept};
 ghost use Rattle.anti_order.specs.Answers.{AreAnswersOf, AreMarksOf, IsAnswer};
 ghost use Rattle.anti_order.specs.inner.Grounds.{AreAnswersFor, AreGroundsOf};
 
@@ -119,7 +119,7 @@ fn answered_of(
 ) -> Result<SpanAnswers, NoMemory>
     requires sound { IsTrue (is_sound app.now) }
     requires legal { IsLegalTrace app.now trace.now }
-    requires trail { IsTrailOf app.now trace.now trail.now }
+    requires trail { IsTrailIfKept app.now trace.now trail.now }
     requires reads { All (λ s. s.reads.items ≡ reads_of trace.now s.span.birth s.span.span) spans.now }
     ensures { IfOk result (λ answers. AreAnswersFor app.now trace.now spans.now answers.items) }
 {
@@ -131,7 +131,7 @@ fn answered_of(
 }
 
 /// What is answered of the reads of each span in which something was read, by the objects and places of the births of their processes, and
-/// by their numbers. The losses and the pasts are found once for all of them, by the trail of the trace. The only error is want of memory.
+/// by their numbers. The losses and the pasts are found once for all of them, by the trail of the trace where that is kept. The only error is want of memory.
 pub fn answers_along(
     alloc: Global,
     app: &App,
@@ -140,7 +140,7 @@ pub fn answers_along(
 ) -> Result<SpanAnswers, NoMemory>
     requires sound { IsTrue (is_sound app.now) }
     requires legal { IsLegalTrace app.now trace.now }
-    requires trail { IsTrailOf app.now trace.now trail.now }
+    requires trail { IsTrailIfKept app.now trace.now trail.now }
     ensures { IfOk result (λ answers. AreAnswersOf app.now trace.now answers.items) }
 {
     let spans = reads_by_span(alloc, trace)?;

@@ -1,7 +1,7 @@
 ghost use Rattle.std.specs.Prelude.{IfOk, IsTrue};
 ghost use Rattle.anti_app.specs.Sound.{is_sound};
 ghost use Rattle.anti_trace.specs.Legal.{IsLegalTrace};
-ghost use Rattle.anti_trace.specs.inner.Trails.{IsTrailOf};
+ghost use Rattle.anti_trace.specs.inner.Trails.{IsTrailIfKept, IsTrailOf};
 ghost use Rattle.anti_past.specs.inner.Walking.{IsCourseOf};
 
 use crate::before_reads::Past;
@@ -21,8 +21,8 @@ pub enum Course {
 }
 
 impl Course {
-    /// The course of a legal trace, by its trail. The walk ends at the first loss. The only error is want of memory.
-    pub fn along(alloc: Global, app: &App, trace: &Trace, trail: &Trail) -> Result<Course, NoMemory>
+    // The course of a legal trace, by its trail. The walk ends at the first loss.
+    fn by_trail(alloc: Global, app: &App, trace: &Trace, trail: &Trail) -> Result<Course, NoMemory>
         requires sound { IsTrue (is_sound app.now) }
         requires legal { IsLegalTrace app.now trace.now }
         requires trail { IsTrailOf app.now trace.now trail.now }
@@ -46,6 +46,20 @@ impl Course {
         ensures { IfOk result (IsCourseOf app.now trace.now) }
     {
         let trail = Trail::of(alloc, app, trace.as_slice())?;
-        Course::along(alloc, app, trace, &trail)
+        Course::by_trail(alloc, app, trace, &trail)
+    }
+
+    /// The same, by a trail of the trace where that is kept, and no process is played. The only error is want of memory.
+    pub fn along(alloc: Global, app: &App, trace: &Trace, trail: &Trail) -> Result<Course, NoMemory>
+        requires sound { IsTrue (is_sound app.now) }
+        requires legal { IsLegalTrace app.now trace.now }
+        requires trail { IsTrailIfKept app.now trace.now trail.now }
+        ensures { IfOk result (IsCourseOf app.now trace.now) }
+    {
+        if trail.is_kept() {
+            Course::by_trail(alloc, app, trace, trail)
+        } else {
+            Course::of(alloc, app, trace)
+        }
     }
 }

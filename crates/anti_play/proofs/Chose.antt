@@ -18,15 +18,15 @@ use Rattle.anti_proc.specs.Births.{birth_at}
 use Rattle.anti_play.specs.declared.world.World.{World}
 use Rattle.anti_play.specs.Schedule.{bearing, carrying, made_at}
 use Rattle.anti_trace.specs.inner.Living.{AreProcessesOf, born_at, Changes, Grows, IsNewOf, lists}
-use Rattle.anti_trace.specs.inner.Trails.{IsTrailOf}
+use Rattle.anti_trace.specs.inner.Trails.{IsTrailIfKept}
 use Rattle.anti_play.specs.inner.Standing.{AllStand, WorldStands, Chose}
 use Rattle.anti_play.proofs.Stepped.{Stepped, step}
 use Rattle.anti_trace.proofs.Followed.{born_are, carried_are}
-use Rattle.anti_trace.proofs.Trails.{bears_none, carries_none, trail_stays}
+use Rattle.anti_trace.proofs.Trails.{bears_none, carries_none, trail_stays_if}
 
 -- the world stands for the same trace, where its objects, its processes and its trail do
 pub kept_stands : (app : App) (w n : World) (trace : List Entry) → WorldStands app w trace → AllStand app n.objects.items trace
-    → AreProcessesOf app (lists n.processes) trace → IsTrailOf app trace n.trail → n.carrier ≡ w.carrier → WorldStands app n trace
+    → AreProcessesOf app (lists n.processes) trace → IsTrailIfKept app trace n.trail → n.carrier ≡ w.carrier → WorldStands app n trace
 kept_stands app w n trace s objects processes trail carrier = record {
   run = s.run;
   objects = objects;
@@ -42,7 +42,7 @@ chose_lost app n trace None (Err x) err s = s
 chose_lost app n trace (Some e) (Err x) err s = s
 
 pub chose_kept : (app : App) (w n : World) (trace : List Entry) (o : Option Entry) (r : Result Bool NoMemory) → IsErr r → WorldStands app w trace
-    → AllStand app n.objects.items trace → AreProcessesOf app (lists n.processes) trace → IsTrailOf app trace n.trail → n.carrier ≡ w.carrier → Chose app trace o r n
+    → AllStand app n.objects.items trace → AreProcessesOf app (lists n.processes) trace → IsTrailIfKept app trace n.trail → n.carrier ≡ w.carrier → Chose app trace o r n
 chose_kept app w n trace o r err s objects processes trail carrier = chose_lost app n trace o r err (kept_stands app w n trace s objects processes trail carrier)
 
 pub chose_made : (app : App) (n : World) (trace : List Entry) (o : Option Entry) (e : Entry) → o ≡ Some e → WorldStands app n (put e trace) → Chose app trace o (Ok true) n
@@ -54,7 +54,7 @@ chose_none app w trace o is s = subst (λ (x : Option Entry). Chose app trace x 
 pub bear_done : (app : App) (sound : IsTrue (is_sound app)) (w n : World) (trace : List Entry) (object : ℕ) (call : Call) (e : Entry) (p : Process)
     → WorldStands app w trace → bears call ≡ true → made_at app trace (bearing trace object call) ≡ Some e
     → ((before after : List Entry) → AllStand app w.objects.items before → Grows app before after e → AllStand app n.objects.items after)
-    → Changes (lists w.processes) (lists n.processes) e.object (born_at (lists w.processes) e.object ++ p ∷ []) → IsTrailOf app trace n.trail → n.carrier ≡ w.carrier → IsNewOf app e p
+    → Changes (lists w.processes) (lists n.processes) e.object (born_at (lists w.processes) e.object ++ p ∷ []) → IsTrailIfKept app trace n.trail → n.carrier ≡ w.carrier → IsNewOf app e p
     → Chose app trace (made_at app trace (bearing trace object call)) (Ok true) n
 bear_done app sound w n trace object call e p s is m objects changes trail carrier new =
     let st : Stepped app trace (bearing trace object call) e = step app sound w trace s (bearing trace object call) (is, refl) refl e m in
@@ -68,14 +68,14 @@ bear_done app sound w n trace object call e p s is m objects changes trail carri
       run = st.run;
       objects = objects trace (put e trace) s.objects st.gets.grows;
       processes = born_are app (lists w.processes) trace (put e trace) s.processes e st.gets (lists n.processes) p at unborn new changes;
-      trail = trail_stays app trace (put e trace) e st.gets st.before n.trail trail (bears_none e.call (ap bears st.call ∙ is));
+      trail = trail_stays_if app trace (put e trace) e st.gets st.before n.trail trail (bears_none e.call (ap bears st.call ∙ is));
       carrier = carrier ∙ s.carrier ∙ sym (ap (λ (x : List Entry). last_stamp x) (st.gets.others (Carrier 0) none));
     })
 
 pub carry_done : (app : App) (sound : IsTrue (is_sound app)) (w n : World) (trace : List Entry) (object : ℕ) (call : Call) (e : Entry)
     → WorldStands app w trace → carries call ≡ true → made_at app trace (carrying trace object call) ≡ Some e
     → ((before after : List Entry) → AllStand app w.objects.items before → Grows app before after e → AllStand app n.objects.items after)
-    → AreProcessesOf app (lists n.processes) trace → IsTrailOf app trace n.trail → n.carrier ≡ e.stamp
+    → AreProcessesOf app (lists n.processes) trace → IsTrailIfKept app trace n.trail → n.carrier ≡ e.stamp
     → Chose app trace (made_at app trace (carrying trace object call)) (Ok true) n
 carry_done app sound w n trace object call e s is m objects processes trail carrier =
     let st : Stepped app trace (carrying trace object call) e = step app sound w trace s (carrying trace object call) (is, refl) refl e m in
@@ -88,6 +88,6 @@ carry_done app sound w n trace object call e s is m objects processes trail carr
       objects = objects trace (put e trace) s.objects st.gets.grows;
       processes = carried_are app (lists n.processes) trace (put e trace) processes e st.gets
           (λ b is. (let both : Acting b ≡ Carrier 0 = sym is ∙ at in absurd (cc)));
-      trail = trail_stays app trace (put e trace) e st.gets st.before n.trail trail (carries_none e.call (ap carries st.call ∙ is));
+      trail = trail_stays_if app trace (put e trace) e st.gets st.before n.trail trail (carries_none e.call (ap carries st.call ∙ is));
       carrier = carrier ∙ sym (last_is (entries_by (Carrier 0) trace) e before) ∙ sym (ap (λ (x : List Entry). last_stamp x) own);
     })

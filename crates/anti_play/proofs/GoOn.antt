@@ -30,7 +30,7 @@ use Rattle.anti_trace.specs.declared.processes.AtObject.{AtObject}
 use Rattle.anti_play.specs.declared.world.World.{World}
 use Rattle.anti_play.specs.Schedule.{asking_at, asked_by, next_call, clock_of, made_at}
 use Rattle.anti_trace.specs.inner.Living.{WasFull, IsEnded, HasEnded, Becomes, MakesRoom, MayMeetFull, MetFull, TakesOver, born_at, Lives, LivesOn, is_named, lists, Grows}
-use Rattle.anti_trace.specs.inner.Trails.{IsTrailOf, TrailBecomes, footprint, trail_at, with_footprint}
+use Rattle.anti_trace.specs.inner.Trails.{IsTrailIfKept, TrailBecomes, footprint_in, trail_at, with_footprint}
 use Rattle.anti_play.specs.inner.Standing.{IsAsked, IsFullAt, IsStopped, Stops, AllStand, WorldStands, Chose}
 use Rattle.anti_play.proofs.MadeAt.{none_fits}
 use Rattle.anti_trace.proofs.FullStays.{unfit}
@@ -39,7 +39,7 @@ use Rattle.anti_play.proofs.Stepped.{Stepped, step}
 use Rattle.anti_trace.proofs.AllLive.{no_more, position_set, live_here, live_set, live_with}
 use Rattle.anti_trace.proofs.AreBorn.{births_set}
 use Rattle.anti_trace.proofs.Followed.{found_lives, roomy_are, went_are}
-use Rattle.anti_trace.proofs.Trails.{trail_grows}
+use Rattle.anti_trace.proofs.Trails.{trail_grows_if}
 use Rattle.anti_play.proofs.Chose.{chose_made, chose_none, chose_lost, kept_stands}
 
 -- ---- a process
@@ -114,7 +114,7 @@ module _ (app : App) (w : World) (trace : List Entry) (b : Birth) (i : ℕ) (p :
     pub go_done : IsTrue (is_sound app) → (n : World) (e : Entry) (a : Advance) → made_at app trace it ≡ Some e
         → ((before after : List Entry) → AllStand app w.objects.items before → Grows app before after e → AllStand app n.objects.items after)
         → Becomes (TakesOver e.stamp a) (lists w.processes) (lists n.processes) b.object i
-        → TrailBecomes w.trail n.trail e.object (with_footprint (trail_at w.trail e.object) (footprint (ask_of (process_of app p)))) → n.carrier ≡ w.carrier
+        → TrailBecomes w.trail n.trail e.object (with_footprint (trail_at w.trail e.object) (footprint_in w.trail (ask_of (process_of app p)))) → n.carrier ≡ w.carrier
         → advanced app p a ≡ branch (process_of app p) e.reply → IsAdvanceOf app p a → full_by a ≡ full_of p
         → Chose app trace chosen_next (Ok true) n
     go_done sound n e a m objects becomes trail carrier goes spans full =
@@ -133,7 +133,7 @@ module _ (app : App) (w : World) (trace : List Entry) (b : Birth) (i : ℕ) (p :
               (subst (λ (x : Process). advanced app x a ≡ branch (process_of app x) e.reply) old goes)
               (subst (λ (x : Process). IsAdvanceOf app x a) old spans)
               (subst (λ (x : Process). full_by a ≡ full_of x) old full);
-          trail = trail_grows app trace (put e trace) e st.gets st.before (process_of app p)
+          trail = trail_grows_if app trace (put e trace) e st.gets st.before (process_of app p)
               (on_p.tree going ∙ ap (λ (x : Actor). process_after app (entries_by x trace)) (sym actor)) object span (wants ∙ ap (Make object span) (sym st.call))
               w.trail n.trail s.trail trail;
           carrier = carrier ∙ s.carrier ∙ sym (ap (λ (x : List Entry). last_stamp x) (st.gets.others (Carrier 0) none));
@@ -158,7 +158,7 @@ module _ (app : App) (w : World) (trace : List Entry) (b : Birth) (i : ℕ) (p :
     }
 
     pub go_ended : (n : World) → (made_at app trace it ≡ None) × IsFullAt app trace it
-        → n.objects.items ≡ w.objects.items → Becomes (MetFull object) (lists w.processes) (lists n.processes) b.object i → IsTrailOf app trace n.trail → n.carrier ≡ w.carrier
+        → n.objects.items ≡ w.objects.items → Becomes (MetFull object) (lists w.processes) (lists n.processes) b.object i → IsTrailIfKept app trace n.trail → n.carrier ≡ w.carrier
         → Chose app trace chosen_next (Ok false) n
     go_ended n full objects becomes trail carrier =
         let then : Process = becomes.new in
@@ -242,12 +242,12 @@ module _ (app : App) (w : World) (trace : List Entry) (b : Birth) (i : ℕ) (p :
   stops_over over = stops_by over (full_of p) refl
 
   -- room was made for its reply
-  room_stands : (n : World) → AllStand app n.objects.items trace → Becomes MakesRoom (lists w.processes) (lists n.processes) b.object i → IsTrailOf app trace n.trail → n.carrier ≡ w.carrier
+  room_stands : (n : World) → AllStand app n.objects.items trace → Becomes MakesRoom (lists w.processes) (lists n.processes) b.object i → IsTrailIfKept app trace n.trail → n.carrier ≡ w.carrier
       → WorldStands app n trace
   room_stands n objects becomes trail carrier =
       kept_stands app w n trace s objects (roomy_are app (lists w.processes) trace s.processes b i g.found (lists n.processes) becomes) trail carrier
 
-  pub go_lost : (n : World) (r : Result Bool NoMemory) → IsErr r → AllStand app n.objects.items trace → Becomes MakesRoom (lists w.processes) (lists n.processes) b.object i → IsTrailOf app trace n.trail
+  pub go_lost : (n : World) (r : Result Bool NoMemory) → IsErr r → AllStand app n.objects.items trace → Becomes MakesRoom (lists w.processes) (lists n.processes) b.object i → IsTrailIfKept app trace n.trail
       → n.carrier ≡ w.carrier → Chose app trace chosen_next r n
   go_lost n r err objects becomes trail carrier = chose_lost app n trace chosen_next r err (room_stands n objects becomes trail carrier)
 

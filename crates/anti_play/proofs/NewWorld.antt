@@ -20,7 +20,7 @@ use Rattle.anti_trace.specs.inner.Living.{NoneBorn, lists}
 use Rattle.anti_trace.specs.inner.Trails.{IsBare}
 use Rattle.anti_play.specs.inner.Closing.{AreFirst}
 use Rattle.anti_trace.proofs.NoneBorn.{none_are}
-use Rattle.anti_trace.proofs.Trails.{bare_is}
+use Rattle.anti_trace.proofs.Trails.{bare_if}
 
 -- an item more in a list that has no room, which has none then
 pub added : {T : Type 0} (l : Listed T) (x : T) → l.spare ≡ 0 → pushed l x ≡ plain (l.items ++ x ∷ [])
@@ -89,6 +89,6 @@ world_new app w count first none bare all carrier = record {
   run = legal_none app;
   objects = record { count = first.many; each = λ o d lt. first.each o d lt };
   processes = none_are app (lists w.processes) count none all;
-  trail = bare_is app w.trail count bare all;
+  trail = bare_if app w.trail count bare all;
   carrier = carrier;
 }

@@ -6,6 +6,7 @@ ghost use Rattle.anti_kind.specs.Machines.{StandsFor};
 ghost use Rattle.anti_object.specs.Standing.{ObjectAt};
 ghost use Rattle.anti_play.specs.inner.Closing.{AreFirst};
 
+use crate::reading::has_reads;
 use crate::world::World;
 use anti_app::App;
 use anti_ids::NoMemory;
@@ -15,7 +16,8 @@ use anti_trace::{Processes, Trail};
 use std::alloc::Global;
 
 impl World {
-    /// The objects of an application, on which nothing has happened yet.
+    /// The objects of an application, on which nothing has happened yet. Its trail is kept where some body reads: nothing is answered of
+    /// spans without reads.
     pub fn new(alloc: Global, app: &App) -> Result<World, NoMemory>
         requires { IsTrue (is_sound app.now) }
         ensures { IfOk result (λ w. WorldStands app.now w []) }
@@ -23,7 +25,7 @@ impl World {
         let objects = objects(alloc, app)?;
         let count = objects.len();
         let processes = Processes::new(alloc, count)?;
-        let trail = Trail::new(alloc, count)?;
+        let trail = Trail::new(alloc, count, has_reads(app))?;
         Ok(World {
             objects,
             processes,

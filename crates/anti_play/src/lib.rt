@@ -6,6 +6,7 @@ mod finish;
 mod first_world;
 mod laws;
 mod player;
+mod reading;
 mod world;
 mod world_agenda;
 mod world_trace;

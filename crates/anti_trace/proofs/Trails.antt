@@ -25,7 +25,7 @@ use Rattle.anti_trace.specs.Traces.{entries_by, entries_on, is_by, is_on, same_a
 use Rattle.anti_trace.specs.declared.trail.OnObject.{OnObject}
 use Rattle.anti_trace.specs.declared.trail.Trail.{Trail}
 use Rattle.anti_trace.specs.inner.Living.{Gets, LivesOn}
-use Rattle.anti_trace.specs.inner.Trails.{IsBare, IsTrailOf, TrailBecomes, carried_in, carried_into, footprint, leaves_trail, own_before, trail_at, trail_on, with_footprint}
+use Rattle.anti_trace.specs.inner.Trails.{IsBare, IsTrailIfKept, IsTrailOf, TrailBecomes, carried_in, carried_into, footprint, footprint_in, leaves_trail, own_before, trail_at, trail_on, with_footprint}
 use Rattle.anti_trace.proofs.Changed.{set_here, set_other}
 use Rattle.anti_trace.proofs.Followed.{gets_next, left_wants, next_above, next_bears, next_going}
 use Rattle.anti_trace.proofs.Living.{decide}
@@ -64,11 +64,22 @@ bare_more count all here bare empty = record {
     none_more (x ∷ xs) none (suc o) = none_more xs (λ k. none (suc k)) o
 
 -- a trail that holds nothing is that of the trace of which nothing has happened
-pub bare_is : (app : App) (t : Trail) (count : ℕ) → IsBare count t.at.items → count ≡ object_count app → IsTrailOf app [] t
-bare_is app t count bare is = record { count = bare.many ∙ is; each = bare.none }
+pub bare_is : (app : App) (t : Trail) (count : ℕ) → IsBare count t.at.items → count ≡ object_count app → t.is_kept ≡ true → IsTrailOf app [] t
+bare_is app t count bare is kept = record { kept = kept; count = bare.many ∙ is; each = bare.none }
+
+pub bare_if : (app : App) (t : Trail) (count : ℕ) → IsBare count t.at.items → count ≡ object_count app → IsTrailIfKept app [] t
+bare_if app t count bare is = record { count = bare.many ∙ is; trail = bare_is app t count bare is }
+
+-- a trail is one that may be kept
+pub trail_if : (app : App) (trace : List Entry) (t : Trail) → IsTrailOf app trace t → IsTrailIfKept app trace t
+trail_if app trace t is = record { count = is.count; trail = λ kept. is }
+
+-- and is a footprint of one that is kept
+pub footprint_kept : (t : Trail) (asked : Option Ask) → t.is_kept ≡ true → footprint_in t asked ≡ footprint asked
+footprint_kept t asked kept = ap (λ (b : Bool). if b then footprint asked else None) kept
 
 becomes_itself : (t : Trail) (o : ℕ) → TrailBecomes t t o (trail_at t o)
-becomes_itself t o = record { count = refl; here_is = refl; others = λ k other. refl }
+becomes_itself t o = record { kept = refl; count = refl; here_is = refl; others = λ k other. refl }
 
 -- no footprint is put behind it
 pub becomes_none : (t : Trail) (o : ℕ) (ids : Option (List WriteId)) → ((x : List WriteId) → ids ≡ Some x → ⊥)
@@ -79,6 +90,7 @@ becomes_none t o (Some x) none = absurd (none x refl)
 pub becomes_then : (t m n : Trail) (o : ℕ) (ids : Option (List WriteId)) → TrailBecomes t m o (trail_at t o)
     → TrailBecomes m n o (with_footprint (trail_at m o) ids) → TrailBecomes t n o (with_footprint (trail_at t o) ids)
 becomes_then t m n o ids one two = record {
+  kept = two.kept ∙ one.kept;
   count = two.count ∙ one.count;
   here_is = two.here_is ∙ ap (λ (here : List (List WriteId)). with_footprint here ids) one.here_is;
   others = λ k other. two.others k other ∙ one.others k other;
@@ -87,11 +99,18 @@ becomes_then t m n o ids one two = record {
 -- the trail of a trace, of which an object has become what it was
 pub trail_kept : (app : App) (trace : List Entry) (t n : Trail) (o : ℕ) → IsTrailOf app trace t → TrailBecomes t n o (trail_at t o) → IsTrailOf app trace n
 trail_kept app trace t n o is becomes = record {
+  kept = becomes.kept ∙ is.kept;
   count = becomes.count ∙ is.count;
   each = λ k. elim (decide o k) as (λ _. trail_at n k ≡ trail_on app trace k) [
     | inl here ↦ subst (λ (x : ℕ). trail_at n x ≡ trail_on app trace x) here (becomes.here_is ∙ is.each o)
     | inr other ↦ becomes.others k other ∙ is.each k
   ];
+}
+
+pub trail_kept_if : (app : App) (trace : List Entry) (t n : Trail) (o : ℕ) → IsTrailIfKept app trace t → TrailBecomes t n o (trail_at t o) → IsTrailIfKept app trace n
+trail_kept_if app trace t n o is becomes = record {
+  count = becomes.count ∙ is.count;
+  trail = λ kept. trail_kept app trace t n o (is.trail (sym becomes.kept ∙ kept)) becomes;
 }
 
 -- an object of a trail was read, and has become another
@@ -102,24 +121,26 @@ module _ (t : Trail) (o : ℕ) (here new : OnObject) (is : here ≡ get_or t.at.
   trail_here : trail_at t o ≡ here.carried.items
   trail_here = ap carried_in object_is
 
-  becomes_set : (n : Trail) → n.at.items ≡ slice_set t.at.items o new → TrailBecomes t n o new.carried.items
-  becomes_set n items = record {
+  becomes_set : (n : Trail) → n.is_kept ≡ t.is_kept → n.at.items ≡ slice_set t.at.items o new → TrailBecomes t n o new.carried.items
+  becomes_set n kept items = record {
+    kept = kept;
     count = ap (λ (xs : List OnObject). length xs) items ∙ length-set t.at.items o new;
     here_is = ap (λ (xs : List OnObject). carried_in (slice_get xs o)) items ∙ ap carried_in (set_here t.at.items o new within);
     others = λ k other. ap (λ (xs : List OnObject). carried_in (slice_get xs k)) items ∙ ap carried_in (set_other t.at.items o new k other);
   }
 
   -- it may hold what it held
-  pub becomes_same : (n : Trail) → n.at.items ≡ slice_set t.at.items o new → new.carried.items ≡ here.carried.items → TrailBecomes t n o (trail_at t o)
-  becomes_same n items same = subst (TrailBecomes t n o) (same ∙ sym trail_here) (becomes_set n items)
+  pub becomes_same : (n : Trail) → n.is_kept ≡ t.is_kept → n.at.items ≡ slice_set t.at.items o new → new.carried.items ≡ here.carried.items
+      → TrailBecomes t n o (trail_at t o)
+  becomes_same n kept items same = subst (TrailBecomes t n o) (same ∙ sym trail_here) (becomes_set n kept items)
 
   -- or one lineage more
-  pub becomes_put : (n : Trail) → n.at.items ≡ slice_set t.at.items o new → (ids : Option (List WriteId)) (x : List WriteId) → ids ≡ Some x
+  pub becomes_put : (n : Trail) → n.is_kept ≡ t.is_kept → n.at.items ≡ slice_set t.at.items o new → (ids : Option (List WriteId)) (x : List WriteId) → ids ≡ Some x
       → new.carried.items ≡ here.carried.items ++ x ∷ [] → TrailBecomes t n o (with_footprint (trail_at t o) ids)
-  becomes_put n items ids x is more =
+  becomes_put n kept items ids x is more =
       subst (TrailBecomes t n o)
       (more ∙ ap (λ (r : List (List WriteId)). r ++ x ∷ []) (sym trail_here) ∙ ap (with_footprint (trail_at t o)) (sym is))
-      (becomes_set n items)
+      (becomes_set n kept items)
 
 -- ---- which calls leave no trail
 
@@ -201,6 +222,7 @@ module _ (app : App) (trace after : List Entry) (e : Entry) (gets : Gets app tra
   -- it leaves nothing
   pub trail_stays : (t : Trail) → IsTrailOf app trace t → leaves_trail e.call ≡ false → IsTrailOf app after t
   trail_stays t is none = record {
+    kept = is.kept;
     count = is.count;
     each = λ o. is.each o ∙ elim (decide e.object o) as (λ _. trail_on app trace o ≡ trail_on app after o) [
       | inl here ↦ subst (λ (k : ℕ). trail_on app trace k ≡ trail_on app after k) here
@@ -208,6 +230,9 @@ module _ (app : App) (trace after : List Entry) (e : Entry) (gets : Gets app tra
       | inr other ↦ sym (trail_other o other)
     ];
   }
+
+  pub trail_stays_if : (t : Trail) → IsTrailIfKept app trace t → leaves_trail e.call ≡ false → IsTrailIfKept app after t
+  trail_stays_if t is none = record { count = is.count; trail = λ kept. trail_stays t (is.trail kept) none }
 
   -- it leaves what its process was about to leave
   module _ (tree : Tree) (left : tree ≡ process_after app (entries_by e.actor trace)) (object span : ℕ) (wants : want_of tree ≡ Make object span e.call) where
@@ -232,6 +257,7 @@ module _ (app : App) (trace after : List Entry) (e : Entry) (gets : Gets app tra
     pub trail_grows : (t n : Trail) → IsTrailOf app trace t → TrailBecomes t n e.object (with_footprint (trail_at t e.object) (footprint (ask_of tree)))
         → IsTrailOf app after n
     trail_grows t n is becomes = record {
+      kept = becomes.kept ∙ is.kept;
       count = becomes.count ∙ is.count;
       each = λ o. elim (decide e.object o) as (λ _. trail_at n o ≡ trail_on app after o) [
         | inl here ↦ subst (λ (k : ℕ). trail_at n k ≡ trail_on app after k) here
@@ -239,6 +265,16 @@ module _ (app : App) (trace after : List Entry) (e : Entry) (gets : Gets app tra
             ∙ ap (λ (r : List (List WriteId)). with_footprint r (footprint (ask_of tree))) (is.each e.object) ∙ left_there)
         | inr other ↦ becomes.others o other ∙ is.each o ∙ sym (trail_other o other)
       ];
+    }
+
+    pub trail_grows_if : (t n : Trail) → IsTrailIfKept app trace t
+        → TrailBecomes t n e.object (with_footprint (trail_at t e.object) (footprint_in t (ask_of tree))) → IsTrailIfKept app after n
+    trail_grows_if t n is becomes = record {
+      count = becomes.count ∙ is.count;
+      trail = λ kept.
+          let was : t.is_kept ≡ true = sym becomes.kept ∙ kept in
+          trail_grows t n (is.trail was)
+          (subst (λ (ids : Option (List WriteId)). TrailBecomes t n e.object (with_footprint (trail_at t e.object) ids)) (footprint_kept t (ask_of tree) was) becomes);
     }
 
 -- ---- the next entry of a legal trace

@@ -20,7 +20,7 @@ use std::alloc::Global;
 pub struct Aftermath {
     /// How each process ended.
     pub ends: Ends,
-    /// What they carried into their reads, looks and posts.
+    /// What they carried into their reads, looks and posts, where that is kept.
     pub trail: Trail,
 }
 
@@ -67,7 +67,7 @@ impl Going {
     {
         let count = object_count(app) as usize;
         let processes = Processes::new(alloc, count)?;
-        let trail = Trail::new(alloc, count)?;
+        let trail = Trail::new(alloc, count, true)?;
         Ok(Going { processes, trail })
     }
 

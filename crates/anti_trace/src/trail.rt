@@ -2,7 +2,7 @@ ghost use Rattle.std.specs.Prelude.{◌≡◌, ◌<◌, [], length, slice_get, o
 ghost use Rattle.anti_app.specs.declared.app.App.{App};
 ghost use Rattle.anti_proc.specs.Trees.{ask_of};
 ghost use Rattle.anti_proc.specs.inner.Standing.{process_of};
-ghost use Rattle.anti_trace.specs.inner.Trails.{HasRoomAt, IsBare, TrailBecomes, footprint, leaves_trail, trail_at, with_footprint};
+ghost use Rattle.anti_trace.specs.inner.Trails.{HasRoomAt, IsBare, TrailBecomes, footprint_in, leaves_trail, trail_at, with_footprint};
 
 use anti_ids::{Copies, Lineage, NoMemory};
 use anti_kind::Call;
@@ -27,9 +27,10 @@ pub struct OnObject {
     pub(crate) carried: Vec<Lineage>,
 }
 
-/// What processes carried into their reads, looks and posts: of each object, in the order of its history.
+/// What processes carried into their reads, looks and posts: of each object, in the order of its history. One that is not kept holds nothing.
 #[derive(Drop)]
 pub struct Trail {
+    pub(crate) is_kept: bool,
     pub(crate) at: Vec<OnObject>,
 }
 
@@ -44,15 +45,22 @@ impl OnObject {
 }
 
 impl Trail {
-    /// The trail of so many objects, which holds nothing.
-    pub fn new(alloc: Global, count: usize) -> Result<Trail, NoMemory>
-        ensures { IfOk result (λ t. IsBare count t.at.items) }
+    /// The trail of so many objects, which holds nothing yet, and stays so where it is not kept.
+    pub fn new(alloc: Global, count: usize, is_kept: bool) -> Result<Trail, NoMemory>
+        ensures { IfOk result (λ t. IsBare count t.at.items × (t.is_kept ≡ is_kept)) }
     {
         let mut at = Vec::with_capacity(alloc, count)?;
         for _ in 0..count {
             at.push_reserved(OnObject::new(alloc));
         }
-        Ok(Trail { at })
+        Ok(Trail { is_kept, at })
+    }
+
+    /// Whether it is kept.
+    pub fn is_kept(&self) -> bool
+        ensures { result ≡ self.now.is_kept }
+    {
+        self.is_kept
     }
 
     /// The lineage at an index, counted from 0, among those that were carried into the reads, looks and posts of an object. It takes no
@@ -77,7 +85,8 @@ impl Trail {
         Ok(())
     }
 
-    /// A copy of what a process carries into its next call at an object, and room for it there, where the call leaves a trail.
+    /// A copy of what a process carries into its next call at an object, and room for it there, where the call leaves a trail and this is
+    /// kept.
     pub fn prepare(
         &mut self,
         alloc: Global,
@@ -88,8 +97,11 @@ impl Trail {
         ensures same { TrailBecomes self.old self.new object (trail_at self.old object) }
         ensures room { IfOk result (λ carried. IfSome carried (λ _. HasRoomAt self.new object)) }
         ensures carried { (app : App) → IfOk result (λ carried. carried
-            ≡ footprint (ask_of (process_of app process.now))) }
+            ≡ footprint_in self.old (ask_of (process_of app process.now))) }
     {
+        if !self.is_kept {
+            return Ok(None);
+        }
         match process.next() {
             Some(asked) if leaves_trail(asked.call) => {
                 self.reserve(object)?;

@@ -26,7 +26,7 @@ use Rattle.anti_object.specs.declared.object.Object.{Object}
 use Rattle.anti_object.specs.Standing.{object_start}
 use Rattle.anti_trace.specs.declared.processes.AtObject.{AtObject}
 use Rattle.anti_trace.specs.inner.Living.{AreProcessesOf, Grows, born_at, is_named, lists}
-use Rattle.anti_trace.specs.inner.Trails.{IsTrailOf}
+use Rattle.anti_trace.specs.inner.Trails.{IsTrailIfKept}
 use Rattle.anti_play.specs.declared.world.World.{World}
 use Rattle.anti_play.specs.Schedule.{asking_at, made_at, next_call}
 use Rattle.anti_app.specs.Objects.{object_count}
@@ -80,7 +80,7 @@ pub record WorldStands (app : App) (w : World) (trace : List Entry) : Type 0 whe
   pub run : IsLegalTrace app trace
   pub objects : AllStand app w.objects.items trace
   pub processes : AreProcessesOf app (lists w.processes) trace
-  pub trail : IsTrailOf app trace w.trail
+  pub trail : IsTrailIfKept app trace w.trail
   pub carrier : w.carrier ≡ last_stamp (entries_by (Carrier 0) trace)
 
 -- its objects are those of the application after the trace

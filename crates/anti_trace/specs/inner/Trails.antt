@@ -47,6 +47,10 @@ abbrev pub footprint : Option Ask → Option (List WriteId)
 footprint None = None
 footprint (Some ask) = if leaves_trail ask.call then Some ask.carried else None
 
+-- and where the trail is kept
+abbrev pub footprint_in : Trail → Option Ask → Option (List WriteId)
+footprint_in t asked = if t.is_kept then footprint asked else None
+
 -- ---- trails
 
 -- what a trail holds of an object: nothing of one that is not there
@@ -59,8 +63,14 @@ trail_at t o = carried_in (slice_get t.at.items o)
 
 -- the trail of a trace
 pub record IsTrailOf (app : App) (trace : List Entry) (t : Trail) : Type 0 where
+  pub kept : t.is_kept ≡ true
   pub count : length t.at.items ≡ object_count app
   pub each : (o : ℕ) → trail_at t o ≡ trail_on app trace o
+
+-- the same, where it is kept
+pub record IsTrailIfKept (app : App) (trace : List Entry) (t : Trail) : Type 0 where
+  pub count : length t.at.items ≡ object_count app
+  pub trail : t.is_kept ≡ true → IsTrailOf app trace t
 
 -- so many objects, of which nothing is held
 pub record IsBare (count : ℕ) (all : List OnObject) : Type 0 where
@@ -69,6 +79,7 @@ pub record IsBare (count : ℕ) (all : List OnObject) : Type 0 where
 
 -- the trail of one object has become this
 pub record TrailBecomes (before after : Trail) (o : ℕ) (here : List (List WriteId)) : Type 0 where
+  pub kept : after.is_kept ≡ before.is_kept
   pub count : length after.at.items ≡ length before.at.items
   pub here_is : trail_at after o ≡ here
   pub others : (k : ℕ) → (o ≡ k → ⊥) → trail_at after k ≡ trail_at before k
@@ -100,7 +111,7 @@ pub record IsNextIn (app : App) (g : Going) (e : Entry) : Type 0 where
   pub legal : IsLegalTrace app (before ++ e ∷ after)
   pub gone : HasGone app before g
 
--- how the processes of the trace ended, and the trail that they left
+-- how the processes of the trace ended, and the trail that they left, where it is kept
 pub record IsAftermathOf (app : App) (trace : List Entry) (after : Aftermath) : Type 0 where
   pub ends : after.ends.items ≡ ends_of app trace
-  pub trail : IsTrailOf app trace after.trail
+  pub trail : IsTrailIfKept app trace after.trail

@@ -1,8 +1,8 @@
-use Rattle.std.proofs.Common.{List, arith, subst}
+use Rattle.std.proofs.Common.{List, ◌∙◌, arith, subst}
 use Rattle.std.specs.Prelude.{Option}
 use Rattle.anti_ids.specs.declared.id.WriteId.{WriteId}
 use Rattle.anti_trace.specs.inner.Trails.{TrailBecomes, trail_at, with_footprint}
-use Rattle.anti_trace.proofs.Trails.{becomes_then, next_born, next_carried, next_went}
+use Rattle.anti_trace.proofs.Trails.{becomes_then, footprint_kept, next_born, next_carried, next_went}
 use Rattle.anti_trace.proofs.aftermath.note.Goals as goal
 
 pub returns-in_default : goal.returns-in_default
@@ -21,7 +21,7 @@ returns-in_ok-carried-in-Some c = λ app before after sound legal are is.
     let e = c.args.entry.now in
     let n = c.put.new.self in
     next_went app sound before e after legal t is c.in-Process.birth c.in-Process.is c.in-Some.process.now (c.in-Some.ensures app before are) n
-    (subst (λ (ids : Option (List WriteId)). TrailBecomes t n e.object (with_footprint (trail_at t e.object) ids)) (c.in_ok-carried-in-Some.ensures.carried app)
+    (subst (λ (ids : Option (List WriteId)). TrailBecomes t n e.object (with_footprint (trail_at t e.object) ids)) (c.in_ok-carried-in-Some.ensures.carried app ∙ footprint_kept t _ is.kept)
     (becomes_then t c.prepare.new.self n e.object c.in_ok-carried-in-Some.carried c.prepare.ensures.same c.put.ensures))
 
 pub returns-in-None : goal.returns-in-None

@@ -10,10 +10,10 @@ use Rattle.anti_proc.specs.Trees.{ask_of, branch}
 use Rattle.anti_proc.specs.declared.process.Process.{Process}
 use Rattle.anti_play.specs.Schedule.{asking_at}
 use Rattle.anti_trace.specs.inner.Living.{born_at, lists}
-use Rattle.anti_trace.specs.inner.Trails.{TrailBecomes, footprint, trail_at, with_footprint}
+use Rattle.anti_trace.specs.inner.Trails.{TrailBecomes, footprint_in, trail_at, with_footprint}
 use Rattle.anti_play.specs.inner.Standing.{IsAsked, WorldStands}
 use Rattle.anti_trace.proofs.Changed.{room_then}
-use Rattle.anti_trace.proofs.Trails.{becomes_then, trail_kept}
+use Rattle.anti_trace.proofs.Trails.{becomes_then, trail_kept_if}
 use Rattle.anti_play.proofs.Chose.{chose_kept, chose_lost}
 use Rattle.anti_play.proofs.GoNext.{is_next_found}
 use Rattle.anti_play.proofs.GoOn.{IsFound, found_again, go_done, go_lost, goes_asked, goes_run, stops_made}
@@ -83,21 +83,21 @@ put-requires-clause-object c =
 pub returns-in_err-carried-clause-chose : goal.returns-in_err-carried-clause-chose
 returns-in_err-carried-clause-chose c = λ trace s.
     chose_kept c.args.app.now c.args.self.now _ trace _ _ c.from_residual-in_err-carried.ensures.0 s s.objects s.processes
-    (trail_kept c.args.app.now trace c.args.self.now.trail _ c.args.entry.object s.trail c.prepare.ensures.same) refl
+    (trail_kept_if c.args.app.now trace c.args.self.now.trail _ c.args.entry.object s.trail c.prepare.ensures.same) refl
 
 pub returns-in_err-make_room-clause-chose : goal.returns-in_err-make_room-clause-chose
 returns-in_err-make_room-clause-chose c = λ trace s.
     let it = (goal.at.returns-in_err-make_room-clause-chose c).After-get-process in
     go_lost c.args.app.now c.args.self.now trace c.args.birth c.args.at c.requires.entry.next.process s (going it)
     _ _ c.from_residual-in_err-make_room.ensures.0 s.objects c.make_room.ensures.becomes
-    (trail_kept c.args.app.now trace c.args.self.now.trail _ c.args.entry.object s.trail c.prepare.ensures.same) refl
+    (trail_kept_if c.args.app.now trace c.args.self.now.trail _ c.args.entry.object s.trail c.prepare.ensures.same) refl
 
 pub returns-in_err-make_entry-clause-chose : goal.returns-in_err-make_entry-clause-chose
 returns-in_err-make_entry-clause-chose c = λ trace s.
     let it = (goal.at.returns-in_err-make_entry-clause-chose c).After-get-process in
     go_lost c.args.app.now c.args.self.now trace c.args.birth c.args.at c.requires.entry.next.process s (going it)
     _ _ c.from_residual-in_err-make_entry.ensures.0 (c.in_err-make_entry.ensures.err c.args.app.now trace s.objects) c.make_room.ensures.becomes
-    (trail_kept c.args.app.now trace c.args.self.now.trail _ c.args.entry.object s.trail c.prepare.ensures.same) refl
+    (trail_kept_if c.args.app.now trace c.args.self.now.trail _ c.args.entry.object s.trail c.prepare.ensures.same) refl
 
 pub returns-clause-chose : goal.returns-clause-chose
 returns-clause-chose c = λ trace s.
@@ -116,7 +116,7 @@ returns-clause-chose c = λ trace s.
     (c.in_ok-make_entry.ensures.stand app)
     (room_then (lists w.processes) (lists c.make_room.new.self) (lists c.take_over.new.self) c.args.birth.object c.args.at e.stamp a c.make_room.ensures.becomes c.take_over.ensures)
     (subst (λ (ids : Option (List WriteId)). TrailBecomes w.trail c.put.new.self e.object (with_footprint (trail_at w.trail e.object) ids))
-    (c.in_ok-carried.ensures.carried app ∙ ap (λ (x : Process). footprint (ask_of (process_of app x))) same) left)
+    (c.in_ok-carried.ensures.carried app ∙ ap (λ (x : Process). footprint_in w.trail (ask_of (process_of app x))) same) left)
     refl
     (subst (λ (x : Process). full_of x ≡ None → advanced app x a ≡ branch (process_of app x) e.reply) same c.in_ok-advance.ensures.goes c.requires.entry.next.going)
     (subst (λ (x : Process). IsAdvanceOf app x a) same c.in_ok-advance.ensures.run)

@@ -9,5 +9,5 @@ object_count-count-requires c = can_run c.args.app.now c.requires
 pub returns : goal.returns
 returns c = record {
   processes = none_are c.args.app.now _ _ c.in_ok-processes.ensures c.object_count-count.ensures;
-  trail = bare_is c.args.app.now _ _ c.in_ok-trail.ensures c.object_count-count.ensures;
+  trail = bare_is c.args.app.now _ _ c.in_ok-trail.ensures.0 c.object_count-count.ensures c.in_ok-trail.ensures.1;
 }

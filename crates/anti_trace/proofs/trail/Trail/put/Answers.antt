@@ -20,5 +20,5 @@ pub returns : goal.returns
 returns c =
     let here : OnObject = c.index_mut-here.result.now in
     let new : OnObject = record { carried = c.push_reserved.new.self } in
-    becomes_put c.args.self.now c.args.object here new c.index_mut-here.ensures.value c.requires.object _ refl c.args.carried c.in-Some.ids c.in-Some.is
+    becomes_put c.args.self.now c.args.object here new c.index_mut-here.ensures.value c.requires.object _ refl refl c.args.carried c.in-Some.ids c.in-Some.is
     c.push_reserved.ensures.items
