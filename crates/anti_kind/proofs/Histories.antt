@@ -1,6 +1,6 @@
 -- Legal histories: more entries, an induction along them, places, stamps and weights.
-use Rattle.std.proofs.Common.{◌≡◌, ℕ, suc, ◌+◌, ◌<◌, ◌≤◌, max, List, [], ◌∷◌, ◌++◌, length, get_or, All, sym, ap, subst, ◌∙◌, append_assoc, append-nil, ⊎_elim, zero, arith}
-use Rattle.std.proofs.lemmas.List.{length_push, get_or_append_left, get_or_push}
+use Rattle.std.proofs.Common.{◌≡◌, ℕ, suc, ◌+◌, ◌-◌, ◌<◌, ◌≤◌, max, List, [], ◌∷◌, ◌++◌, length, get_or, take, All, sym, ap, subst, ◌∙◌, append_assoc, append-nil, ⊎_elim, zero, arith}
+use Rattle.std.proofs.lemmas.List.{length_push, get_or_append_left, get_or_push, take_all, take_more}
 use Rattle.std.proofs.lemmas.List.Sums.{sum_by_push, sum_by-cons}
 use Rattle.std.proofs.lemmas.List.Quantifiers.{all_pairs_push}
 use Rattle.std.proofs.lemmas.Bool.{leb-true, cases_lt}
@@ -88,6 +88,15 @@ last_is (x ∷ h) e above =
 
 pub last_of_follows : (start : Start) (h : List Entry) (e : Entry) → Follows start h e → last_stamp (h ++ e ∷ []) ≡ e.stamp
 last_of_follows start h e f = last_is h e f.stamp
+
+-- the last entry of a legal history has the last stamp
+pub last_of_legal : (start : Start) (h : List Entry) (e : Entry) → 0 < length h → e ≡ get_or h (length h - 1) e → IsLegal start h → last_stamp h ≡ e.stamp
+last_of_legal start h e some is l =
+    let n : ℕ = length h - 1 in
+    let last : Entry = get_or h n e in
+    let whole : h ≡ take n h ++ last ∷ [] = sym (take_all (n + 1) h (omega arith)) ∙ take_more h n e (omega arith) in
+    ap last_stamp whole ∙ last_of_follows start (take n h) last (follows_in start (take n h) last [] (subst (IsLegal start) whole l))
+    ∙ ap (λ (x : Entry). x.stamp) (sym is)
 
 abbrev pub Ascending : List Entry → Type 0
 Ascending h = (i j : ℕ) (d : Entry) → i < j → j < length h → (get_or h i d).stamp < (get_or h j d).stamp

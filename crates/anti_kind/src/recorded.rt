@@ -1,5 +1,5 @@
 ghost use Rattle.std.specs.Prelude.{◌≡◌, ◌+◌, ◌-◌, ◌^◌, ◌<◌, max, true, false, [], ◌∷◌, ◌++◌, length, IfErr, IfOk, OnOk, OnErr, IsOk};
-ghost use Rattle.anti_kind.specs.Objects.{Follows, IsLegal, due, fits, last_stamp, need, owed, ready};
+ghost use Rattle.anti_kind.specs.Objects.{Follows, IsLegal, Start, due, fits, last_stamp, need, owed, ready};
 ghost use Rattle.anti_kind.specs.Shipments.{IsShip};
 ghost use Rattle.anti_kind.specs.Machines.{StandsFor};
 ghost use Rattle.anti_kind.specs.Entries.{entry_of};
@@ -57,14 +57,28 @@ impl<M: Machine> Recorded<M> {
         ensures ok { IfOk result (λ r. r ≡ record { machine = start; history = [] }) }
         ensures err { IfErr result (λ e. e.0 ≡ start) }
     {
-        let mut history = List::new(alloc);
-        if history.reserve(start.owed()).is_err() {
-            return Err((start, NoMemory));
+        match Recorded::of(start, List::new(alloc)) {
+            Ok(recorded) => Ok(recorded),
+            Err((start, _history, fault)) => Err((start, fault)),
+        }
+    }
+
+    /// A machine with the calls that were made on it: it stands for them. Without memory for the room of its history both are given back
+    /// as they were.
+    pub fn of(machine: M, mut history: History) -> Result<Recorded<M>, (M, History, NoMemory)>
+        requires { StandsFor (M.start machine) (M.Stands machine) history.items }
+        ensures ok { IfOk result (λ r. r ≡ record { machine = machine; history = history.items }) }
+        ensures machine { IfErr result (λ e. e.0 ≡ machine) }
+        ensures history { IfErr result (λ e. e.1 ≡ history) }
+    {
+        let last = stamp_of_last(history.as_slice());
+        if history.reserve(machine.owed()).is_err() {
+            return Err((machine, history, NoMemory));
         }
         Ok(Recorded {
-            machine: start,
+            machine,
             history,
-            last: 0,
+            last,
         })
     }
 
@@ -260,5 +274,16 @@ impl<M: Machine> Recorded<M> {
             Ok(answer) => answer,
             Err(_) => Answer::NotYet,
         }
+    }
+}
+
+// The last stamp of a legal history, which is that of its last entry: 0 where there is none.
+fn stamp_of_last(entries: &[Entry]) -> u64
+    requires { (start : Start) × IsLegal start entries.now }
+    ensures { result ≡ last_stamp entries.now }
+{
+    match entries {
+        [] => 0,
+        [.., last] => last.stamp,
     }
 }
