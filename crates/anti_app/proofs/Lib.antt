@@ -17,3 +17,4 @@ pub mod SoundLemmas
 pub mod Blocks
 pub mod Runnable
 pub mod SubsOn
+pub mod Crossing
