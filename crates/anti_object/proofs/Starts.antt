@@ -1,5 +1,5 @@
 -- What stands at the numbers of an application's objects, and that each of them is a start.
-use Rattle.std.proofs.Common.{◌≡◌, ℕ, ◌+◌, ◌-◌, ◌<◌, ◌≤◌, List, [], ◌∷◌, Bool, true, false, cond, ◌||◌, length, get_or, nat_eq, refl, sym, ap, ◌∙◌, subst, arith, inl, inr}
+use Rattle.std.proofs.Common.{◌≡◌, ℕ, ◌+◌, ◌-◌, ◌<◌, ◌≤◌, List, [], ◌∷◌, Bool, true, false, cond, length, get_or, nat_eq, refl, sym, ap, ◌∙◌, subst, arith, inl, inr}
 use Rattle.std.specs.Prelude.{All, IsTrue, Option, None, Some, option_map, slice_get, flat_map, map, filter}
 use Rattle.std.specs.List.{Contains}
 use Rattle.std.specs.Option.{option_and_then, option_map_or}
@@ -19,6 +19,7 @@ use Rattle.anti_kind.specs.Store.{store_of}
 use Rattle.anti_kind.specs.Starts.{is_pulled, IsStart, IsStore}
 use Rattle.anti_kind.specs.Objects.{Start, store}
 use Rattle.anti_kind.specs.Fulls.{ShowsStay}
+use Rattle.anti_kind.specs.Lones.{IsNumbered}
 use Rattle.anti_kind.proofs.Fullness.{shown_stays}
 use Rattle.anti_app.specs.declared.app.App.{App}
 use Rattle.anti_app.specs.declared.app.StoreDef.{StoreDef}
@@ -211,3 +212,7 @@ start_sound app o start sound there = each_start IsStart app o start there (λ s
 -- and what its regions show stays
 pub start_stays : (app : App) (o : ℕ) (start : Start) → start_of app o ≡ Some start → ShowsStay start
 start_stays app o start there = each_start ShowsStay app o start there (λ s at. shown_stays (store_of s.kind o s.replicas.items (subs_on app o) (tries_of s)) refl) (λ service s. tt)
+
+-- and a store has the number of its object
+pub start_numbered : (app : App) (o : ℕ) (start : Start) → start_of app o ≡ Some start → IsNumbered start o
+start_numbered app o start there = each_start (λ x. IsNumbered x o) app o start there (λ s at. refl) (λ service s. tt)
