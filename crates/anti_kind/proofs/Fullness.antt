@@ -1,7 +1,7 @@
 -- What does not fit never fits again: held and owed never fall together, and no need falls.
 use Rattle.std.proofs.Common.{◌≡◌, ℕ, ◌+◌, ◌<◌, ◌≤◌, Bool, true, not, ◌||◌, ◌==◌, List, [], ◌∷◌, ◌++◌, length, refl, sym, subst, ⊎_elim, append_assoc, append-nil, leb-false, arith}
 use Rattle.std.specs.List.{list_all}
-use Rattle.std.proofs.lemmas.Bool.{lt-leb, and_parts, and_from, or_cases, or_left, or_right, leb-true, le-leb}
+use Rattle.std.proofs.lemmas.Bool.{lt-leb, and_parts, and_from, or_cases, or_left, or_right, leb-true, le-leb, false≢true}
 use Rattle.std.proofs.lemmas.List.Elements.{All-weaker}
 use Rattle.std.proofs.lemmas.List.Sums.{AllPass-from_list_all, list_all-from_AllPass}
 use Rattle.anti_ids.specs.declared.id.WriteId.{WriteId}
@@ -88,7 +88,7 @@ look_ready s h k g ids dry on was =
 post_stays : (requests : List Message) (h k : List Entry) (kind : MessageKind) (to : ℕ) → asks kind ≡ true → post_ready requests h kind to ≡ true → post_ready requests k kind to ≡ true
 post_stays requests h k kinds.Call to on was = refl
 post_stays requests h k kinds.Send to on was = refl
-post_stays requests h k _ to on was = absurd (cc)
+post_stays requests h k _ to on was = absurd (false≢true on)
 
 stays_ready : (start : Start) (h k : List Entry) (c : Call) → is_asking start k c ≡ true → ready start h c ≡ true → ready start k c ≡ true
 stays_ready (store s) h k (Write key value lineage) on was = was
@@ -96,15 +96,15 @@ stays_ready (store s) h k (Read g key) on was = was
 stays_ready (store s) h k (Scan g prefix) on was = was
 stays_ready (store s) h k (Poll g key) on was = was
 stays_ready (store s) h k (Look g ids dry) on was = look_ready s h k g ids dry on was
-stays_ready (store s) h k (Post m) on was = absurd (cc)
-stays_ready (store s) h k _ on was = absurd (cc)
+stays_ready (store s) h k (Post m) on was = absurd (false≢true was)
+stays_ready (store s) h k _ on was = absurd (false≢true on)
 stays_ready (inbox requests) h k (Post m) on was = post_stays requests h k m.kind m.to on was
-stays_ready (inbox requests) h k (Write key value lineage) on was = absurd (cc)
-stays_ready (inbox requests) h k (Read g key) on was = absurd (cc)
-stays_ready (inbox requests) h k (Scan g prefix) on was = absurd (cc)
-stays_ready (inbox requests) h k (Poll g key) on was = absurd (cc)
-stays_ready (inbox requests) h k (Look g ids dry) on was = absurd (cc)
-stays_ready (inbox requests) h k _ on was = absurd (cc)
+stays_ready (inbox requests) h k (Write key value lineage) on was = absurd (false≢true was)
+stays_ready (inbox requests) h k (Read g key) on was = absurd (false≢true was)
+stays_ready (inbox requests) h k (Scan g prefix) on was = absurd (false≢true was)
+stays_ready (inbox requests) h k (Poll g key) on was = absurd (false≢true was)
+stays_ready (inbox requests) h k (Look g ids dry) on was = absurd (false≢true was)
+stays_ready (inbox requests) h k _ on was = absurd (false≢true on)
 
 pub asking_stays_ready : AskingStaysReady
 asking_stays_ready start h rest c stays l on was =

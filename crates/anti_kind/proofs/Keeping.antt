@@ -3,7 +3,7 @@
 use Rattle.std.proofs.Common.{◌≡◌, ℕ, zero, suc, ◌<◌, Bool, true, not, List, [], ◌∷◌, get_or, Option, Some, None, All, refl, sym, ap, subst, ◌∙◌, ◌==◌, leb, eqb-true, arith, unwrap_or}
 use Rattle.std.specs.Prelude.{◌↔◌, bytes_eq, Contains}
 use Rattle.std.proofs.lemmas.List.Elements.{All-nil, All-cons, All-contains}
-use Rattle.std.proofs.lemmas.Bool.{and_parts, both_ways, not-true, true_from_ne_false, le-leb}
+use Rattle.std.proofs.lemmas.Bool.{and_parts, both_ways, not-true, true_from_ne_false, le-leb, false≢true}
 use Rattle.anti_ids.specs.declared.id.WriteId.{WriteId}
 use Rattle.anti_kind.specs.Kinds.{facts_of}
 use Rattle.anti_kind.specs.declared.call.Call.{Call}
@@ -69,7 +69,7 @@ right_by s h g (Poll region key) written l here =
     subst (λ (n : ℕ). IsRight s h n (Poll region key) (shown_row s h region key ∷ [])) (eqb-true region g here) (reads_row s h region key (Poll region key) (λ x. refl) written l)
 right_by s h g (Scan region prefix) written l here =
     subst (λ (n : ℕ). IsRight s h n (Scan region prefix) (scanned s h region prefix)) (eqb-true region g here) (scan_right s h l region prefix written)
-right_by s h g _ written l here = absurd (cc)
+right_by s h g _ written l here = absurd (false≢true here)
 
 pub reads_right : (s : Store) → ShowsWritten s → ReadsRight s
 reads_right s written h g c reading = right_by s h g c written reading.legal reading.is_read
@@ -115,7 +115,7 @@ together_by s is h g (Poll region key) l own can here =
 together_by s is h g (Scan region prefix) l own can here =
     subst (λ (n : ℕ). All (IsTogether s h n (Scan region prefix)) (scanned s h region prefix)) (eqb-true region g here)
     (scan_together s is (scanned_ordered s.kind (and_parts (facts_of s.kind).scanned (is_replica s region) can).0) h l own region prefix)
-together_by s is h g _ l own can here = absurd (cc)
+together_by s is h g _ l own can here = absurd (false≢true here)
 
 pub reads_together : (s : Store) → s.shows ≡ shows_of s.kind → ReadsTogether s
 reads_together s is h g c reading own = together_by s is h g c reading.legal own reading.is_ready reading.is_read

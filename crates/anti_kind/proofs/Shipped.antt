@@ -1,6 +1,6 @@
 -- Only what was written was shipped, and only to replicas.
 use Rattle.std.proofs.Common.{◌≡◌, ℕ, ◌<◌, ◌≤◌, true, false, not, List, [], ◌∷◌, ◌++◌, length, Option, Some, None, refl, sym, ap, ◌∙◌, inl, inr, ⊎_elim, ◌==◌, leb, eqb-true, subst, arith}
-use Rattle.std.proofs.lemmas.Bool.{and_parts, or_cases, cases_lt, leb-true, false_from_ne_true, not-true}
+use Rattle.std.proofs.lemmas.Bool.{and_parts, or_cases, cases_lt, leb-true, false_from_ne_true, not-true, false≢true}
 use Rattle.anti_kind.specs.declared.call.Call.{Call}
 use Rattle.anti_kind.specs.declared.call.Call.TheVariants.{Ship}
 use Rattle.anti_kind.specs.declared.entry.Entry.{Entry}
@@ -66,7 +66,7 @@ ship_same g v p (Ship region version part) yes' =
     let b : version ≡ v = eqb-true version v second.0 in
     let c : part ≡ p = eqb-true part p second.1 in
     cc
-ship_same g v p _ yes' = absurd (cc)
+ship_same g v p _ yes' = absurd (false≢true yes')
 
 abbrev Sound : Store → List Entry → Type 0
 Sound s h = (g v p : ℕ) → is_shipped h g v p ≡ true → IsShipment s h g v p

@@ -3,7 +3,7 @@
 use Rattle.std.proofs.Common.{◌≡◌, ℕ, Bool, true, false, cond, ◌&&◌, List, [], ◌∷◌, ◌++◌, get_or, filter, Option, Some, None, slice_get, All, refl, sym, ap, subst, ◌∙◌, ◌⊎◌, inl, inr, ⊎_elim, ◌==◌, eqb-true, is_some, unwrap_or, option_and_then}
 use Rattle.std.specs.Prelude.{Contains}
 use Rattle.std.specs.List.{list_any, list_all, Any}
-use Rattle.std.proofs.lemmas.Bool.{and_parts, or_cases}
+use Rattle.std.proofs.lemmas.Bool.{and_parts, or_cases, false≢true}
 use Rattle.std.proofs.lemmas.List.{get_or_default}
 use Rattle.std.proofs.lemmas.List.Elements.{All-nil, All-cons}
 use Rattle.std.proofs.lemmas.Option.{slice_get_within, get_or_from_slice_get}
@@ -83,7 +83,7 @@ pull_gives s h l n there =
 
 pub pull_of : (n : ℕ) (c : Call) → is_pull_by n c ≡ true → c ≡ Pull n
 pull_of n (Pull sub) by = ap Pull (eqb-true sub n by)
-pull_of n _ by = absurd (cc)
+pull_of n _ by = absurd (false≢true by)
 
 abbrev PulledThere : List Entry → Type 0
 PulledThere h = (n v : ℕ) → was_pulled h n v ≡ true → (r : Row) × (row_of h v ≡ Some r)

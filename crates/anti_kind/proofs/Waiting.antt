@@ -2,7 +2,7 @@
 use Rattle.std.proofs.Common.{◌≡◌, ℕ, ◌<◌, ◌≤◌, Bool, true, false, not, ◌&&◌, ◌||◌, List, [], ◌∷◌, ◌++◌, length, filter, find, refl, sym, ap, subst, ◌∙◌, append-nil, ◌==◌, leb, eqb-true, arith, is_some}
 use Rattle.std.specs.Prelude.{flat_map}
 use Rattle.std.specs.List.{list_any, list_all, Any}
-use Rattle.std.proofs.lemmas.Bool.{and_parts, and_from, and_left, and_right, or_from, or_left, not-true, not_from_false, both_ways, false_from_ne_true, leb-true, le-leb, leb-false, lt-leb}
+use Rattle.std.proofs.lemmas.Bool.{and_parts, and_from, and_left, and_right, or_from, or_left, not-true, not_from_false, both_ways, false_from_ne_true, leb-true, le-leb, leb-false, lt-leb, false≢true, true≢false}
 use Rattle.std.proofs.lemmas.List.Folds.{list_any_at, list_all_at, Any-from_list_any}
 use Rattle.std.proofs.lemmas.List.Elements.{All-weaker}
 use Rattle.std.proofs.lemmas.List.Sums.{AllPass-from_list_all, list_all-from_AllPass}
@@ -56,7 +56,7 @@ waiting_is_not_ready (store s) h (Look g ids dry) (Version region v) w =
     and_right (is_replica s g) _ (and_right (list_all (λ (id : WriteId). id.store == s.number) ids) _
     (or_from dry _ (not-true dry second.0)
     (or_from (list_all (is_visible s h g) ids) (not (list_all (is_written h) ids)) (not_all_visible s h g v ids third.1) (ap not third.0))))
-waiting_is_not_ready _ h _ _ w = absurd (cc)
+waiting_is_not_ready _ h _ _ w = absurd (false≢true w)
 
 -- A take waits for a delivery.
 
@@ -71,7 +71,7 @@ module _ (requests : List Message) (h : List Entry) (e : Entry) (l : IsLegal (in
   posts_none m is kinds.Request kind off =
       let on : post_ready requests h kinds.Request m.to ≡ true = ap (λ (k : MessageKind). post_ready requests h k m.to) (sym kind) ∙ ap (inbox_ready requests h) (sym is) ∙ follows.is_ready in
       absurd (cc)
-  posts_none m is _ kind off = absurd (cc)
+  posts_none m is _ kind off = absurd (true≢false off)
 
   delivers_none : (c : Call) → e.call ≡ c → reaches (brought c) Delivery ≡ false → delivered e.call e.reply ≡ []
   delivers_none (Post m) is off = posts_none m is m.kind refl off
@@ -178,7 +178,7 @@ waiting_goes_on (store s) h e (Pull sub) (Handout to) whole l was off =
     and_from (sub == to) _ both.0
     (ap not (pull_waits s h e sub l (ships_none e.call to off) (nacks_none e.call to off) (not-true (is_some (next s h sub)) both.1)))
 waiting_goes_on (store s) h e (Look g ids dry) (Version region v) whole l was off = look_waits s whole h e l g ids dry region v off was
-waiting_goes_on _ h e _ _ whole l was off = absurd (cc)
+waiting_goes_on _ h e _ _ whole l was off = absurd (false≢true was)
 
 -- Where nothing is left to be shipped.
 
