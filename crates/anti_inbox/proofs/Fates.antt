@@ -4,7 +4,7 @@ use Rattle.std.specs.List.{range_with_len, Contains}
 use Rattle.std.proofs.lemmas.List.Elements.{All-contains, Contains-append_left, Contains-append_right}
 use Rattle.std.proofs.lemmas.List.Folds.{list_any-append}
 use Rattle.std.proofs.lemmas.List.FromFn.{map-range_with_len_more}
-use Rattle.std.proofs.lemmas.Bool.{false_from_ne_true, lt-ltb, or_cases, or_right}
+use Rattle.std.proofs.lemmas.Bool.{false_from_ne_true, lt-ltb, or_cases, or_right, false≢true}
 use Rattle.anti_kind.specs.declared.call.Call.{Call}
 use Rattle.anti_kind.specs.declared.call.Call.TheVariants.{Repost}
 use Rattle.anti_kind.specs.declared.call.Reply.{Reply}
@@ -42,7 +42,7 @@ reposted_kept h e n off = reposted_more h e n ∙ ap (λ (b : Bool). is_reposted
 -- what is delivered again is among the deliveries
 delivers_it : (c : Call) (r : Reply) (n : ℕ) → reposts n c ≡ true → Contains (delivered c r) n
 delivers_it (Repost k) r n on = (0, omega arith, eqb-true k n on)
-delivers_it _ r n on = absurd (cc)
+delivers_it _ r n on = absurd (false≢true on)
 
 among_deliveries : (h : List Entry) (n : ℕ) → is_reposted h n ≡ true → Contains (flat_map (λ (e : Entry). delivered e.call e.reply) h) n
 among_deliveries [] n on = absurd (cc)

@@ -1,7 +1,7 @@
 -- What happens at most once in a legal history of an inbox.
 use Rattle.std.proofs.Common.{◌≡◌, ℕ, ◌+◌, ◌-◌, ◌≤◌, Bool, true, false, not, cond, ◌&&◌, ◌||◌, List, [], ◌∷◌, ◌++◌, length, get_or, Option, Some, None, count_by, refl, sym, ap, ◌∙◌, ◌==◌, leb, eqb-true, append-nil, length-append, arith}
 use Rattle.std.specs.List.{list_any, Contains}
-use Rattle.std.proofs.lemmas.Bool.{and_parts, not-true, leb-true, le-leb, or_right}
+use Rattle.std.proofs.lemmas.Bool.{and_parts, not-true, leb-true, le-leb, or_right, false≢true}
 use Rattle.std.proofs.lemmas.List.Folds.{list_any-append}
 use Rattle.std.proofs.lemmas.List.Sums.{sum_by_push}
 use Rattle.std.proofs.lemmas.List.Elements.{All-contains, filter_passes}
@@ -77,7 +77,7 @@ module _ (requests : List Message) (h : List Entry) (e : Entry) (f : Follows (in
       let k : ℕ = get_or (free requests h) (nth - 1) 0 in
       let new : not (is_taken h k) ≡ true = filter_passes (λ j. not (is_taken h j)) (deliveries requests h) (nth - 1) 0 (omega (arith, there.0, there.1)) in
       got_new nth k n (numbered (messages requests h) k) (not-true (is_taken h k) new) (ap (takes n (Take nth)) (sym (reply_at nth is)) ∙ on)
-  takes_new n _ is on = absurd (cc)
+  takes_new n _ is on = absurd (false≢true on)
 
   -- Replies.
 
@@ -85,7 +85,7 @@ module _ (requests : List Message) (h : List Entry) (e : Entry) (f : Follows (in
   hears_new n (TakeReply k) is on =
       let parts = and_parts (has_reply h k) (not (reply_is_taken h k)) (ready_by (TakeReply k) is) in
       ap (reply_is_taken h) (sym (eqb-true k n on)) ∙ not-true (reply_is_taken h k) parts.1
-  hears_new n _ is on = absurd (cc)
+  hears_new n _ is on = absurd (false≢true on)
 
   -- a reply comes only where there was none
   abbrev Adds : ℕ → List Message → Type 0
@@ -161,8 +161,8 @@ needs_none (TakeReply n) on = refl
 needs_none (Post m) on = by_kind m.kind on where
   by_kind : (k : MessageKind) → is_reply k ≡ true → post_need k ≡ 0
   by_kind kinds.Reply on = refl
-  by_kind _ on = absurd (cc)
-needs_none _ on = absurd (cc)
+  by_kind _ on = absurd (false≢true on)
+needs_none _ on = absurd (false≢true on)
 
 pub reserved_fits : (requests : List Message) (h : List Entry) (c : Call) → IsStart (inbox requests) → IsLegal (inbox requests) h → is_reserved c ≡ true → fits (inbox requests) h c ≡ true
 reserved_fits requests h c sane legal on =
