@@ -134,7 +134,6 @@ impl Inbox {
 }
 
 // The fates of so many messages, to which nothing has happened.
-#[tactic(auto, using(crate::proofs::Fates::untouched_more))]
 fn fates(alloc: Global, count: usize) -> Result<Vec<Fate>, NoMemory>
     ensures { IfOk result (λ v. v.items ≡ map (fate_of []) (range_with_len 1 count)) }
 {
@@ -152,7 +151,6 @@ fn fates(alloc: Global, count: usize) -> Result<Vec<Fate>, NoMemory>
 }
 
 // The numbers from 1 to a count.
-#[tactic(auto, using(crate::proofs::Lists::range_more))]
 fn numbers(alloc: Global, count: usize) -> Result<Vec<u32>, NoMemory>
     requires { count < 2 ^ 32 }
     ensures { IfOk result (λ v. v.items ≡ range_with_len 1 count) }
