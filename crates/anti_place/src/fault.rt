@@ -5,7 +5,7 @@ ghost use Rattle.anti_place.specs.inner.Joined.{at_line, turned_fault};
 use crate::reason::Reason;
 
 /// A line of a body that fails, and why.
-#[derive(Clone, Copy, Debug, PartialEq, Eq)]
+#[derive(Clone, Copy)]
 pub struct Fault {
     /// The line in the body, counted from 1. The end of the body has the line behind its last one.
     pub line: u32,

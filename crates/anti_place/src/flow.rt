@@ -2,7 +2,7 @@ ghost use Rattle.std.specs.Prelude.{◌≡◌};
 ghost use Rattle.anti_place.specs.inner.Joined.{either, is_stop, left, then_flow, turned_flow};
 
 /// What all ways through some statements together do to a doubt.
-#[derive(Clone, Copy, PartialEq, Eq)]
+#[derive(Clone, Copy)]
 pub enum Flow {
     /// No way comes out.
     Stops,

@@ -16,7 +16,7 @@ use anti_app::{App, HandlerDef};
 use anti_lang::Body;
 
 /// Whether barriers, transfers and roots stand where they must.
-#[derive(Clone, Copy, Debug, PartialEq, Eq)]
+#[derive(Clone, Copy, PartialEq, Eq)]
 pub enum Placement {
     /// They stand where they must.
     Yes,

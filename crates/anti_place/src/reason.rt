@@ -1,5 +1,5 @@
 /// Why a line fails.
-#[derive(Clone, Copy, Debug, PartialEq, Eq)]
+#[derive(Clone, Copy, PartialEq, Eq)]
 pub enum Reason {
     /// It takes an id out of the lineage.
     Removed,
