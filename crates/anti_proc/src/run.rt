@@ -116,23 +116,23 @@ impl<'a> Way<'a> {
         }
     }
 
-    // How it goes on to the call or the end that is given, or, where none is, by what its body does then.
-    fn go(mut self, stage: Option<Stage>) -> Result<Result<Going, BodyEnd>, NoMemory>
-        requires app { CanRun self.app.now }
-        requires spans { HasSpans self.app.now self.given.now.role self.cursor self.changes.span }
-        ensures goes { let way = self.entry in IfOk result (λ gone.
-            going_tree way.app.now way.given.now way.before.now gone
-            ≡ stage_or stage (setting_in way) (local_in way)
-            (going way.app.now way.given.now way.cursor)) }
-        ensures spans { let way = self.entry in IfOk result (λ gone. IfOk gone (λ g.
-            HasSpans way.app.now way.given.now.role g.cursor g.changes.span)) }
+    // The call or the end that is given, or, where none is, the one to which its body goes on.
+    fn go(&mut self, stage: Option<Stage>) -> Result<Stage, NoMemory>
+        requires app { CanRun self.old.app.now }
+        requires spans { HasSpans self.old.app.now self.old.given.now.role self.old.cursor
+            self.old.changes.span }
+        ensures goes { IfOk result (λ next.
+            stage_tree next (setting_in self.old) (local_in self.new)
+            (going self.old.app.now self.old.given.now self.new.cursor)
+            ≡ stage_or stage (setting_in self.old) (local_in self.old)
+            (going self.old.app.now self.old.given.now self.old.cursor)) }
+        ensures spans { OnOk result (HasSpans self.old.app.now self.old.given.now.role
+            self.new.cursor self.new.changes.span) }
+        ensures before { self.new.before ≡ self.old.before }
     {
         match stage {
-            Some(stage) => Ok(self.going(stage)),
-            None => {
-                let stage = self.settle()?;
-                Ok(self.going(stage))
-            }
+            Some(stage) => Ok(stage),
+            None => self.settle(),
         }
     }
 }
@@ -217,7 +217,7 @@ fn set_out<'a>(
         HasSpans app.now given.now.role g.cursor g.changes.span)) }
 {
     let cursor = Cursor::start(given.alloc);
-    let way = Way {
+    let mut way = Way {
         app,
         given,
         before: &[],
@@ -225,7 +225,8 @@ fn set_out<'a>(
         cursor,
         changes,
     };
-    way.go(None)
+    let stage = way.go(None)?;
+    Ok(way.going(stage))
 }
 
 // The baggage of a message, where there is one.
@@ -271,7 +272,7 @@ impl Run {
             return Err(NoMemory);
         };
         let before = self.state.variables.as_slice();
-        let way = Way {
+        let mut way = Way {
             app,
             given: &self.given,
             before,
@@ -279,10 +280,10 @@ impl Run {
             cursor,
             changes,
         };
-        let Ok(gone) = way.go(stage) else {
+        let Ok(stage) = way.go(stage) else {
             return Err(NoMemory);
         };
-        match gone {
+        match way.going(stage) {
             Err(end) => Ok(Advance::Over(end)),
             Ok(going) => match Box::new(self.given.alloc, going) {
                 Ok(going) => Ok(Advance::Goes(going)),

@@ -1,6 +1,6 @@
-use Rattle.std.proofs.Common.{◌∙◌, ℕ, sym, subst}
+use Rattle.std.proofs.Common.{◌∙◌, ℕ, ap, sym, subst}
 use Rattle.std.specs.Prelude.{[]}
-use Rattle.std.proofs.lemmas.Result.{IfOk-weaker}
+use Rattle.anti_proc.specs.inner.Going.{going_tree}
 use Rattle.anti_proc.specs.inner.Running.{HasSpans}
 use Rattle.anti_proc.specs.inner.Standing.{local_by}
 use Rattle.anti_proc.proofs.Settling.{begins, begins_spans}
@@ -13,6 +13,7 @@ go-requires-clause-spans c =
 
 pub returns-clause-tree : goal.returns-clause-tree
 returns-clause-tree c =
-    IfOk-weaker c.go.result _ _
-    (λ gone goes. goes ∙ begins c.args.app.now c.args.given.now c.start-cursor.result (local_by c.args.changes []) c.start-cursor.ensures)
-    c.go.ensures.goes
+    ap (λ before. going_tree c.args.app.now c.args.given.now before.now c.going.result) (sym c.go.ensures.before)
+    ∙ c.going.ensures.goes c.args.app.now c.args.given.now
+    ∙ c.in_ok-stage.ensures.goes
+    ∙ begins c.args.app.now c.args.given.now c.start-cursor.result (local_by c.args.changes []) c.start-cursor.ensures
