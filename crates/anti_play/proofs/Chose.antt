@@ -66,7 +66,7 @@ bear_done app sound w n trace object call e p s is m objects changes trail carri
     chose_made app n trace (made_at app trace (bearing trace object call)) e m
     (record {
       run = st.run;
-      objects = objects trace (put e trace) s.objects st.gets.grows;
+      objects = objects trace (put e trace) s.objects st.grows;
       processes = born_are app (lists w.processes) trace (put e trace) s.processes e st.gets (lists n.processes) p at unborn new changes;
       trail = trail_stays_if app trace (put e trace) e st.gets st.before n.trail trail (bears_none e.call (ap bears st.call ∙ is));
       carrier = carrier ∙ s.carrier ∙ sym (ap (λ (x : List Entry). last_stamp x) (st.gets.others (Carrier 0) none));
@@ -85,7 +85,7 @@ carry_done app sound w n trace object call e s is m objects processes trail carr
     chose_made app n trace (made_at app trace (carrying trace object call)) e m
     (record {
       run = st.run;
-      objects = objects trace (put e trace) s.objects st.gets.grows;
+      objects = objects trace (put e trace) s.objects st.grows;
       processes = carried_are app (lists n.processes) trace (put e trace) processes e st.gets
           (λ b is. (let both : Acting b ≡ Carrier 0 = sym is ∙ at in absurd (cc)));
       trail = trail_stays_if app trace (put e trace) e st.gets st.before n.trail trail (carries_none e.call (ap carries st.call ∙ is));

@@ -28,13 +28,13 @@ module _ (app : App) (w : World) (trace : List Entry) (o : ℕ) (s : WorldStands
   bs = births (entries_on o trace)
 
   pub born_length : length ps ≡ length bs
-  born_length = sym (as_many app trace s.run o (lists w.processes) s.processes.born)
+  born_length = sym (as_many trace o (lists w.processes) s.processes.born)
 
   -- the process at a place is that of the birth at it
   pub birth_is : (i : ℕ) (p : Process) (e : Entry) → slice_get ps i ≡ Some p → birth_of p ≡ birth_at (get_or bs i e)
   birth_is i p e at =
       ap (λ (x : Process). birth_of x) (sym (get_or_from_slice_get ps i p p at))
-      ∙ birth_of_at app trace s.run o (lists w.processes) s.processes.born i p e (slice_get_within ps i p at)
+      ∙ birth_of_at trace o (lists w.processes) s.processes.born i p e (slice_get_within ps i p at)
 
   order : AreInOrder o ps
   order = in_order app trace s.run o (lists w.processes) s.processes.born

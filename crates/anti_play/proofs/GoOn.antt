@@ -126,7 +126,7 @@ module _ (app : App) (w : World) (trace : List Entry) (b : Birth) (i : ℕ) (p :
         chose_made app n trace chosen_next e (asks_next ∙ m)
         (record {
           run = st.run;
-          objects = objects trace (put e trace) s.objects st.gets.grows;
+          objects = objects trace (put e trace) s.objects st.grows;
           processes = went_are app (lists w.processes) trace (put e trace) s.processes e st.gets b actor i g.found (was_born e st.place st.object) before
               (lists n.processes) a becomes
               (subst (λ (x : Process). full_of x ≡ None) old going)

@@ -62,7 +62,7 @@ module _ (objects : List (Record Object)) (e : Entry) (r n : Record Object) (is 
   all_grow made app before after all grows =
       let here : IsObject app e.object r (entries_on e.object before) = object_at app objects before e.object r all is inside in
       all_with app objects e.object n inside same_start before after all
-      (made ∙ ap (λ (h : List Entry). h ++ e ∷ []) here.history ∙ sym grows.here) grows.others
+      (made ∙ ap (λ (h : List Entry). h ++ e ∷ []) here.history ∙ sym grows.extends.here) grows.extends.others
 
   pub all_kept : n.history ≡ r.history → (app : App) (before : List Entry) → AllStand app objects before → AllStand app (slice_set objects e.object n) before
   all_kept kept app before all =

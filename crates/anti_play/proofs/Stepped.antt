@@ -15,7 +15,7 @@ use Rattle.anti_app.specs.Objects.{object_count}
 use Rattle.anti_play.specs.declared.world.World.{World}
 use Rattle.anti_play.specs.Schedule.{clock_of, next_entry, made_at}
 use Rattle.anti_trace.specs.Legal.{IsLegalTrace, bears}
-use Rattle.anti_trace.specs.inner.Living.{Gets, lists}
+use Rattle.anti_trace.specs.inner.Living.{Extends, Gets, Grows, lists}
 use Rattle.anti_play.specs.inner.Standing.{IsAsked, MayGrow, WorldStands}
 use Rattle.anti_play.proofs.MadeAt.{Made, made_of}
 use Rattle.anti_trace.proofs.Starting.{starts}
@@ -23,6 +23,7 @@ use Rattle.anti_play.proofs.RunMore.{entry_follows, it_known, run_more, run_hist
 
 pub record Stepped (app : App) (trace : List Entry) (q : Asking) (e : Entry) : Type 0 where
   pub run : IsLegalTrace app (put e trace)
+  pub grows : Grows app trace (put e trace) e
   pub gets : Gets app trace (put e trace) e
   pub before : All (λ d. d.stamp < e.stamp) (entries_by e.actor trace)
   pub object : e.object ≡ q.object
@@ -35,15 +36,20 @@ pub record Stepped (app : App) (trace : List Entry) (q : Asking) (e : Entry) : T
 pub stepped : (app : App) (trace : List Entry) (q : Asking) (e : Entry) → IsTrue (is_sound app) → IsLegalTrace app trace → IsAsked app trace q → q.clock ≡ clock_of q.actor trace
     → Made app trace q e → Stepped app trace q e
 stepped app trace q e sound run asks clock m =
+    let it : Entry = next_entry m.start (entries_on q.object trace) q in
+    let extends : Extends trace (put it trace) it = record {
+      here = run_history app trace run q m.start m.there m.is_ready m.is_fit asks clock;
+      others = run_others app trace run q m.start m.there m.is_ready m.is_fit asks clock;
+    } in
     subst (λ (x : Entry). Stepped app trace q x) (sym m.is) (record {
       run = run_more app trace run q m.start m.there m.is_ready m.is_fit asks clock;
+      grows = record {
+        extends = extends;
+        follows = λ start at. subst (λ (s : Start). Follows s (entries_on q.object trace) it) (let same : m.start ≡ start = let both : Some m.start ≡ Some start = sym m.there ∙ at in cc in same)
+            (entry_follows m.start (entries_on q.object trace) q m.is_ready m.is_fit);
+      };
       gets = record {
-        grows = record {
-          here = run_history app trace run q m.start m.there m.is_ready m.is_fit asks clock;
-          others = run_others app trace run q m.start m.there m.is_ready m.is_fit asks clock;
-          follows = λ start at. subst (λ (s : Start). Follows s (entries_on q.object trace) (next_entry m.start (entries_on q.object trace) q)) (let same : m.start ≡ start = let both : Some m.start ≡ Some start = sym m.there ∙ at in cc in same)
-              (entry_follows m.start (entries_on q.object trace) q m.is_ready m.is_fit);
-        };
+        grows = extends;
         own = run_actor app trace run q m.start m.there m.is_ready m.is_fit asks clock;
         others = run_other_actors app trace run q m.start m.there m.is_ready m.is_fit asks clock;
       };
@@ -69,7 +75,7 @@ module _ (app : App) (sound : IsTrue (is_sound app)) (w : World) (trace : List E
   pub starts_task : bears q.call ≡ true → task_of app e ≡ None → ⊥
   starts_task bearing =
       let there = start_there app e.object (let at : e.object ≡ q.object = step.object in let known : q.object < object_count app = step.known in omega arith) in
-      starts app sound (entries_on e.object trace) e (ap bears step.call ∙ bearing) reply_of there.0 (stands.run.histories e.object there.0 there.1) (step.gets.grows.follows there.0 there.1) there.1
+      starts app sound (entries_on e.object trace) e (ap bears step.call ∙ bearing) reply_of there.0 (stands.run.histories e.object there.0 there.1) (step.grows.follows there.0 there.1) there.1
 
   pub may_grow : MayGrow w.objects.items e
   may_grow = record {
@@ -77,7 +83,7 @@ module _ (app : App) (sound : IsTrue (is_sound app)) (w : World) (trace : List E
     before = trace;
     after = put e trace;
     stand = stands.objects;
-    grows = step.gets.grows;
+    grows = step.grows;
     known = let a : e.object ≡ q.object = step.object in let b : q.object < object_count app = step.known in let count : length w.objects.items ≡ object_count app = stands.objects.count in omega arith;
   }
 

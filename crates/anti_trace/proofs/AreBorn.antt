@@ -10,13 +10,12 @@ use Rattle.anti_kind.specs.declared.actor.Actor.{Actor}
 use Rattle.anti_kind.specs.declared.actor.Actor.TheVariants.{Carrier, Process as Acting, Newborn}
 use Rattle.anti_kind.specs.declared.actor.Birth.{Birth}
 use Rattle.anti_kind.specs.declared.entry.Entry.{Entry}
-use Rattle.anti_app.specs.declared.app.App.{App}
 use Rattle.anti_trace.specs.Traces.{entries_on}
 use Rattle.anti_proc.specs.declared.process.Process.{Process}
 use Rattle.anti_proc.specs.Births.{birth_at, births, is_birth, is_started_by}
 use Rattle.anti_proc.specs.inner.Standing.{birth_of}
 use Rattle.anti_trace.specs.declared.processes.AtObject.{AtObject}
-use Rattle.anti_trace.specs.inner.Living.{born_at, AreBorn, Changes, Grows}
+use Rattle.anti_trace.specs.inner.Living.{born_at, AreBorn, Changes, Extends}
 use Rattle.anti_trace.proofs.Living.{decide}
 
 -- ---- which entries are births
@@ -58,9 +57,9 @@ same_changed ps ns o changes k =
       | inr other ↦ changes.others k other
     ]
 
--- ---- as the trace grows
+-- ---- as the histories grow
 
-module _ (app : App) (ps : List AtObject) (trace after : List Entry) (e : Entry) (born : AreBorn ps trace) (grows : Grows app trace after e) where
+module _ (ps : List AtObject) (trace after : List Entry) (e : Entry) (born : AreBorn ps trace) (grows : Extends trace after e) where
   born_others : (ns : List AtObject) → (o : ℕ) → (e.object ≡ o → ⊥) → born_at ns o ≡ born_at ps o → map birth_of (born_at ns o) ≡ map birth_at (births (entries_on o after))
   born_others ns o other same =
       ap (λ (xs : List Process). map birth_of xs) same ∙ born o ∙ sym (ap (λ (h : List Entry). map birth_at (births h)) (grows.others o other))

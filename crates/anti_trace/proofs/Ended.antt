@@ -132,11 +132,11 @@ module _ (app : App) (trace : List Entry) (legal : IsLegalTrace app trace) (all 
     on = each_lives i d lt
 
     named : birth_of p ≡ birth_at e
-    named = birth_is app trace legal o all are.born i d c lt
+    named = birth_is trace o all are.born i d c lt
 
     birth_same : on.birth ≡ e
     birth_same =
-        let count = as_many app trace legal o all are.born in
+        let count = as_many trace o all are.born in
         let life : IsLife app (birth_of p) (on.birth ∷ on.later) = subst (IsLife app (birth_of p)) on.entries_are (legal.actors (Acting (birth_of p))) in
         let here : on.birth.object ≡ o = ap (λ (b : Birth). b.object) life.0.named ∙ order.here i d lt in
         let place : on.birth.place ≡ e.place = ap (λ (b : Birth). b.place) (life.0.named ∙ named) in
@@ -153,7 +153,7 @@ module _ (app : App) (trace : List Entry) (legal : IsLegalTrace app trace) (all 
 
   pub ends_here : map (shown_end app trace) ps ≡ ends_on app trace o
   ends_here =
-      zipped (shown_end app trace) (ends_as app trace) ps es (sym (as_many app trace legal o all are.born))
+      zipped (shown_end app trace) (ends_as app trace) ps es (sym (as_many trace o all are.born))
       (λ i d c lt. ends_shown i d c lt)
 
 -- ---- object by object

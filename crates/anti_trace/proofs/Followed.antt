@@ -56,11 +56,7 @@ goes_on app trace after e gets o =
 module _ (app : App) (before : List Entry) (e : Entry) (later : List Entry) (legal : IsLegalTrace app (before ++ e ∷ later)) where
   pub gets_next : Gets app before (before ++ e ∷ []) e
   gets_next = record {
-    grows = record {
-      here = entries_on_next before e;
-      others = λ o other. entries_on_past o before e other;
-      follows = follows_before app (before ++ e ∷ later) legal before e later refl;
-    };
+    grows = record { here = entries_on_next before e; others = λ o other. entries_on_past o before e other };
     own = filter_cut (is_by e.actor) before e [] (same_actor_itself e.actor);
     others = λ a other.
         filter-append (is_by a) before (e ∷ [])
@@ -122,7 +118,7 @@ module _ (app : App) (ps : List AtObject) (trace after : List Entry) (are : AreP
   pub carried_are : ((b : Birth) → e.actor ≡ Acting b → ⊥) → AreProcessesOf app ps after
   carried_are none = record {
     count = are.count;
-    born = born_kept app ps trace after e are.born gets.grows ps (no_birth e (none (birth_at e))) (λ o. refl);
+    born = born_kept ps trace after e are.born gets.grows ps (no_birth e (none (birth_at e))) (λ o. refl);
     live = live_kept app ps trace after are.live e (goes_on app trace after e gets) gets.own gets.others none;
   }
 
@@ -131,7 +127,7 @@ module _ (app : App) (ps : List AtObject) (trace after : List Entry) (are : AreP
       → Changes ps ns e.object (born_at ps e.object ++ p ∷ []) → AreProcessesOf app ns after
   born_are ns p at unborn new changes = record {
     count = changes.count ∙ are.count;
-    born = born_more app ps trace after e are.born gets.grows ns p (is_birth_itself e at) new.birth changes;
+    born = born_more ps trace after e are.born gets.grows ns p (is_birth_itself e at) new.birth changes;
     live = live_born app ps trace after are.live e (goes_on app trace after e gets) gets.own gets.others (birth_at e) at p new.birth unborn
         new.tree new.clock new.full new.run new.role ns changes;
   }
@@ -150,7 +146,7 @@ module _ (app : App) (ps : List AtObject) (trace after : List Entry) (are : AreP
         let named : (d : Process) → birth_of then ≡ birth_of (get_or here i d) = λ d. by.birth ∙ ap (λ (x : Process). birth_of x) (sym (at_old d)) in
         record {
           count = becomes.changes.count ∙ are.count;
-          born = born_kept app ps trace after e are.born gets.grows ns
+          born = born_kept ps trace after e are.born gets.grows ns
               (no_birth e (λ is. other (let both : Acting b ≡ Acting (birth_at e) = sym at ∙ is in cc)))
               (births_set ps ns b i then becomes.changes named);
           live = live_went app ps trace after are.live e (goes_on app trace after e gets) gets.own gets.others b at then i found named

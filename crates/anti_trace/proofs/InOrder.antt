@@ -27,27 +27,14 @@ use Rattle.anti_trace.specs.inner.Living.{AreBorn, AreInOrder, IsCountBefore, bo
 use Rattle.anti_trace.proofs.AllLive.{found_at}
 use Rattle.anti_trace.proofs.Puts.{same_actor_itself, same_actor_true, same_birth}
 
--- ---- the births of a legal trace
+-- ---- the births on an object
 
 -- an item of a list that has one
 pub an_item : {X : Type 0} (xs : List X) → 0 < length xs → X
 an_item [] some = absurd (omega arith)
 an_item (x ∷ xs) some = x
 
-module _ (app : App) (trace : List Entry) (legal : IsLegalTrace app trace) (o : ℕ) where
-  -- the entries on an object have the places 1, 2, ..
-  pub placed_on : Placed (entries_on o trace)
-  placed_on i d lt =
-      let it : Entry = get_or (entries_on o trace) i d in
-      let here : it.object ≡ o = eqb-true it.object o (filter_passes (is_on o) trace i d lt) in
-      let low : it.object < object_count app = All-filter (is_on o) (λ e. e.object < object_count app) trace legal.there i d lt in
-      let there : (start : Start) × (start_of app o ≡ Some start) = start_there app o (omega (arith, low, here)) in
-      placed there.0 (entries_on o trace) (legal.histories o there.0 there.1) i d lt
-
-  births_ascend : AllPairs (λ d e. d.place < e.place) (births (entries_on o trace))
-  births_ascend = AllPairs-filter (λ (d e : Entry). d.place < e.place) is_birth (entries_on o trace)
-      (λ i j d less short. let one = placed_on i d (omega arith) in let two = placed_on j d short in omega arith)
-
+module _ (trace : List Entry) (o : ℕ) where
   births_here : All (λ e. e.object ≡ o) (births (entries_on o trace))
   births_here = All-filter is_birth (λ (e : Entry). e.object ≡ o) (entries_on o trace)
       (λ i d lt. eqb-true (get_or (entries_on o trace) i d).object o (filter_passes (is_on o) trace i d lt))
@@ -68,9 +55,9 @@ module _ (app : App) (trace : List Entry) (legal : IsLegalTrace app trace) (o : 
         sym (get_or-map birth_of ps i p (birth_of p) lt) ∙ ap (λ (bs : List Birth). get_or bs i (birth_of p)) (born o)
         ∙ get_or-map birth_at es i e (birth_of p) (omega (arith, count))
 
-    -- so do the processes that were born there
-    pub in_order : AreInOrder o ps
-    in_order = record {
+    -- where the places of the entries ascend, those of the births of the processes that were born there do
+    pub order_by_places : AllPairs (λ d e. d.place < e.place) (entries_on o trace) → AreInOrder o ps
+    order_by_places ascend = record {
       here = λ i p lt.
           let count = as_many in
           let e : Entry = an_item es (omega (arith, count, lt)) in
@@ -80,9 +67,25 @@ module _ (app : App) (trace : List Entry) (legal : IsLegalTrace app trace) (o : 
           let e : Entry = an_item es (omega (arith, count, short)) in
           let one : (birth_of (get_or ps i p)).place ≡ (get_or es i e).place = ap (λ (b : Birth). b.place) (birth_is i p e (omega (arith, less, short))) in
           let two : (birth_of (get_or ps j p)).place ≡ (get_or es j e).place = ap (λ (b : Birth). b.place) (birth_is j p e short) in
-          let less : (get_or es i e).place < (get_or es j e).place = births_ascend i j e less (omega (arith, count)) in
+          let less : (get_or es i e).place < (get_or es j e).place =
+          AllPairs-filter (λ (c d : Entry). c.place < d.place) is_birth (entries_on o trace) ascend i j e less (omega (arith, count)) in
           omega arith;
     }
+
+-- in a legal trace they do
+module _ (app : App) (trace : List Entry) (legal : IsLegalTrace app trace) (o : ℕ) where
+  -- the entries on an object have the places 1, 2, ..
+  pub placed_on : Placed (entries_on o trace)
+  placed_on i d lt =
+      let it : Entry = get_or (entries_on o trace) i d in
+      let here : it.object ≡ o = eqb-true it.object o (filter_passes (is_on o) trace i d lt) in
+      let low : it.object < object_count app = All-filter (is_on o) (λ e. e.object < object_count app) trace legal.there i d lt in
+      let there : (start : Start) × (start_of app o ≡ Some start) = start_there app o (omega (arith, low, here)) in
+      placed there.0 (entries_on o trace) (legal.histories o there.0 there.1) i d lt
+
+  pub in_order : (all : List AtObject) → AreBorn all trace → AreInOrder o (born_at all o)
+  in_order all born = order_by_places trace o all born
+      (λ i j d less short. let one = placed_on i d (omega arith) in let two = placed_on j d short in omega arith)
 
 -- ---- the process of a birth
 

@@ -64,4 +64,13 @@ impl Trace {
     {
         self.entries.as_slice()
     }
+
+    /// The entries, taken out.
+    pub fn into_entries(self) -> Vec<Entry>
+        ensures entries { result.items ≡ self }
+        ensures order { IsTrace result.items }
+        ensures few { length result.items < 2 ^ 32 }
+    {
+        self.entries
+    }
 }

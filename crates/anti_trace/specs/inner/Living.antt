@@ -150,15 +150,19 @@ pub record NoneBorn (count : ℕ) (all : List AtObject) : Type 0 where
   pub many : length all ≡ count
   pub none : (o : ℕ) → born_at all o ≡ []
 
--- the trace behind an entry that was put into it: its object's history gets it at the end, the others stay
-pub record Grows (app : App) (before after : List Entry) (e : Entry) : Type 0 where
+-- the history of an entry's object gets it at its end, and the others stay
+pub record Extends (before after : List Entry) (e : Entry) : Type 0 where
   pub here : entries_on e.object after ≡ entries_on e.object before ++ e ∷ []
   pub others : (o : ℕ) → (e.object ≡ o → ⊥) → entries_on o after ≡ entries_on o before
+
+-- and it may come next there, as an entry does that is put into a trace
+pub record Grows (app : App) (before after : List Entry) (e : Entry) : Type 0 where
+  pub extends : Extends before after e
   pub follows : (start : Start) → start_of app e.object ≡ Some start → Follows start (entries_on e.object before) e
 
--- so its actor's entries get it at their end, and those of the others stay
+-- its actor's entries get it at their end too, and those of the others stay
 pub record Gets (app : App) (before after : List Entry) (e : Entry) : Type 0 where
-  pub grows : Grows app before after e
+  pub grows : Extends before after e
   pub own : entries_by e.actor after ≡ entries_by e.actor before ++ e ∷ []
   pub others : (a : Actor) → (e.actor ≡ a → ⊥) → entries_by a after ≡ entries_by a before
 

@@ -145,5 +145,5 @@ returns-clause-attends c = λ trace s a.
     attends_made c.args.app.now trace (entry_by_offer c.args.app.now trace c.args.offer) made.entry c.wake.new.self made.is
     (birth_attends c.args.app.now c.requires.sound trace s.run c.args.object c.args.call c.requires.born made.entry (sym (makes at trace) ∙ made.is)
     c.args.agenda.now c.stir.new.self c.wake.new.self c.brought-brought.result c.brought-brought.ensures c.in_ok-stir.ensures c.born_count-at.result
-    (c.born_count-at.ensures ∙ sym (as_many c.args.app.now trace s.run c.args.object (lists c.args.self.now.processes) s.processes.born)) woken a))
+    (c.born_count-at.ensures ∙ sym (as_many trace c.args.object (lists c.args.self.now.processes) s.processes.born)) woken a))
     (λ lost. tt)
