@@ -1,5 +1,5 @@
 -- The order of all writes and some reads, as it is made read by read.
-use Rattle.std.proofs.Common.{◌≡◌, ℕ, ◌++◌, ◌&&◌, ◌||◌, Bool, true, false, not, cond, List, [], ◌∷◌, length, replicate, refl, ap, ap₂, ◌∙◌}
+use Rattle.std.proofs.Common.{◌≡◌, ℕ, ◌++◌, ◌&&◌, ◌||◌, Bool, true, false, not, List, [], ◌∷◌, length, replicate, refl, ap, ap₂, ◌∙◌}
 use Rattle.std.specs.List.{filter}
 use Rattle.std.specs.Ordering.{nat_cmp}
 use Rattle.std.specs.BTreeSet.{BTreeSet, IsOrdered, contains, keys}
@@ -8,6 +8,7 @@ use Rattle.std.proofs.lemmas.List.{append_assoc}
 use Rattle.std.proofs.lemmas.List.Elements.{filter_agree}
 use Rattle.anti_kind.specs.declared.entry.Entry.{Entry}
 use Rattle.anti_app.specs.declared.app.App.{App}
+use Rattle.anti_trace.proofs.Filters.{filter-filter}
 use Rattle.law_causal.specs.Reads.{places}
 use Rattle.law_causal.specs.Words.{wrote}
 use Rattle.law_serial.specs.Order.{is_in_past, is_some_id, listing, order_of, writes_at}
@@ -19,17 +20,6 @@ use Rattle.anti_order.proofs.Places.{is_at_within}
 and_agrees : (w a b : Bool) → (w ≡ true → a ≡ b) → (w && a) ≡ (w && b)
 and_agrees true a b same = same refl
 and_agrees false a b same = refl
-
--- what one test keeps of what another keeps
-filter-filter : (p q : ℕ → Bool) (xs : List ℕ) → filter p (filter q xs) ≡ filter (λ x. q x && p x) xs
-filter-filter p q [] = refl
-filter-filter p q (x ∷ xs) = by_test (q x) (filter-filter p q xs)
-  where
-    by_test : (t : Bool) → filter p (filter q xs) ≡ filter (λ x. q x && p x) xs
-        → filter p (cond t (x ∷ filter q xs) (filter q xs))
-        ≡ cond (t && p x) (x ∷ filter (λ x. q x && p x) xs) (filter (λ x. q x && p x) xs)
-    by_test true rest = ap (λ ys. cond (p x) (x ∷ ys) ys) rest
-    by_test false rest = rest
 
 -- whether a write is not listed, and whether it is of a past too
 abbrev left : (ℕ → Bool) → (ℕ → Bool) → ℕ → Bool

@@ -1,5 +1,6 @@
 pub mod Orders
 pub mod Puts
+pub mod Filters
 pub mod Sames
 pub mod Bounds
 pub mod Numbers

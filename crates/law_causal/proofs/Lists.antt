@@ -1,11 +1,13 @@
 -- Lists that are cut at an item, and what a test keeps of them.
-use Rattle.std.proofs.Common.{◌≡◌, ℕ, zero, suc, ◌<◌, ◌++◌, Bool, true, false, List, [], ◌∷◌, length, refl, sym, ap, ◌∙◌, subst, arith}
+use Rattle.std.proofs.Common.{◌≡◌, ℕ, zero, suc, ◌+◌, ◌<◌, ◌++◌, Bool, true, false, List, [], ◌∷◌, length, refl, sym, ap, ◌∙◌, arith}
 use Rattle.std.specs.Prelude.{Contains, Some, slice_get, take, drop}
 use Rattle.std.specs.List.{filter}
 use Rattle.std.proofs.lemmas.Bool.{cond-true, cond-false}
-use Rattle.std.proofs.lemmas.List.{take-append-drop}
+use Rattle.std.proofs.lemmas.List.{append_assoc, length-append, length-take, take-append-drop}
 use Rattle.std.proofs.lemmas.List.Elements.{filter-append}
-use Rattle.std.proofs.lemmas.Option.{slice_get_read}
+use Rattle.std.proofs.lemmas.Option.{slice_get-get_or, slice_get_read}
+use Rattle.std.proofs.Math.Seq.{get_or-append_seam, take-append_seam}
+use Rattle.anti_trace.proofs.Filters.{IsKeptAt, filter_at}
 
 -- ---- places
 
@@ -38,49 +40,25 @@ pub record IsKept {X : Type 0} (p : X → Bool) (xs : List X) (j : ℕ) (before 
   pub kept : before ≡ filter p (take place xs)
 
 module _ {X : Type 0} (p : X → Bool) where
-  one_more : (xs : List X) (j : ℕ) (y : X) (before : List X) (a : X) → p y ≡ true → IsKept p xs j before a → IsKept p (y ∷ xs) (suc j) (y ∷ before) a
-  one_more xs j y before a passes k = record {
-    place = suc k.place;
-    early = let early = k.early in omega arith;
-    there = k.there;
-    passes = k.passes;
-    kept = ap (λ zs. y ∷ zs) k.kept ∙ sym (cond-true _ _ _ passes);
-  }
-
-  one_passed : (xs : List X) (j : ℕ) (y : X) (before : List X) (a : X) → p y ≡ false → IsKept p xs j before a → IsKept p (y ∷ xs) (suc j) before a
-  one_passed xs j y before a fails k = record {
-    place = suc k.place;
-    early = let early = k.early in omega arith;
-    there = k.there;
-    passes = k.passes;
-    kept = k.kept ∙ sym (cond-false _ _ _ fails);
-  }
-
   -- Of what the test keeps of the items before place j, each stands at a place before j, and those before it are kept of the items before
   -- this place.
   pub kept_at : (xs : List X) (j : ℕ) (before : List X) (a : X) (after : List X) → filter p (take j xs) ≡ before ++ a ∷ after → IsKept p xs j before a
-  kept_at [] zero [] a after is = absurd (cc)
-  kept_at [] zero (b ∷ bs) a after is = absurd (cc)
-  kept_at [] (suc j) [] a after is = absurd (cc)
-  kept_at [] (suc j) (b ∷ bs) a after is = absurd (cc)
-  kept_at (y ∷ ys) zero [] a after is = absurd (cc)
-  kept_at (y ∷ ys) zero (b ∷ bs) a after is = absurd (cc)
-  kept_at (y ∷ ys) (suc j) before a after is =
-      by_test y ys j before a after is (λ rest more. kept_at ys j rest a after more) (p y) refl
-    where
-      by_test : (y : X) (ys : List X) (j : ℕ) (before : List X) (a : X) (after : List X) → filter p (take (suc j) (y ∷ ys)) ≡ before ++ a ∷ after
-          → ((rest : List X) → filter p (take j ys) ≡ rest ++ a ∷ after → IsKept p ys j rest a) → (t : Bool) → p y ≡ t → IsKept p (y ∷ ys) (suc j) before a
-      by_test y ys j [] a after is rest true passes =
-          let both : y ∷ filter p (take j ys) ≡ a ∷ after = sym (cond-true _ _ _ passes) ∙ is in
-          let same : y ≡ a = cc in
-          record { place = 0; early = omega arith; there = ap Some same; passes = ap p (sym same) ∙ passes; kept = refl }
-      by_test y ys j (b ∷ bs) a after is rest true passes =
-          let both : y ∷ filter p (take j ys) ≡ b ∷ (bs ++ a ∷ after) = sym (cond-true _ _ _ passes) ∙ is in
-          let same : y ≡ b = cc in
-          let more : filter p (take j ys) ≡ bs ++ a ∷ after = cc in
-          subst (λ z. IsKept p (y ∷ ys) (suc j) (z ∷ bs) a) same (one_more ys j y bs a passes (rest bs more))
-      by_test y ys j before a after is rest false fails =
-          one_passed ys j y before a fails (rest before (sym (cond-false _ _ _ fails) ∙ is))
+  kept_at xs j before a after is =
+      let at : IsKeptAt p (take j xs) before a after = filter_at p (take j xs) before a after is in
+      let rest : List X = at.after ++ drop j xs in
+      let count : length (take j xs) ≡ length at.before + suc (length at.after) = ap length at.cut ∙ length-append at.before (a ∷ at.after) in
+      let whole : xs ≡ at.before ++ a ∷ rest =
+      sym (take-append-drop j xs) ∙ ap (λ ys. ys ++ drop j xs) at.cut ∙ append_assoc at.before (a ∷ at.after) (drop j xs) in
+      let here : slice_get (at.before ++ a ∷ rest) (length at.before) ≡ Some a =
+      slice_get-get_or (at.before ++ a ∷ rest) (length at.before) a (let more = length-append at.before (a ∷ rest) in omega arith)
+      ∙ ap Some (get_or-append_seam at.before a rest a) in
+      record {
+        place = length at.before;
+        early = let most = length-take j xs in omega arith;
+        there = ap (λ ys. slice_get ys (length at.before)) whole ∙ here;
+        passes = at.passes;
+        kept = sym at.front_is ∙ ap (filter p) (sym (take-append_seam at.before (a ∷ rest)) ∙ ap (take (length at.before)) (sym whole));
+      }
 
   -- What the test keeps of the items before a later place goes on with the item at an earlier one, where this passes.
   pub kept_between : (xs : List X) (j k : ℕ) (x : X) → slice_get xs j ≡ Some x → p x ≡ true → j < k
