@@ -1,17 +1,18 @@
-ghost use Rattle.std.specs.Prelude.{◌≡◌, ◌++◌, ◌∷◌, [], IfOk, OnOk, IsTrue};
+ghost use Rattle.std.specs.Prelude.{◌≡◌, ◌++◌, ◌∷◌, [], All, map, IfOk, OnOk, IsTrue};
 ghost use Rattle.anti_app.specs.Sound.{is_sound};
 ghost use Rattle.anti_app.specs.Objects.{object_count};
 ghost use Rattle.anti_play.specs.inner.Standing.{WorldStands};
 ghost use Rattle.anti_kind.specs.Machines.{StandsFor};
 ghost use Rattle.anti_object.specs.Standing.{ObjectAt};
-ghost use Rattle.anti_play.specs.inner.Closing.{AreFirst};
+ghost use Rattle.anti_trace.specs.inner.After.{AreFirst};
+ghost use Rattle.anti_play.specs.inner.Closing.{at_first};
 
 use crate::reading::has_reads;
 use crate::world::World;
 use anti_app::App;
-use anti_ids::NoMemory;
+use anti_ids::{List, NoMemory};
 use anti_kind::{Machine, Recorded};
-use anti_object::Object;
+use anti_object::{Object, Objects};
 use anti_trace::{Processes, Trail};
 use std::alloc::Global;
 
@@ -22,7 +23,7 @@ impl World {
         requires { IsTrue (is_sound app.now) }
         ensures { IfOk result (λ w. WorldStands app.now w []) }
     {
-        let objects = objects(alloc, app)?;
+        let objects = all_recorded(alloc, objects(alloc, app)?)?;
         let count = objects.len();
         let processes = Processes::new(alloc, count)?;
         let trail = Trail::new(alloc, count, has_reads(app))?;
@@ -36,23 +37,35 @@ impl World {
     }
 }
 
-// The objects, each with no entry.
-fn objects(alloc: Global, app: &App) -> Result<Vec<Recorded<Object>>, NoMemory>
+/// The objects of an application in their order, each at the start that the application states, with no call.
+pub fn objects(alloc: Global, app: &App) -> Result<Objects, NoMemory>
     requires { IsTrue (is_sound app.now) }
-    ensures { IfOk result (λ v. AreFirst app.now (object_count app.now) v.items) }
+    ensures { IfOk result (λ objects. AreFirst app.now (object_count app.now) objects.items) }
 {
-    let mut objects = Vec::new(alloc);
+    let mut objects = List::new(alloc);
     while let Some(object) = Object::of(alloc, app, objects.len() as u32)? {
-        keep(alloc, &mut objects, object)?;
+        objects.add(object)?;
     }
     Ok(objects)
+}
+
+// The objects, each with no entry.
+fn all_recorded(alloc: Global, mut objects: Objects) -> Result<Vec<Recorded<Object>>, NoMemory>
+    requires { All (λ object. ObjectAt object []) objects.items }
+    ensures { IfOk result (λ v. v.items ≡ map at_first objects.items) }
+{
+    let mut recorded = Vec::new(alloc);
+    while let Some(object) = objects.pop() {
+        keep(alloc, &mut recorded, object)?;
+    }
+    recorded.reverse();
+    Ok(recorded)
 }
 
 // One object more at the end, on which nothing has happened yet.
 fn keep(alloc: Global, objects: &mut Vec<Recorded<Object>>, object: Object) -> Result<(), NoMemory>
     requires { ObjectAt object [] }
-    ensures { OnOk result (objects.new.items
-        ≡ objects.old.items ++ record { machine = object; history = [] } ∷ []) }
+    ensures { OnOk result (objects.new.items ≡ objects.old.items ++ at_first object ∷ []) }
 {
     let recorded = recorded(alloc, object)?;
     add(objects, recorded)

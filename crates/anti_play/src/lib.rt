@@ -11,6 +11,7 @@ mod world;
 mod world_agenda;
 mod world_trace;
 
+pub use first_world::objects;
 pub use laws::{finish_completes, pulls_start_handlers};
 pub use player::{Played, play};
 pub use world::World;

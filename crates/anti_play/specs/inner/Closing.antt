@@ -1,6 +1,6 @@
--- The beginning and the end of a run: the objects on which nothing has happened yet, the choices that were made so far, and the
--- world when all is over.
-use Rattle.std.specs.Prelude.{◌≡◌, ℕ, ◌<◌, Bool, cond, List, [], ◌∷◌, ◌++◌, length, map, take, slice_index_or}
+-- The beginning and the end of a run: an object on which nothing has happened yet, the choices that were made so far, and the world when all
+-- is over.
+use Rattle.std.specs.Prelude.{◌≡◌, ℕ, Bool, cond, List, [], ◌∷◌, ◌++◌, map, take}
 use Rattle.anti_ids.specs.List.{Listed, plain}
 use Rattle.anti_app.specs.declared.app.App.{App}
 use Rattle.anti_app.specs.declared.app.Choice.{Choice}
@@ -9,12 +9,11 @@ use Rattle.anti_kind.specs.Records.{Record}
 use Rattle.anti_object.specs.declared.object.Object.{Object}
 use Rattle.anti_play.specs.declared.world.World.{World}
 use Rattle.anti_play.specs.Schedule.{Run, stepped, run_from}
-use Rattle.anti_play.specs.inner.Standing.{IsObject, WorldStands}
+use Rattle.anti_play.specs.inner.Standing.{WorldStands}
 
--- the first objects of an application, so many of them, each with no entry
-pub record AreFirst (app : App) (count : ℕ) (objects : List (Record Object)) : Type 0 where
-  pub many : length objects ≡ count
-  pub each : (o : ℕ) (d : Record Object) → o < length objects → IsObject app o (slice_index_or objects o d) []
+-- an object on which nothing has happened yet
+abbrev pub at_first : Object → Record Object
+at_first object = record { machine = object; history = [] }
 
 -- the run of so many of the first choices
 abbrev pub run_until : App → ℕ → Run

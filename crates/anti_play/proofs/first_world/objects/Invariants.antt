@@ -1,6 +1,6 @@
 use Rattle.std.proofs.Common.{◌-◌, ◌≤◌, length}
 use Rattle.anti_app.specs.Objects.{object_count}
-use Rattle.anti_play.specs.inner.Closing.{AreFirst}
+use Rattle.anti_trace.specs.inner.After.{AreFirst}
 use Rattle.anti_play.proofs.first_world.objects.Given as goal
 
 -- the objects so far
