@@ -78,10 +78,10 @@ impl World {
         let Ok(entry) = self.next_entry(asking)? else {
             return Ok(false);
         };
-        // where there is no memory `and` gives up the process
-        let process = born(self.alloc, app, &entry)?;
         let object = entry.object;
-        let process = self.processes.reserve(object).and(Ok(process))?;
+        self.processes.reserve(object)?;
+        let process = born(self.alloc, app, &entry)?;
+        // where there is no memory `and` gives up the process
         let process = make_entry(&mut self.objects, entry).and(Ok(process))?;
         self.processes.put(object, process);
         Ok(true)

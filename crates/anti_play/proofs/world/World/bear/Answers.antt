@@ -1,4 +1,4 @@
-use Rattle.std.proofs.Common.{arith, ◌≡◌, ◌++◌, ◌∷◌, ◌∙◌, [], List, Ok, Some, refl, subst}
+use Rattle.std.proofs.Common.{arith, ◌≡◌, ◌++◌, ◌∷◌, [], List, Ok, Some, refl, subst}
 use Rattle.std.proofs.lemmas.Grind.{common_steps}
 use Rattle.anti_kind.specs.declared.entry.Entry.{Entry}
 use Rattle.anti_proc.specs.declared.process.Process.{Process}
@@ -41,15 +41,20 @@ reserve-requires c =
     let s = c.requires.world.stands in
     has_list c.args.app.now c.requires.sound c.args.self.now trace s (bearing trace c.args.object c.args.call) (c.requires.born, refl) refl c.in-Ok.entry (made ((goal.at.reserve-requires c).In-Ok) trace s)
 
-pub returns-in_err-process-2 : goal.returns-in_err-process-2
-returns-in_err-process-2 c = λ trace s.
-    chose_kept c.args.app.now c.args.self.now _ trace _ _ c.from_residual-in_err-process-2.ensures.0 s s.objects
+pub returns-in_err-reserve : goal.returns-in_err-reserve
+returns-in_err-reserve c = λ trace s.
+    chose_kept c.args.app.now c.args.self.now _ trace _ _ c.from_residual-in_err-reserve.ensures.0 s s.objects
     (reserved_are c.args.app.now (lists c.args.self.now.processes) _ trace c.in-Ok.entry.object s.processes c.reserve.ensures.changes) s.trail refl
 
-pub returns-in_err-process-3 : goal.returns-in_err-process-3
-returns-in_err-process-3 c = λ trace s.
-    chose_kept c.args.app.now c.args.self.now _ trace _ _ c.from_residual-in_err-process-3.ensures.0 s
-    (lost_before c.make_entry.result c.in_ok-process-2.process c.and-2.result c.and-2.ensures c.in_err-process-3.field-0.0 c.in_err-process-3.was
+pub returns-in_err-process : goal.returns-in_err-process
+returns-in_err-process c = λ trace s.
+    chose_kept c.args.app.now c.args.self.now _ trace _ _ c.from_residual-in_err-process.ensures.0 s s.objects
+    (reserved_are c.args.app.now (lists c.args.self.now.processes) _ trace c.in-Ok.entry.object s.processes c.reserve.ensures.changes) s.trail refl
+
+pub returns-in_err-process-2 : goal.returns-in_err-process-2
+returns-in_err-process-2 c = λ trace s.
+    chose_kept c.args.app.now c.args.self.now _ trace _ _ c.from_residual-in_err-process-2.ensures.0 s
+    (lost_before c.make_entry.result c.in_ok-process.process c.and.result c.and.ensures c.in_err-process-2.field-0.0 c.in_err-process-2.was
     (c.make_entry.ensures.err c.args.app.now trace s.objects))
     (reserved_are c.args.app.now (lists c.args.self.now.processes) _ trace c.in-Ok.entry.object s.processes c.reserve.ensures.changes) s.trail refl
 
@@ -57,10 +62,8 @@ pub returns : goal.returns
 returns c = λ trace s.
     let object = c.in-Ok.entry.object in
     let p = c.in_ok-process.process in
-    let last = c.in_ok-process-3.process in
-    let same : last ≡ p =
-    kept_behind c.make_entry.result c.in_ok-process-2.process c.and-2.result c.and-2.ensures last c.in_ok-process-3.was
-    ∙ kept_behind c.reserve.result p c.and.result c.and.ensures c.in_ok-process-2.process c.in_ok-process-2.was in
+    let last = c.in_ok-process-2.process in
+    let same : last ≡ p = kept_behind c.make_entry.result p c.and.result c.and.ensures last c.in_ok-process-2.was in
     let before = lists c.args.self.now.processes in
     let between = lists c.reserve.new.self in
     let after = lists c.put.new.self in
@@ -71,7 +74,7 @@ returns c = λ trace s.
     bear_done c.args.app.now c.requires.sound c.args.self.now _ trace c.args.object c.args.call c.in-Ok.entry p
     s c.requires.born (made ((goal.at.returns c).In-Ok) trace s)
     (λ prior later all grows.
-    done_before c.make_entry.result c.in_ok-process-2.process c.and-2.result c.and-2.ensures last c.in_ok-process-3.was
+    done_before c.make_entry.result p c.and.result c.and.ensures last c.in_ok-process-2.was
     (c.make_entry.ensures.stand c.args.app.now prior later all grows))
     added s.trail refl
     (record {
