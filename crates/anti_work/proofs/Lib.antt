@@ -1,0 +1,17 @@
+mod Asked
+mod Bore
+mod Closed
+mod Composed
+mod Gathered
+mod Grown
+mod Joined
+mod Left
+mod Merged
+mod OneMore
+mod PassCalls
+mod Routes
+mod Seats
+mod Times
+mod Tried
+mod Went
+mod WorkersRun

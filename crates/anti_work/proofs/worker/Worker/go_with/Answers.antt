@@ -1,0 +1,41 @@
+-- The process at the index may be given the reply, and where none came it was refused.
+use Rattle.std.proofs.Common.{Err, refl, ap, ◌∙◌}
+use Rattle.anti_trace.specs.inner.Living.{born_at, lists}
+use Rattle.anti_work.proofs.Went.{go_refused, may_feed, process_at, went_stands, went_stops}
+use Rattle.anti_work.proofs.worker.Worker.go_with.Goals as goal
+
+pub feed-requires-clause-fed : goal.feed-requires-clause-fed
+feed-requires-clause-fed g c p is = may_feed c.args.app.now c.args.self.now c.requires.worker.0 c.requires.worker.1 c.args.object c.args.at p is
+
+pub returns-in-Ok-clause-tried : goal.returns-in-Ok-clause-tried
+returns-in-Ok-clause-tried g c calls stands =
+    let here = process_at (born_at (lists c.args.self.now.processes) c.args.object) c.args.at c.requires.at in
+    went_stands c.args.app.now c.args.self.now calls stands c.args.object c.args.at here.0 here.1 c.args.asking (c.requires.asks here.0 here.1)
+    (record c.args.self.now { passes = c.ask.new.passes; processes = c.feed.new.processes })
+    c.in-Made.place c.in-Made.stamp c.in-Made.reply c.in-Made.ensures.asked refl c.requires.sound c.in-Ok.ensures.fed refl refl
+
+pub returns-in-Made-clause-tried : goal.returns-in-Made-clause-tried
+returns-in-Made-clause-tried g c calls stands =
+    let here = process_at (born_at (lists c.args.self.now.processes) c.args.object) c.args.at c.requires.at in
+    went_stops c.args.app.now c.args.self.now calls stands c.args.object c.args.at here.0 here.1 c.args.asking (c.requires.asks here.0 here.1)
+    (record c.args.self.now { passes = c.ask.new.passes; processes = c.feed.new.processes })
+    c.in-Made.place c.in-Made.stamp c.in-Made.reply c.in-Made.ensures.asked refl
+    (c.feed.ensures.foreign (c.in-Err-Foreign.is ∙ ap Err c.in-Err-Foreign.field-0-is))
+
+pub returns-in-NotYet-clause-tried : goal.returns-in-NotYet-clause-tried
+returns-in-NotYet-clause-tried g c calls stands =
+    let here = process_at (born_at (lists c.args.self.now.processes) c.args.object) c.args.at c.requires.at in
+    go_refused c.args.app.now c.args.self.now calls stands c.args.object c.args.at here.0 here.1 c.args.asking (c.requires.asks here.0 here.1)
+    (record c.args.self.now { passes = c.ask.new.passes }) _ c.in-NotYet.ensures.asked tt refl refl refl refl
+
+pub returns-in-Full-clause-tried : goal.returns-in-Full-clause-tried
+returns-in-Full-clause-tried g c calls stands =
+    let here = process_at (born_at (lists c.args.self.now.processes) c.args.object) c.args.at c.requires.at in
+    go_refused c.args.app.now c.args.self.now calls stands c.args.object c.args.at here.0 here.1 c.args.asking (c.requires.asks here.0 here.1)
+    (record c.args.self.now { passes = c.ask.new.passes }) _ c.in-Full.ensures.asked tt refl refl refl refl
+
+pub returns-in-Spent-clause-tried : goal.returns-in-Spent-clause-tried
+returns-in-Spent-clause-tried g c calls stands =
+    let here = process_at (born_at (lists c.args.self.now.processes) c.args.object) c.args.at c.requires.at in
+    go_refused c.args.app.now c.args.self.now calls stands c.args.object c.args.at here.0 here.1 c.args.asking (c.requires.asks here.0 here.1)
+    (record c.args.self.now { passes = c.ask.new.passes }) _ c.in-Spent.ensures.asked tt refl refl refl refl

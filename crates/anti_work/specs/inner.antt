@@ -1,0 +1,9 @@
+pub mod Closing
+pub mod Gathering
+pub mod Joining
+pub mod Knowing
+pub mod Refusing
+pub mod Tries
+pub mod Trying
+pub mod Working
+pub mod Works

@@ -1,0 +1,40 @@
+ghost use Rattle.std.specs.Prelude.{◌≡◌, ◌<◌, length, slice_get, Some};
+ghost use Rattle.anti_kind.specs.Shipments.{IsShip};
+ghost use Rattle.anti_object.specs.Standing.{object_start};
+ghost use Rattle.anti_shared.specs.Passes.{GoesFrom, PassView, start_of};
+ghost use Rattle.anti_work.specs.inner.Knowing.{AreOf, IsAskedBy};
+
+use anti_kind::{Answer, Asking};
+use anti_object::Object;
+use anti_shared::{Pass, Shared};
+use std::sync::Wait;
+
+// Asks a call of the shared object that it is at, by the pass of that object. It may wait for the turn.
+pub(crate) fn ask<R: Wait>(
+    rt: &R,
+    shared: &[Shared<Object>],
+    passes: &mut Vec<Pass<Object>>,
+    asking: Asking,
+) -> Answer
+    requires there { asking.object < length shared.now }
+    requires of { AreOf shared.now passes.old.items }
+    ensures of { AreOf shared.now passes.new.items }
+    ensures asked { IsAskedBy passes.old.items passes.new.items asking result }
+    ensures memory { result ≡ Answer.NoMemory → (pass : PassView Object) → slice_get passes.new.items asking.object ≡ Some pass
+        → GoesFrom (start_of object_start pass.id) pass.seen asking }
+    ensures ship { IsShip asking.call → result ≡ Answer.NoMemory → ⊥ }
+{
+    let Asking {
+        object,
+        actor,
+        span,
+        clock,
+        call,
+    } = asking;
+    let at = object as usize;
+    let pass = &mut passes[at];
+    let answer = shared[at].call(rt, pass, actor, span, clock, call);
+    // it tells what is true of each pass
+    let _number = pass.number();
+    answer
+}
