@@ -5,4 +5,3 @@ pub mod StatedLines
 pub mod ParsedBodies
 pub mod FittingLines
 pub mod PartOrder
-pub mod FormLemmas

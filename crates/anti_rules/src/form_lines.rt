@@ -91,7 +91,6 @@ pub fn form_line(rule: Rule, part: Part, value: &Value) -> Option<u32>
 }
 
 /// The same of the document itself.
-#[tactic(auto, using(crate::proofs::FormLemmas::top_form))]
 pub fn top_line(rule: Rule, doc: &Table) -> Option<u32>
     ensures { result ≡ form_line rule Part.Top (table (table_view doc.now)) }
 {

@@ -170,7 +170,6 @@ fn request_line(rule: Rule, thing: &Thing) -> Option<u32>
 }
 
 /// The line at which a thing of a document fails a rule.
-#[tactic(auto, using(crate::proofs::FormLemmas::top_alone, crate::proofs::FormLemmas::choice_alone))]
 pub fn rule_line(alloc: Global, rule: Rule, thing: &Thing) -> Result<Option<u32>, NoMemory>
     ensures { IfOk result (λ line. line ≡ line_of rule thing.now.part thing.now) }
 {

@@ -126,7 +126,6 @@ fn statement_fits(rule: Rule, doc: &Table, home: &str, statement: &Statement) ->
 }
 
 /// Whether each of some statements, with those of its block, passes the test that a rule makes of it.
-#[tactic(auto, using(crate::proofs::FittingLines::then_fits, crate::proofs::FittingLines::repeat_fits, crate::proofs::FittingLines::if_fits))]
 pub fn body_fits(rule: Rule, doc: &Table, home: &str, statements: &[Statement]) -> bool
     ensures { result ≡ body_fits rule (table_view doc.now) home.now statements.now }
 {

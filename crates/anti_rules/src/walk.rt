@@ -136,7 +136,6 @@ fn place_in(alloc: Global, rule: Rule, doc: &Table, part: Part) -> Result<Option
 }
 
 /// The first place of a document that fails a rule. The parts behind it are not walked.
-#[tactic(auto, using(crate::proofs::PartOrder::all_parts))]
 pub fn first_place(alloc: Global, rule: Rule, doc: &Table) -> Result<Option<Place>, NoMemory>
     ensures { IfOk result (λ place. place ≡ first_place rule (table_view doc.now)) }
 {
