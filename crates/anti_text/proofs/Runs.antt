@@ -34,9 +34,3 @@ another pieces number within =
     let place : number + 0 ≡ number = omega arith in
     ap (λ (n : ℕ). concat (take n (drop number pieces))) one
     ∙ more_is pieces number 0 (omega (arith, within)) ∙ ap (λ (n : ℕ). get_or pieces n []) place
-
--- a run of no texts
-pub none_written : (out : List ℕ) (pieces : List (List ℕ)) (from to : ℕ) → from ≡ to → out ≡ out ++ concat (take (to - from) (drop from pieces))
-none_written out pieces from to same =
-    let none : to - from ≡ 0 = omega (arith, same) in
-    sym (ap (λ (n : ℕ). out ++ concat (take n (drop from pieces))) none ∙ append-nil out)

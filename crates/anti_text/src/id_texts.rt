@@ -96,7 +96,6 @@ impl IdTexts {
     }
 
     // Whether the text of a number is that of an id.
-    #[tactic(auto, using(anti_kind::proofs::Showing::bytes_same))]
     fn is_at(&self, number: usize, id: &WriteId) -> bool
         ensures { result ≡ true → slice_get self.now.ids.items number ≡ Some id.now }
     {

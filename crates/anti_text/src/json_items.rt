@@ -29,7 +29,6 @@ pub trait Item {
 impl Item for Entry {
     ghost says = { entry_data };
 
-    #[tactic(auto, using(crate::proofs::Shapes::entry_added))]
     fn print(&self, out: &mut Output, printer: &Printer) -> Result<(), NoMemory> {
         add_actor(out, printer, b"{\"actor\":", self.actor)?;
         add_call(out, printer, b",\"call\":", self.object, &self.call)?;
@@ -45,7 +44,6 @@ impl Item for Entry {
 impl Item for ProcessEnd {
     ghost says = { process_data };
 
-    #[tactic(auto, using(crate::proofs::Shapes::process_added))]
     fn print(&self, out: &mut Output, printer: &Printer) -> Result<(), NoMemory> {
         add_end(out, printer, b"{\"end\":", self.end)?;
         add_handler(out, printer, b",\"handler\":", self.service, self.handler)?;
@@ -64,7 +62,6 @@ impl Item for ProcessEnd {
 impl Item for SpanAnswer {
     ghost says = { span_data };
 
-    #[tactic(auto, using(crate::proofs::Shapes::span_added))]
     fn print(&self, out: &mut Output, printer: &Printer) -> Result<(), NoMemory> {
         add_answer(out, printer, b"{\"answer\":", &self.answer)?;
         add_span(out, printer, b",\"name\":", self.span)?;
@@ -76,7 +73,6 @@ impl Item for SpanAnswer {
 impl Item for u32 {
     ghost says = { wait_data };
 
-    #[tactic(auto, using(crate::proofs::Shapes::wait_added))]
     fn print(&self, out: &mut Output, printer: &Printer) -> Result<(), NoMemory> {
         add_choice(out, printer, b"{\"choice\":", *self)?;
         add_number(out, b",\"number\":", u64::from(*self))?;

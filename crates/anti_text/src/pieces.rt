@@ -39,7 +39,6 @@ impl Model for Pieces {
 }
 
 // Where the text of a number begins, by the places where they end.
-#[tactic(auto, using(crate::proofs::Cuts::edge_at))]
 fn edge(ends: &[usize], number: usize) -> usize
     requires { number ≤ length ends.now }
     ensures { result ≡ edge 0 ends.now number }
@@ -102,7 +101,6 @@ impl Pieces {
     }
 
     // The number behind that of a text.
-    #[tactic(auto, using(crate::proofs::Cuts::cut_length))]
     fn behind(&self, number: usize) -> usize
         requires { number < length self.now }
         ensures { result ≡ number + 1 }
@@ -112,7 +110,6 @@ impl Pieces {
     }
 
     /// Writes a run of the texts.
-    #[tactic(auto, using(crate::proofs::Runs::none_written))]
     pub fn write(&self, out: &mut Output, run: PieceRun) -> Result<(), NoMemory>
         requires { IsRun self.now run }
         ensures { OnOk result (out.new ≡ out.old ++ run_text self.now run) }
@@ -125,7 +122,6 @@ impl Pieces {
 
     /// Goes on with the text of a number behind a run. Where it stands behind the run it is left to be written with it; otherwise the run is
     /// written, and a new one begins.
-    #[tactic(auto, using(crate::proofs::Runs::one_more, crate::proofs::Runs::another))]
     pub fn go_on(
         &self,
         out: &mut Output,

@@ -72,7 +72,6 @@ fn are_empty(missing: &Lineage, unwritten: &Lineage) -> bool
 }
 
 // Writes what a look named.
-#[tactic(auto, using(crate::proofs::Looks::clear_is, crate::proofs::Looks::named_is))]
 fn look_text(
     out: &mut Output,
     printer: &Printer,
