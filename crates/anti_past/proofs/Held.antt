@@ -21,10 +21,6 @@ use Rattle.anti_past.specs.inner.Came.{IsRear, holds}
 pub holds_both : (lineage xs ys : List WriteId) → holds lineage (xs ++ ys) ≡ (holds lineage xs && holds lineage ys)
 holds_both lineage xs ys = list_all-append (λ w. has_id w lineage) xs ys
 
-pub holds_row_ids : (lineage : List WriteId) (store : ℕ) (row : Row)
-    → holds lineage (row_ids store row) ≡ (holds lineage (id_at store row.key row.version) && holds lineage row.lineage)
-holds_row_ids lineage store row = holds_both lineage (id_at store row.key row.version) row.lineage
-
 pub holds_rows_ids : (lineage : List WriteId) (store : ℕ) (rows : List Row)
     → holds lineage (rows_ids store rows) ≡ list_all (λ row. holds lineage (row_ids store row)) rows
 holds_rows_ids lineage store [] = refl

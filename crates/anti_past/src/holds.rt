@@ -54,7 +54,6 @@ fn holds_version(lineage: &Lineage, store: u32, key: Name, version: u64) -> bool
 }
 
 // Whether the ids that a row of a store brings are in a lineage.
-#[tactic(auto, using(crate::proofs::Held::holds_row_ids))]
 fn holds_row(lineage: &Lineage, store: u32, row: &Row) -> bool
     ensures { result ≡ holds lineage.now (row_ids store row.now) }
 {
@@ -73,7 +72,6 @@ fn holds_rows(lineage: &Lineage, store: u32, rows: &[Row]) -> bool
 }
 
 // The lineage that a message states; one that states none brings the empty lineage.
-#[tactic(auto, using(anti_app::proofs::Runnable::names_fit, anti_app::proofs::Runnable::can_run))]
 fn stated(alloc: Global, app: &App, message: &Message) -> Result<Lineage, NoMemory>
     requires { IsTrue (is_sound app.now) }
     ensures { IfOk result (λ ids. ids ≡ stated_in app.now message.now) }
@@ -101,7 +99,6 @@ fn holds_message(
 }
 
 // Whether all that an entry brings is in a lineage.
-#[tactic(auto, using(crate::proofs::Held::holds_rows_ids))]
 fn holds_brought(
     alloc: Global,
     app: &App,
