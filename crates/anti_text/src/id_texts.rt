@@ -130,7 +130,7 @@ impl IdTexts {
             None => {
                 self.pieces.write(out, run)?;
                 out.id(self.stores.as_slice(), id)?;
-                out.put(b",")?;
+                out.put_byte(b',')?;
                 Ok(PieceRun { from: 0, to: 0 })
             }
         }

@@ -42,6 +42,13 @@ impl Output {
         self.bytes.append(bytes)
     }
 
+    /// Adds a byte at the end.
+    pub fn put_byte(&mut self, byte: u8) -> Result<(), NoMemory>
+        ensures { OnOk result (self.new ≡ self.old ++ byte ∷ []) }
+    {
+        self.bytes.add(byte)
+    }
+
     /// Adds texts at the end, one behind another.
     pub fn put_all(&mut self, texts: &[&[u8]]) -> Result<(), NoMemory>
         ensures { OnOk result (self.new ≡ self.old ++ flat_map (λ text. text.now) texts.now) }

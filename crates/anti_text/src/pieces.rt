@@ -76,7 +76,7 @@ impl Pieces {
     {
         let Pieces { mut text, mut ends } = self;
         text.id(stores, id)?;
-        text.put(b",")?;
+        text.put_byte(b',')?;
         ends.push(text.bytes().len())?;
         Ok(Pieces { text, ends })
     }

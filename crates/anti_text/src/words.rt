@@ -94,11 +94,9 @@ pub fn mark_text(out: &mut Output, app: &App, object: u32, place: u32) -> Result
     ensures { OnOk result (out.new ≡ out.old ++ mark_text app.now object place) }
 {
     let mut digits = Buffer::new();
-    out.put_all(&[
-        object_name(app, object),
-        b".",
-        digits.format(place).as_bytes(),
-    ])
+    out.put(object_name(app, object))?;
+    out.put_byte(b'.')?;
+    out.put(digits.format(place).as_bytes())
 }
 
 /// Writes a mark behind a space.
