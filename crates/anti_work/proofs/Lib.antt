@@ -1,5 +1,6 @@
 mod Asked
 mod Bore
+mod Carried
 mod Closed
 mod Composed
 mod Gathered
@@ -7,7 +8,9 @@ mod Grown
 mod Joined
 mod Left
 mod Merged
+mod Noted
 mod OneMore
+mod Owned
 mod PassCalls
 mod Routes
 mod Seats

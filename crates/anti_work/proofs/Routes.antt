@@ -51,24 +51,30 @@ module _ (number store region : ℕ) (calls : List Entry) (e : Entry) (v : ℕ) 
       let last : Contains (calls ++ e ∷ []) e = Contains-append_right calls (e ∷ []) e (All-head (Contains (e ∷ [])) e [] (All-contains_itself (e ∷ []))) in
       (e, (filter_contains (is_on store) (calls ++ e ∷ []) e).1 (last, eq-eqb e.object store is.0), is.1, is.2)
 
--- A call that ships no first part leaves each route as it was.
+-- A call that ships no first part of a route leaves it as it was.
+pub route_kept : (number : ℕ) (calls : List Entry) (route : Route) (e : Entry) → ((v : ℕ) → IsFirstPart number route.store route.region calls e v → ⊥)
+    → RouteStands number calls route → RouteStands number (calls ++ e ∷ []) route
+route_kept number calls route e other stands = record {
+  is_next = record {
+    some = stands.is_next.some;
+    not = λ now. elim (ships_cases number route.store route.region calls e route.next now) [
+      | inl was ↦ stands.is_next.not was
+      | inr is ↦ other route.next is
+    ];
+    lower = λ v low below. ships_still number route.store route.region calls e v (stands.is_next.lower v low below);
+  };
+  others = λ v above. (
+    λ now. elim (ships_cases number route.store route.region calls e v now) as (λ _. Contains route.ahead.items v) [
+      | inl was ↦ (stands.others v above).0 was
+      | inr is ↦ absurd (other v is)
+    ],
+    λ ahead. ships_still number route.store route.region calls e v ((stands.others v above).1 ahead),
+  );
+}
+
+-- one that ships no first part leaves all of them so
 pub routes_kept : (number : ℕ) (calls : List Entry) (routes : List Route) (e : Entry)
     → ((store region v : ℕ) → IsFirstPart number store region calls e v → ⊥) → All (RouteStands number calls) routes → All (RouteStands number (calls ++ e ∷ [])) routes
 routes_kept number calls routes e other stand =
-    All-weaker (RouteStands number calls) (RouteStands number (calls ++ e ∷ [])) (λ route stands. record {
-      is_next = record {
-        some = stands.is_next.some;
-        not = λ now. elim (ships_cases number route.store route.region calls e route.next now) [
-          | inl was ↦ stands.is_next.not was
-          | inr is ↦ other route.store route.region route.next is
-        ];
-        lower = λ v low below. ships_still number route.store route.region calls e v (stands.is_next.lower v low below);
-      };
-      others = λ v above. (
-        λ now. elim (ships_cases number route.store route.region calls e v now) as (λ _. Contains route.ahead.items v) [
-          | inl was ↦ (stands.others v above).0 was
-          | inr is ↦ absurd (other route.store route.region v is)
-        ],
-        λ ahead. ships_still number route.store route.region calls e v ((stands.others v above).1 ahead),
-      );
-    }) routes stand
+    All-weaker (RouteStands number calls) (RouteStands number (calls ++ e ∷ []))
+    (λ route stands. route_kept number calls route e (λ v is. other route.store route.region v is) stands) routes stand

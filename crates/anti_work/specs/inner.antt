@@ -3,6 +3,7 @@ pub mod Gathering
 pub mod Joining
 pub mod Knowing
 pub mod Refusing
+pub mod Shipping
 pub mod Tries
 pub mod Trying
 pub mod Working

@@ -3,10 +3,12 @@
 
 mod asking;
 mod bearing;
+mod carrying;
 mod done;
 mod gathering;
 mod going;
 mod laws;
+mod noting;
 mod worker;
 
 pub use done::Done;
