@@ -5,7 +5,7 @@ ghost use Rattle.anti_command.specs.declared.command.Command.TheVariants.{Load};
 use anti_ids::{MOST_REQUESTS, Value, read_decimal};
 
 /// What the program is asked to do.
-#[derive(Clone, Copy, PartialEq, Eq)]
+#[derive(Clone, Copy)]
 pub enum Command {
     /// Play the choices of the document that is read, and write the record of the run.
     Step,

@@ -14,7 +14,7 @@ use anti_trace::{Trace, Trail};
 use std::alloc::Global;
 
 /// How many spans with a read have which answer.
-#[derive(Clone, Copy, Debug, PartialEq, Eq)]
+#[derive(Clone, Copy)]
 pub struct AnswerCounts {
     /// An order explains the reads.
     pub ordered: usize,

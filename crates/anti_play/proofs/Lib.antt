@@ -10,6 +10,7 @@ pub mod GoNext
 pub mod Choose
 pub mod NewWorld
 pub mod OneTrace
+pub mod KeptWorld
 pub mod HasPlayed
 pub mod FirstOf
 pub mod Finished

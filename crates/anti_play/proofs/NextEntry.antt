@@ -30,7 +30,7 @@ few_objects : (app : App) → IsTrue (is_sound app) → object_count app ≤ 32
 few_objects app sound = let known : SoundApp app = app_known app sound in omega arith
 
 -- no run has so many entries that stamps are spent
-few_entries : (app : App) (trace : List Entry) → IsTrue (is_sound app) → IsLegalTrace app trace → length trace ≤ 32 * 4097
+pub few_entries : (app : App) (trace : List Entry) → IsTrue (is_sound app) → IsLegalTrace app trace → length trace ≤ 32 * 4097
 few_entries app trace sound run =
     let whole : length trace ≤ object_count app * (MOST_UNITS + 1) = legal_short app trace run in
     le_trans whole (mul-le-mul_right (MOST_UNITS + 1) (few_objects app sound))

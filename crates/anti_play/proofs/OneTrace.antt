@@ -11,7 +11,7 @@ use Rattle.anti_ids.specs.List.{Listed, empty}
 use Rattle.anti_ids.specs.declared.memory.NoMemory.{NoMemory}
 use Rattle.anti_ids.specs.declared.limits.TheConstants.{MOST_UNITS}
 use Rattle.anti_kind.specs.declared.entry.Entry.{Entry}
-use Rattle.anti_kind.specs.Objects.{Start}
+use Rattle.anti_kind.specs.Objects.{Start, IsLegal}
 use Rattle.anti_kind.proofs.Histories as histories
 use Rattle.anti_app.specs.declared.app.App.{App}
 use Rattle.anti_app.specs.Sound.{is_sound}
@@ -31,6 +31,38 @@ use Rattle.anti_app.proofs.SoundLemmas.{SoundApp, app_known}
 use Rattle.anti_app.specs.Objects.{object_count}
 use Rattle.anti_play.specs.inner.Standing.{WorldStands}
 use Rattle.anti_play.specs.inner.Closing.{histories_of}
+
+-- ---- histories by number
+
+-- legal histories of the objects of an application can be merged
+module _ (app : App) (hs : List (Listed Entry)) (many : length hs ≡ object_count app)
+    (legal : (o : ℕ) (start : Start) → start_of app o ≡ Some start → IsLegal start (history_at hs o)) (own : (o : ℕ) → All (λ e. e.object ≡ o) (history_at hs o)) where
+  history_is : (o : ℕ) → IsHistory (history_at hs o)
+  history_is o =
+      elim (cases_lt o (length hs)) as (λ _. IsHistory (history_at hs o)) [
+        | inl lt ↦
+            let there : (start : Start) × (start_of app o ≡ Some start) = start_there app o (omega arith) in
+            legal_is_history there.0 o (history_at hs o) (legal o there.0 there.1) (own o)
+        | inr past ↦ subst IsHistory (sym (ap (λ (h : Listed Entry). h.items) (get_or_past hs o empty past))) history_none
+      ]
+
+  pub can_merge : AreHistories hs
+  can_merge = are_by_number hs history_is own
+
+  pub few_merged : IsTrue (is_sound app) → length (all_entries hs) < 2 ^ 32
+  few_merged sound =
+      let known : SoundApp app = app_known app sound in
+      let same : length hs ≡ object_count app = many in
+      let each : All (λ h. length h.items ≤ MOST_UNITS + 1) hs =
+      λ k d l.
+      let there : (start : Start) × (start_of app k ≡ Some start) = start_there app k (omega arith) in
+      let short : length (history_at hs k) ≤ MOST_UNITS + 1 = histories.few_entries there.0 (history_at hs k) (legal k there.0 there.1) in
+      let same : (get_or hs k d).items ≡ history_at hs k = ap (λ (h : Listed Entry). h.items) (get_or_default hs k d empty l) in
+      let size = ap length same in omega arith in
+      let most = sum_by-le (λ (h : Listed Entry). length h.items) (MOST_UNITS + 1) hs each in
+      omega (arith, length-flat_map (λ (h : Listed Entry). h.items) hs)
+
+-- ---- those of a world
 
 -- no entry is on an object that is not there
 none_on : (o n : ℕ) (t : List Entry) → n ≤ o → All (λ e. e.object < n) t → entries_on o t ≡ []
@@ -67,15 +99,6 @@ module _ (app : App) (w : World) (trace : List Entry) (s : WorldStands app w tra
   on_own : (o : ℕ) → All (λ e. e.object ≡ o) (entries_on o trace)
   on_own o k d l = eqb-true _ _ (filter_passes (is_on o) trace k d l)
 
-  history_is : (o : ℕ) → IsHistory (entries_on o trace)
-  history_is o =
-      elim (cases_lt o (object_count app)) as (λ _. IsHistory (entries_on o trace)) [
-        | inl lt ↦
-            let there : (start : Start) × (start_of app o ≡ Some start) = start_there app o lt in
-            legal_is_history there.0 o (entries_on o trace) (s.run.histories o there.0 there.1) (on_own o)
-        | inr past ↦ subst IsHistory (sym (none_on o (object_count app) trace past s.run.there)) history_none
-      ]
-
   module _ (hs : List (Listed Entry)) (are : AreItsHistories w hs) where
     many : length hs ≡ object_count app
     many = sym (length-map hs (λ (h : Listed Entry). h.items)) ∙ ap length are ∙ length-map w.objects.items (λ (r : Record Object). r.history) ∙ s.objects.count
@@ -92,21 +115,14 @@ module _ (app : App) (w : World) (trace : List Entry) (s : WorldStands app w tra
     numbered : (o : ℕ) → All (λ e. e.object ≡ o) (history_at hs o)
     numbered o = subst (All (λ e. e.object ≡ o)) (sym (at_number o)) (on_own o)
 
+    legal_at : (o : ℕ) (start : Start) → start_of app o ≡ Some start → IsLegal start (history_at hs o)
+    legal_at o start there = subst (IsLegal start) (sym (at_number o)) (s.run.histories o start there)
+
     pub are_histories : AreHistories hs
-    are_histories = are_by_number hs (λ o. subst IsHistory (sym (at_number o)) (history_is o)) numbered
+    are_histories = can_merge app hs many legal_at numbered
 
     pub few_entries : IsTrue (is_sound app) → length (all_entries hs) < 2 ^ 32
-    few_entries sound =
-        let known : SoundApp app = app_known app sound in
-        let same : length hs ≡ object_count app = many in
-        let each : All (λ h. length h.items ≤ MOST_UNITS + 1) hs =
-        λ k d l.
-        let there : (start : Start) × (start_of app k ≡ Some start) = start_there app k (omega arith) in
-        let short : length (entries_on k trace) ≤ MOST_UNITS + 1 = histories.few_entries there.0 (entries_on k trace) (s.run.histories k there.0 there.1) in
-        let same : (get_or hs k d).items ≡ entries_on k trace = ap (λ (h : Listed Entry). h.items) (get_or_default hs k d empty l) ∙ at_number k in
-        let size = ap length same in omega arith in
-        let most = sum_by-le (λ (h : Listed Entry). length h.items) (MOST_UNITS + 1) hs each in
-        omega (arith, length-flat_map (λ (h : Listed Entry). h.items) hs)
+    few_entries sound = few_merged app hs many legal_at numbered sound
 
     -- what has the world's histories is its trace
     pub closed : (r : Result (List Entry) NoMemory) → IfOk r (λ t. (o : ℕ) → entries_on o t ≡ entries_on o (all_entries hs)) → IfOk r IsTrace → IfOk r (λ t. t ≡ trace)

@@ -6,12 +6,13 @@ ghost use Rattle.anti_kind.specs.Machines.{StandsFor};
 ghost use Rattle.anti_object.specs.Standing.{ObjectAt};
 ghost use Rattle.anti_trace.specs.inner.After.{AreFirst};
 ghost use Rattle.anti_play.specs.inner.Closing.{at_first};
+ghost use Rattle.anti_play.specs.inner.Kepts.{at_last};
 
 use crate::reading::has_reads;
 use crate::world::World;
 use anti_app::App;
 use anti_ids::{List, NoMemory};
-use anti_kind::{Machine, Recorded};
+use anti_kind::{History, Machine, Recorded};
 use anti_object::{Object, Objects};
 use anti_trace::{Processes, Trail};
 use std::alloc::Global;
@@ -67,23 +68,35 @@ fn keep(alloc: Global, objects: &mut Vec<Recorded<Object>>, object: Object) -> R
     requires { ObjectAt object [] }
     ensures { OnOk result (objects.new.items ≡ objects.old.items ++ at_first object ∷ []) }
 {
-    let recorded = recorded(alloc, object)?;
+    keep_with(objects, object, List::new(alloc))
+}
+
+/// One object more at the end, with its history.
+pub fn keep_with(
+    objects: &mut Vec<Recorded<Object>>,
+    object: Object,
+    history: History,
+) -> Result<(), NoMemory>
+    requires { ObjectAt object history.items }
+    ensures { OnOk result (objects.new.items ≡ objects.old.items ++ at_last (object, history) ∷ []) }
+{
+    let recorded = recorded(object, history)?;
     add(objects, recorded)
 }
 
-// A machine of which nothing is recorded yet. Where there is no memory it is given up.
-fn recorded<M: Machine + Drop>(alloc: Global, machine: M) -> Result<Recorded<M>, NoMemory>
-    requires { StandsFor (M.start machine) (M.Stands machine) [] }
-    ensures { IfOk result (λ r. r ≡ record { machine = machine; history = [] }) }
+// A machine with its history. Where there is no memory both are given up.
+fn recorded<M: Machine + Drop>(machine: M, history: History) -> Result<Recorded<M>, NoMemory>
+    requires { StandsFor (M.start machine) (M.Stands machine) history.items }
+    ensures { IfOk result (λ r. r ≡ record { machine = machine; history = history.items }) }
 {
-    match Recorded::new(alloc, machine) {
+    match Recorded::of(machine, history) {
         Ok(recorded) => Ok(recorded),
-        Err((_, fault)) => Err(fault),
+        Err((_machine, _history, fault)) => Err(fault),
     }
 }
 
-// Adds an item at the end. Where there is no memory it is given up.
-fn add<T: Drop>(items: &mut Vec<T>, item: T) -> Result<(), NoMemory>
+/// Adds an item at the end. Where there is no memory it is given up.
+pub fn add<T: Drop>(items: &mut Vec<T>, item: T) -> Result<(), NoMemory>
     ensures { OnOk result (items.new.items ≡ items.old.items ++ item ∷ []) }
 {
     match items.push(item) {

@@ -4,6 +4,7 @@
 mod choice_call;
 mod finish;
 mod first_world;
+mod kept_world;
 mod laws;
 mod player;
 mod reading;

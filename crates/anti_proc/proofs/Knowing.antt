@@ -4,6 +4,7 @@ use Rattle.std.specs.Prelude.{is_some, nat_lt, nat_le}
 use Rattle.std.specs.List.{list_all}
 use Rattle.std.proofs.lemmas.Bool.{and_from, lt-ltb, le-leb, le-ltb}
 use Rattle.std.proofs.lemmas.List.{length-map}
+use Rattle.std.proofs.lemmas.Option.{none-some}
 use Rattle.anti_ids.specs.Each.{Each}
 use Rattle.anti_ids.specs.Ids.{with_ids}
 use Rattle.anti_ids.specs.declared.id.WriteId.{WriteId}
@@ -137,13 +138,13 @@ module _ (app : App) where
 
   by_call : (o : ℕ) (at : ObjectAt) (call : Call) (r : Reply) (role : Role) → role_at app o at call r ≡ Some role → IsReplyAt app o r → Begins o r role
   by_call o (Inbox service) (calls.Take nth) (replies.Got number m) role starts known = stated_begins role m (stated_lineage app m) known.baggage
-  by_call o (Inbox service) (calls.Take nth) r role starts known = absurd (cc)
-  by_call o (Inbox service) call r role starts known = absurd (cc)
+  by_call o (Inbox service) (calls.Take nth) r role starts known = absurd (none-some role starts)
+  by_call o (Inbox service) call r role starts known = absurd (none-some role starts)
   by_call o (Store store) (calls.Pull position) (replies.Pulled row) role starts known = row_begins o row role known
-  by_call o (Store store) (calls.Pull position) r role starts known = absurd (cc)
+  by_call o (Store store) (calls.Pull position) r role starts known = absurd (none-some role starts)
   by_call o (Store store) (calls.Repull position version) (replies.Pulled row) role starts known = row_begins o row role known
-  by_call o (Store store) (calls.Repull position version) r role starts known = absurd (cc)
-  by_call o (Store store) call r role starts known = absurd (cc)
+  by_call o (Store store) (calls.Repull position version) r role starts known = absurd (none-some role starts)
+  by_call o (Store store) call r role starts known = absurd (none-some role starts)
 
   by_object : (e : Entry) (found : Option ObjectAt) (role : Role) → option_and_then (λ at. role_at app e.object at e.call e.reply) found ≡ Some role
       → IsReplyAt app e.object e.reply → Begins e.object e.reply role

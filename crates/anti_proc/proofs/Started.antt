@@ -4,6 +4,7 @@ use Rattle.std.proofs.Common.{◌≡◌, ℕ, ◌<◌, ◌≤◌, Bool, true, fa
 use Rattle.std.specs.Prelude.{List, [], nat_lt}
 use Rattle.std.specs.Option.{option_map_or}
 use Rattle.std.proofs.lemmas.Bool.{ltb-false, ltb-true}
+use Rattle.std.proofs.lemmas.Option.{none-some}
 use Rattle.anti_ids.specs.Ids.{with_ids}
 use Rattle.anti_ids.specs.declared.id.WriteId.{WriteId}
 use Rattle.anti_kind.specs.declared.call.Call.{Call}
@@ -97,16 +98,16 @@ module _ (app : App) (birth : Entry) (Is : Task → Type 0)
   at_inbox : (call : Call) (reply : Reply) → birth.reply ≡ reply → IsInbox app birth.object
       → Starts reply (role_at app birth.object (Inbox (service_at app birth.object)) call reply) → Is task
   at_inbox (calls.Take nth) (replies.Got number m) is at starts = by_message number m (is_for app (service_at app birth.object) m) is at refl starts
-  at_inbox (calls.Take nth) reply is at starts = absurd (cc)
-  at_inbox call reply is at starts = absurd (cc)
+  at_inbox (calls.Take nth) reply is at starts = absurd (none-some task starts)
+  at_inbox call reply is at starts = absurd (none-some task starts)
 
   at_store : (call : Call) (reply : Reply) → birth.reply ≡ reply → IsStore app birth.object
       → Starts reply (role_at app birth.object (Store birth.object) call reply) → Is task
   at_store (calls.Pull position) (replies.Pulled row) is at starts = by_sub row (sub_on app birth.object position) is at starts
-  at_store (calls.Pull position) reply is at starts = absurd (cc)
+  at_store (calls.Pull position) reply is at starts = absurd (none-some task starts)
   at_store (calls.Repull position version) (replies.Pulled row) is at starts = by_sub row (sub_on app birth.object position) is at starts
-  at_store (calls.Repull position version) reply is at starts = absurd (cc)
-  at_store call reply is at starts = absurd (cc)
+  at_store (calls.Repull position version) reply is at starts = absurd (none-some task starts)
+  at_store call reply is at starts = absurd (none-some task starts)
 
   by_service : (here : Bool) → nat_lt (service_at app birth.object) (length app.services.items) ≡ here → length app.stores.items ≤ birth.object
       → Starts birth.reply (option_and_then role_by (if here then Some (Inbox (service_at app birth.object)) else None)) → Is task

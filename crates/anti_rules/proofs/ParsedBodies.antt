@@ -3,7 +3,7 @@ use Rattle.std.proofs.Common.{◌≡◌, ℕ, ◌+◌, List, [], ◌∷◌, ◌+
 use Rattle.std.specs.Bool.{then_some}
 use Rattle.std.specs.List.{list_all, position_from}
 use Rattle.std.specs.Option.{option_or, option_map_or}
-use Rattle.std.proofs.lemmas.Bool.{and_parts, and_from}
+use Rattle.std.proofs.lemmas.Bool.{and_parts, and_from, false≢true}
 use Rattle.toml.specs.Data.{Data, table, Members}
 use Rattle.anti_ids.specs.declared.limits.TheConstants.{MOST_LINES}
 use Rattle.anti_ids.specs.List.{Listed, empty}
@@ -138,7 +138,7 @@ asks_bodies StatementHandlers doc h = record {
   elsewhere = λ earlier d. (refl, refl, refl, refl, refl, refl);
   handlers = λ home earlier d parses fits. none_bad (handler_exists doc) d parses fits;
 }
-asks_bodies rule doc h = absurd (cc)
+asks_bodies rule doc h = absurd (false≢true h)
 
 -- ---- the whole document
 all_pass : {T : Type 0} (test : T → Bool) → ((x : T) → test x ≡ true) → (xs : List T) → list_all test xs ≡ true
@@ -160,7 +160,7 @@ shown_fits Blocks doc h = fits_any Blocks doc (λ home line. refl)
 shown_fits Variables doc h = fits_any Variables doc (λ home line. refl)
 shown_fits StatementStores doc h = h
 shown_fits StatementHandlers doc h = h
-shown_fits rule doc h = absurd (cc)
+shown_fits rule doc h = absurd (false≢true h)
 
 -- what the bodies of some handlers pass, each handler does
 each_fits : (rule : Rule) (doc : Members) (home : List ℕ) (ds : List Data) → bodies_fit rule doc home (map handler_body ds) ≡ true

@@ -13,7 +13,7 @@ use std::alloc::Global;
 use toml::Table;
 
 /// A rule that a document fails, and where.
-#[derive(Clone, Copy, PartialEq, Eq)]
+#[derive(Clone, Copy)]
 pub struct Breach {
     /// The number of the rule, counted from 1.
     pub rule: u32,

@@ -1,5 +1,5 @@
 -- The processes of a trace that gets one entry more: what they are after a birth, after a reply, after a carrier's entry, and after room was
--- made. A trace gets the next entry of a legal one, or one that is put into it.
+-- made. A trace gets the next entry of a legal one, or one that is put into it, and any list of entries gets one at its end.
 use Rattle.std.proofs.Common.{◌≡◌, ℕ, ◌+◌, ◌<◌, ◌≤◌, ◌++◌, List, [], ◌∷◌, true, false, length, map, get_or, refl, sym, ap, ◌∙◌, subst, arith, inl, inr, append-nil}
 use Rattle.std.specs.Prelude.{All, Result, Ok, Err, IsErr, MatchResult, OnOk, Option, None, Some, IfSome, IsTrue, slice_get, slice_set, position}
 use Rattle.std.proofs.lemmas.Bool.{cases_lt, false_from_ne_true}
@@ -52,18 +52,21 @@ goes_on app trace after e gets o =
       | inr other ↦ ([], gets.grows.others o other ∙ sym (append-nil (entries_on o trace)))
     ]
 
--- the next entry of a legal trace
-module _ (app : App) (before : List Entry) (e : Entry) (later : List Entry) (legal : IsLegalTrace app (before ++ e ∷ later)) where
-  pub gets_next : Gets app before (before ++ e ∷ []) e
-  gets_next = record {
-    grows = record { here = entries_on_next before e; others = λ o other. entries_on_past o before e other };
-    own = filter_cut (is_by e.actor) before e [] (same_actor_itself e.actor);
-    others = λ a other.
-        filter-append (is_by a) before (e ∷ [])
-        ∙ ap (λ (es : List Entry). entries_by a before ++ es)
-        (filter-no (is_by a) e [] (false_from_ne_true (is_by a e) (λ same. other (sym (same_actor_true a e.actor same)))))
-        ∙ append-nil (entries_by a before);
-  }
+-- any entry, at the end
+pub gets_last : (app : App) (before : List Entry) (e : Entry) → Gets app before (before ++ e ∷ []) e
+gets_last app before e = record {
+  grows = record { here = entries_on_next before e; others = λ o other. entries_on_past o before e other };
+  own = filter_cut (is_by e.actor) before e [] (same_actor_itself e.actor);
+  others = λ a other.
+      filter-append (is_by a) before (e ∷ [])
+      ∙ ap (λ (es : List Entry). entries_by a before ++ es)
+      (filter-no (is_by a) e [] (false_from_ne_true (is_by a e) (λ same. other (sym (same_actor_true a e.actor same)))))
+      ∙ append-nil (entries_by a before);
+}
+
+-- so the next entry of a legal trace
+pub gets_next : (app : App) (before : List Entry) (e : Entry) (later : List Entry) → IsLegalTrace app (before ++ e ∷ later) → Gets app before (before ++ e ∷ []) e
+gets_next app before e later legal = gets_last app before e
 
 -- ---- the processes, where the trace stays
 
@@ -274,7 +277,7 @@ module _ (app : App) (sound : IsTrue (is_sound app)) (ps : List AtObject) (e : E
       pub bore : (ms ns : List AtObject) (p : Process) → Changes ps ms b.object (born_at ps b.object) → IsNewOf app e p → Changes ms ns b.object (born_at ms b.object ++ p ∷ [])
           → AreProcessesOf app ns (before ++ e ∷ [])
       bore ms ns p room new changes =
-          born_are app ms before (before ++ e ∷ []) (reserved_are app ps ms before b.object are room) e (gets_next app before e later legal) ns p
+          born_are app ms before (before ++ e ∷ []) (reserved_are app ps ms before b.object are room) e (gets_last app before e) ns p
           (at ∙ ap Acting (sym named)) (subst (λ (x : Birth). entries_by (Acting x) before ≡ []) (sym named) none_did) new
           (subst (λ (x : Birth). Changes ms ns x.object (born_at ms x.object ++ p ∷ [])) (sym named) changes)
 
@@ -292,7 +295,7 @@ module _ (app : App) (sound : IsTrue (is_sound app)) (ps : List AtObject) (e : E
           let both : Becomes (TakesOver e.stamp a) ps ns b.object i = room_then ps ms ns b.object i e.stamp a room takes in
           let old : p ≡ both.old = (let two : Some p ≡ Some both.old = sym is ∙ both.was in cc) in
           let going : full_of p ≡ None = next_going app sound before e later legal b at p on in
-          went_are app ps before (before ++ e ∷ []) are e (gets_next app before e later legal) b at i found
+          went_are app ps before (before ++ e ∷ []) are e (gets_last app before e) b at i found
           (next_other app sound before e later legal b at p on) (subst (λ (a : Actor). All (λ d. d.stamp < e.stamp) (entries_by a before)) at (next_above app sound before e later legal)) ns a both
           (subst (λ (x : Process). full_of x ≡ None) old going)
           (subst (λ (x : Process). standing.advanced app x a ≡ branch (process_of app x) e.reply) old (goes going))

@@ -64,7 +64,7 @@ bare_more count all here bare empty = record {
     none_more (x ∷ xs) none (suc o) = none_more xs (λ k. none (suc k)) o
 
 -- a trail that holds nothing is that of the trace of which nothing has happened
-pub bare_is : (app : App) (t : Trail) (count : ℕ) → IsBare count t.at.items → count ≡ object_count app → t.is_kept ≡ true → IsTrailOf app [] t
+bare_is : (app : App) (t : Trail) (count : ℕ) → IsBare count t.at.items → count ≡ object_count app → t.is_kept ≡ true → IsTrailOf app [] t
 bare_is app t count bare is kept = record { kept = kept; count = bare.many ∙ is; each = bare.none }
 
 pub bare_if : (app : App) (t : Trail) (count : ℕ) → IsBare count t.at.items → count ≡ object_count app → IsTrailIfKept app [] t
@@ -75,7 +75,7 @@ pub trail_if : (app : App) (trace : List Entry) (t : Trail) → IsTrailOf app tr
 trail_if app trace t is = record { count = is.count; trail = λ kept. is }
 
 -- and is a footprint of one that is kept
-pub footprint_kept : (t : Trail) (asked : Option Ask) → t.is_kept ≡ true → footprint_in t asked ≡ footprint asked
+footprint_kept : (t : Trail) (asked : Option Ask) → t.is_kept ≡ true → footprint_in t asked ≡ footprint asked
 footprint_kept t asked kept = ap (λ (b : Bool). if b then footprint asked else None) kept
 
 becomes_itself : (t : Trail) (o : ℕ) → TrailBecomes t t o (trail_at t o)
@@ -289,10 +289,10 @@ module _ (app : App) (sound : IsTrue (is_sound app)) (before : List Entry) (e : 
   above : All (λ d. d.stamp < e.stamp) (entries_by e.actor before)
   above = next_above app sound before e later legal
 
-  module _ (t : Trail) (is : IsTrailOf app before t) where
+  module _ (t : Trail) (is : IsTrailIfKept app before t) where
     -- a carrier's
-    pub next_carried : ((b : Birth) → e.actor ≡ Acting b → ⊥) → IsTrailOf app longer t
-    next_carried none = trail_stays app before longer e gets above t is (by_actor e.actor none (actor_cut app (before ++ e ∷ later) legal before e later refl))
+    pub next_carried : ((b : Birth) → e.actor ≡ Acting b → ⊥) → IsTrailIfKept app longer t
+    next_carried none = trail_stays_if app before longer e gets above t is (by_actor e.actor none (actor_cut app (before ++ e ∷ later) legal before e later refl))
       where
         by_actor : (a : Actor) → ((b : Birth) → a ≡ Acting b → ⊥) → IsOfActor app a (entries_by e.actor before ++ e ∷ entries_by e.actor later)
             → leaves_trail e.call ≡ false
@@ -303,15 +303,15 @@ module _ (app : App) (sound : IsTrue (is_sound app)) (before : List Entry) (e : 
 
     module _ (b : Birth) (at : e.actor ≡ Acting b) where
       -- the birth of a process
-      pub next_born : entries_by (Acting b) before ≡ [] → IsTrailOf app longer t
-      next_born unborn = trail_stays app before longer e gets above t is (bears_none e.call (next_bears app sound before e later legal b at unborn))
+      pub next_born : entries_by (Acting b) before ≡ [] → IsTrailIfKept app longer t
+      next_born unborn = trail_stays_if app before longer e gets above t is (bears_none e.call (next_bears app sound before e later legal b at unborn))
 
       -- of one that was born
       pub next_went : (p : Process) → LivesOn app before p (entries_by (Acting b) before) → (n : Trail)
-          → TrailBecomes t n e.object (with_footprint (trail_at t e.object) (footprint (ask_of (process_of app p)))) → IsTrailOf app longer n
+          → TrailBecomes t n e.object (with_footprint (trail_at t e.object) (footprint_in t (ask_of (process_of app p)))) → IsTrailIfKept app longer n
       next_went p on n becomes =
           let left : process_of app p ≡ process_after app (entries_by (Acting b) before) =
           on.tree (next_going app sound before e later legal b at p on) in
-          trail_grows app before longer e gets above (process_of app p)
+          trail_grows_if app before longer e gets above (process_of app p)
           (left ∙ ap (λ (a : Actor). process_after app (entries_by a before)) (sym at)) e.object e.span
           (ap want_of left ∙ left_wants app sound before e later legal b at p on) t n is becomes

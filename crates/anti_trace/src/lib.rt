@@ -21,7 +21,7 @@ mod processes_along;
 mod trace;
 mod trail;
 
-pub use aftermath::Aftermath;
+pub use aftermath::{Aftermath, Going};
 pub use ends::{Ends, ProcessEnd};
 pub use history_merge::{Histories, merge};
 pub use laws::{legal_traces_are_known, nothing_is_foreign};

@@ -1,11 +1,9 @@
 -- What a worker was refused it left undone for a reason that stands in the trace, and nothing that it was answered was foreign.
 use Rattle.std.proofs.Common.{◌≡◌, ℕ, ◌+◌, ◌-◌, ◌*◌, ◌^◌, ◌<◌, ◌≤◌, ◌++◌, ◌⊎◌, inl, inr, max, false, true, List, [], ◌∷◌, length, get_or, refl, sym, ap, ◌∙◌, subst, append-nil, append_assoc, arith}
 use Rattle.std.specs.Prelude.{◌==◌, All, Contains, None, Some, IsTrue}
-use Rattle.std.proofs.Math.Nat.{le_trans, mul-le-mul_right}
 use Rattle.std.proofs.lemmas.Bool.{eq-eqb}
 use Rattle.std.proofs.lemmas.List.{append_cancel_left}
 use Rattle.std.proofs.lemmas.List.Elements.{All-contains, All-nil, All-weaker, Contains-get_or, filter-append}
-use Rattle.anti_ids.specs.declared.limits.TheConstants.{MOST_UNITS}
 use Rattle.anti_turn.specs.Lists.{IsFront}
 use Rattle.anti_kind.specs.declared.actor.Actor.{Actor}
 use Rattle.anti_kind.specs.declared.asking.Asking.{Asking}
@@ -15,17 +13,16 @@ use Rattle.anti_kind.specs.Objects.{Start, fits, last_stamp, ready}
 use Rattle.anti_kind.proofs.Histories.{last_stamp-append}
 use Rattle.anti_shared.specs.Passes.{PassView, calls_of, seat_of}
 use Rattle.anti_app.specs.declared.app.App.{App}
-use Rattle.anti_app.specs.Objects.{object_count}
 use Rattle.anti_app.specs.Sound.{is_sound}
-use Rattle.anti_app.proofs.SoundLemmas.{SoundApp, app_known}
 use Rattle.anti_object.specs.Starts.{start_of}
 use Rattle.anti_object.specs.declared.object.Object.{Object}
 use Rattle.anti_proc.specs.Foreign.{is_foreign}
 use Rattle.anti_proc.specs.Tasks.{task_of}
 use Rattle.anti_trace.specs.Legal.{IsLegalTrace, bears}
 use Rattle.anti_trace.specs.Traces.{IsTrace, entries_by, entries_on}
-use Rattle.anti_trace.proofs.OfLegal.{actor_stamps, all_start, history_stamps, legal_short, none_foreign}
+use Rattle.anti_trace.proofs.OfLegal.{actor_stamps, all_start, history_stamps, none_foreign}
 use Rattle.anti_trace.proofs.Puts.{All-from_filter}
+use Rattle.anti_play.proofs.NextEntry.{few_entries}
 use Rattle.anti_work.specs.inner.Knowing.{WasRefused, number_at, seen_at}
 use Rattle.anti_work.specs.inner.Works.{AreMadeBy}
 use Rattle.anti_work.proofs.Merged.{did_same, in_trace, merged_is_legal}
@@ -37,13 +34,6 @@ none_behind n front rest same =
     (sym (filter-append (λ e. seat_of e == n) front rest) ∙ same ∙ sym (append-nil (calls_of n front))) in
     All-weaker (λ e. (seat_of e == n) ≡ true → ⊥) (λ e. e.seat ≡ n → ⊥) (λ e other is. other (eq-eqb e.seat n is)) rest
     (All-from_filter (λ e. ⊥) (λ e. seat_of e == n) rest (subst (All (λ e. ⊥)) (sym none) (All-nil (λ (e : Entry). ⊥))))
-
--- no trace of a sound application has so many entries that stamps are spent
-few_entries : (app : App) (trace : List Entry) → IsTrue (is_sound app) → IsLegalTrace app trace → length trace ≤ 32 * (MOST_UNITS + 1)
-few_entries app trace sound legal =
-    let known : SoundApp app = app_known app sound in
-    let few : object_count app ≤ 32 = omega arith in
-    le_trans (legal_short app trace legal) (mul-le-mul_right (MOST_UNITS + 1) few)
 
 -- A call was left undone by whoever has this seat at the object: at some moment behind its last entry there, the call was not ready or did
 -- not fit.
@@ -108,7 +98,7 @@ module _ (app : App) (histories : ℕ → List Entry) (seat : ℕ → ℕ → �
       -- there is a stamp left
       not_spent : max q.clock (last_stamp refused.seen) ≡ 2 ^ 64 - 1 → ⊥
       not_spent spent =
-          let few : length trace ≤ 32 * (MOST_UNITS + 1) = few_entries app trace sound legal in
+          let few : length trace ≤ 32 * 4097 = few_entries app trace sound legal in
           let short : last_stamp (histories q.object) ≤ length trace =
           subst (λ (h : List Entry). last_stamp h ≤ length trace) (same q.object) (history_stamps app trace legal q.object) in
           let parts : last_stamp (histories q.object) ≡ max (last_stamp refused.seen) (last_stamp rest) =

@@ -99,17 +99,19 @@ HasRoomAt t o = has_room (slice_get t.at.items o)
 
 -- ---- with the processes
 
--- the processes stand for the trace, and the trail is what they left
-pub record HasGone (app : App) (trace : List Entry) (g : Going) : Type 0 where
+-- the processes stand for the trace, and the trail, if it is to be kept, is what they left
+pub record HasGone (app : App) (is_kept : Bool) (trace : List Entry) (g : Going) : Type 0 where
   pub processes : AreProcessesOf app (lists g.processes) trace
-  pub trail : IsTrailOf app trace g.trail
+  pub trail : IsTrailIfKept app trace g.trail
+  pub kept : g.trail.is_kept ≡ is_kept
 
 -- the entry is the next of a legal trace, and they have gone past all before it
 pub record IsNextIn (app : App) (g : Going) (e : Entry) : Type 0 where
   pub before : List Entry
   pub after : List Entry
   pub legal : IsLegalTrace app (before ++ e ∷ after)
-  pub gone : HasGone app before g
+  pub is_kept : Bool
+  pub gone : HasGone app is_kept before g
 
 -- how the processes of the trace ended, and the trail that they left, where it is kept
 pub record IsAftermathOf (app : App) (trace : List Entry) (after : Aftermath) : Type 0 where

@@ -1,4 +1,4 @@
-use Rattle.std.proofs.Common.{◌<◌, arith}
+use Rattle.std.proofs.Common.{◌<◌, ◌∙◌, arith}
 use Rattle.anti_app.specs.Objects.{object_count}
 use Rattle.anti_trace.proofs.Followed.{done}
 use Rattle.anti_trace.proofs.OfLegal.{at_cut}
@@ -27,6 +27,10 @@ follow_from-requires-clause-next c =
     record { before = next.before; after = next.after; legal = next.legal; are = next.gone.processes }
 
 pub returns : goal.returns
-returns c = λ before after legal gone.
+returns c = λ is_kept before after legal gone.
     done _ _ _ c.follow_from.result (c.follow_from.ensures before after legal gone.processes)
-    (λ are. record { processes = are; trail = c.in_ok-note.ensures c.args.app.now before after c.requires.sound legal gone.processes gone.trail })
+    (λ are. record {
+      processes = are;
+      trail = c.in_ok-note.ensures.trail c.args.app.now before after c.requires.sound legal gone.processes gone.trail;
+      kept = c.in_ok-note.ensures.kept ∙ gone.kept;
+    })

@@ -13,6 +13,7 @@ follow-requires-clause-next c =
       before = take i trace;
       after = drop (i + 1) trace;
       legal = subst (IsLegalTrace c.args.app.now) (cut_at c.args.app.now trace c.requires.legal i c.entry-item.result c.loop-entry-test.true c.entry-item.is) c.requires.legal;
+      is_kept = c.args.is_kept;
       gone = c.loop-entry.invariant;
     }
 
@@ -22,8 +23,8 @@ loop-entry-preserved c =
     let trace = c.args.trace.now in
     let i = c.loop-entry.entry-index in
     let e = c.entry-item.result in
-    subst (λ t. HasGone app t c.follow.new.self) (taken_more app trace c.requires.legal i e c.loop-entry-test.true c.entry-item.is)
-    (c.in_ok-follow.ensures (take i trace) (drop (i + 1) trace)
+    subst (λ t. HasGone app c.args.is_kept t c.follow.new.self) (taken_more app trace c.requires.legal i e c.loop-entry-test.true c.entry-item.is)
+    (c.in_ok-follow.ensures c.args.is_kept (take i trace) (drop (i + 1) trace)
     (subst (IsLegalTrace app) (cut_at app trace c.requires.legal i e c.loop-entry-test.true c.entry-item.is) c.requires.legal) c.loop-entry.invariant)
 
 pub returns : goal.returns
