@@ -38,7 +38,8 @@ use Rattle.anti_trace.specs.Traces.{entries_by, entries_on, is_by, is_on}
 use Rattle.anti_trace.specs.Legal.{IsBirthOf, IsLegalTrace, IsLife}
 use Rattle.anti_trace.proofs.Puts.{same_actor_true}
 use Rattle.anti_trace.proofs.AreBorn.{is_birth_itself}
-use Rattle.anti_play.specs.Over.{IsComplete, IsBlocked, IsEverywhere, IsOver}
+use Rattle.anti_play.specs.Complete.{IsComplete}
+use Rattle.anti_play.specs.Over.{IsBlocked, IsEverywhere, IsOver}
 use Rattle.anti_play.specs.Schedule.{asked_by, bearing, carrying, chosen, go_of, goes, made, made_at, next_call, next_entry, objects, offers, pulling, pulling_at, pulls, ships, ships_at, ships_of, ships_to, take_of, takes}
 use Rattle.anti_play.proofs.Arrived.{everywhere}
 use Rattle.anti_play.proofs.MadeAt.{free_fits}

@@ -26,7 +26,7 @@ use Rattle.anti_kind.specs.declared.asking.Asking.{Asking}
 use Rattle.anti_app.specs.declared.app.SubDef.{SubDef}
 use Rattle.anti_app.specs.Subs.{position_on}
 use Rattle.anti_play.specs.Schedule.{asking_at, asked_by, bearing, carrying, clock_of, pulling, made_at, chosen, offers, first_made, after_turns, finished}
-use Rattle.anti_play.specs.Over.{IsComplete}
+use Rattle.anti_play.specs.Complete.{IsComplete}
 use Rattle.anti_trace.specs.Legal.{IsLegalTrace, bears, carries}
 use Rattle.anti_trace.specs.Histories.{GoesOn}
 use Rattle.anti_trace.specs.inner.Living.{Gets}

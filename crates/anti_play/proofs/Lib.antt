@@ -14,6 +14,7 @@ pub mod KeptWorld
 pub mod HasPlayed
 pub mod FirstOf
 pub mod Finished
+mod Seated
 pub mod Arrived
 pub mod Complete
 pub mod Pulling

@@ -16,7 +16,7 @@ use Rattle.anti_trace.specs.Traces.{entries_on, put}
 use Rattle.anti_trace.proofs.Sames.{same_trace}
 use Rattle.anti_play.specs.declared.world.World.{World}
 use Rattle.anti_play.specs.Schedule.{first_made, finished}
-use Rattle.anti_play.specs.Over.{IsComplete}
+use Rattle.anti_play.specs.Complete.{IsComplete}
 use Rattle.anti_trace.specs.Histories.{GoesOn}
 use Rattle.anti_trace.specs.inner.Living.{Gets}
 use Rattle.anti_trace.proofs.Followed.{goes_on as histories_go_on}

@@ -1,4 +1,5 @@
 pub mod Schedule
+pub mod Complete
 pub mod Over
 pub mod Pulls
 pub mod inner

@@ -1,5 +1,5 @@
 -- What it means that nothing is left to make, said of the processes, the inboxes and the stores themselves.
-use Rattle.std.specs.Prelude.{◌≡◌, ℕ, ◌⊎◌, false, List, [], All, Some, IsTrue, None}
+use Rattle.std.specs.Prelude.{◌≡◌, ℕ, ◌⊎◌, false, List, [], All, Some, IsTrue}
 use Rattle.anti_kind.specs.declared.actor.Birth.{Birth}
 use Rattle.anti_kind.specs.declared.asking.Asking.{Asking}
 use Rattle.anti_kind.specs.declared.call.Call.TheVariants as calls
@@ -12,11 +12,7 @@ use Rattle.anti_kind.specs.Stored.{rows, is_whole}
 use Rattle.anti_app.specs.declared.app.App.{App}
 use Rattle.anti_object.specs.Starts.{start_of}
 use Rattle.anti_trace.specs.Traces.{entries_on}
-use Rattle.anti_play.specs.Schedule.{next_call, pulling_at, chosen, offers}
-
--- nothing is left to make
-abbrev pub IsComplete : App → List Entry → Type 0
-IsComplete app trace = All (λ choice. chosen app trace choice ≡ None) (offers app trace)
+use Rattle.anti_play.specs.Schedule.{next_call, pulling_at}
 
 -- At its object the call that is asked is not ready, or it does not fit.
 abbrev pub IsBlocked : App → List Entry → Asking → Type 0

@@ -6,7 +6,7 @@ ghost use Rattle.anti_app.specs.Sound.{is_sound};
 ghost use Rattle.anti_kind.specs.declared.asking.Asking.{Asking};
 ghost use Rattle.anti_trace.specs.Legal.{bears};
 ghost use Rattle.anti_agenda.specs.Agendas.{IsAwake};
-ghost use Rattle.anti_play.specs.Over.{IsComplete};
+ghost use Rattle.anti_play.specs.Complete.{IsComplete};
 ghost use Rattle.anti_play.specs.Schedule.{bearing, finished, first_made};
 ghost use Rattle.anti_play.specs.inner.Attempts.{AttendsBehind, HasFewer, IsRouteTo, MakesEntry, made_by};
 ghost use Rattle.anti_play.specs.inner.Attending.{CallWaits, IsAttended, IsRoute, asked_by_offer};
