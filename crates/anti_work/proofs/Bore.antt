@@ -29,7 +29,7 @@ use Rattle.anti_work.specs.inner.Tries.{BearsOwn, HasBorn}
 use Rattle.anti_work.specs.inner.Working.{IsRefusedAt, Stays, StoppedAt, WorkerStands}
 use Rattle.anti_work.proofs.Asked.{made_entry, made_knows, newborn_did, newborn_none, refusing_makes_none}
 use Rattle.anti_work.proofs.Composed.{refused_asked, refused_past, stays_asked, stays_itself}
-use Rattle.anti_work.proofs.OneMore.{gets_more, stands_more}
+use Rattle.anti_work.proofs.OneMore.{gets_more, ours_more, stands_more}
 
 -- ---- a process that was added
 
@@ -89,12 +89,14 @@ module _ (app : App) (w : Worker) (calls : List Entry) (stands : WorkerStands ap
         (newborn_did app w.number w.passes.items new.passes.items calls stands.knows q place stamp reply asked refl bearing_is refl)
 
     -- it starts nothing
-    pub bore_stops : (again : Call) → again ≡ call → task_of app (told again) ≡ None → (all : List Entry) × StoppedAt app new (calls ++ all)
-    bore_stops again same none = (
+    pub bore_stops : BearsOwn app w.number object call → (again : Call) → again ≡ call → task_of app (told again) ≡ None
+        → (all : List Entry) × StoppedAt app new (calls ++ all)
+    bore_stops own again same none = (
       [],
       subst (StoppedAt app new) (sym (append-nil calls)) (record {
         entry = e;
         knows = subst (λ (n : ℕ). KnowsCalls app n new.passes.items more) (sym number) knows;
+        ours = ours_more app w new calls e stands number (λ bears_it. own e refl refl);
         foreign = inl (bearing_is, subst (λ (c : Call). task_of app (told c) ≡ None) same none);
       }),
     )

@@ -13,7 +13,8 @@ use Rattle.anti_app.specs.Objects.{object_count}
 use Rattle.anti_object.specs.declared.object.Object.{Object}
 use Rattle.anti_object.specs.Standing.{object_start}
 use Rattle.anti_object.specs.Starts.{start_of}
-use Rattle.anti_work.specs.inner.Closing.{AreClosedBy, AreClosing, AreKept, AreSharedBy, IsClosedBy, IsKeptAt, IsOfShared, Kept, KnowAll, history_at, history_of}
+use Rattle.anti_play.specs.inner.Kepts.{AreKept, IsKeptAt, Kept, history_at, history_of}
+use Rattle.anti_work.specs.inner.Closing.{AreClosedBy, AreClosing, AreSharedBy, IsClosedBy, IsOfShared, KnowAll}
 use Rattle.anti_work.specs.inner.Gathering.{HaveEnded, IsEndOf}
 use Rattle.anti_work.specs.inner.Joining.{HaveJoined}
 use Rattle.anti_work.specs.inner.Knowing.{AreOf}
@@ -110,7 +111,11 @@ module _ (app : App) (shared : List (SharedView Object)) (firsts : List (PassVie
         let count = many in
         let count_kept = many_kept in
         let found = closed_there firsts kepts o closed (omega arith) in
-        subst (IsKeptAt app o) (same_Some found.1 kept (sym found.3 ∙ at)) (record { start = sym (start_is o found.0 found.2) ∙ found.4.start; stands = found.4.stands });
+        subst (IsKeptAt app o) (same_Some found.1 kept (sym found.3 ∙ at)) (record {
+          start = sym (start_is o found.0 found.2) ∙ found.4.start;
+          stands = found.4.stands;
+          own = subst (λ (n : ℕ). All (λ (e : Entry). e.object ≡ n) found.1.1.items) (of.numbered o found.0 found.2) found.4.objects;
+        });
   }
 
   module _ (all : List (List (PassView Object))) (have : HaveJoined all firsts) where

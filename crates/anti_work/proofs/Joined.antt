@@ -19,7 +19,7 @@ use Rattle.anti_work.specs.inner.Knowing.{AreOf, mine_of, number_of, seen_at, se
 -- ---- one item of a list
 
 -- what stands at a place after one was replaced
-at_set : {X : Type 0} (xs : List X) (i k : ℕ) (y z : X) → slice_get (slice_set xs i y) k ≡ Some z → ((i ≡ k) × (y ≡ z)) ⊎ ((i ≢ k) × (slice_get xs k ≡ Some z))
+pub at_set : {X : Type 0} (xs : List X) (i k : ℕ) (y z : X) → slice_get (slice_set xs i y) k ≡ Some z → ((i ≡ k) × (y ≡ z)) ⊎ ((i ≢ k) × (slice_get xs k ≡ Some z))
 at_set xs i k y z at =
     ⊎_elim
     (λ (same : i ≡ k).
@@ -57,24 +57,26 @@ joined_as into p from q after r is from_is after_is joined =
 -- ---- the passes of a worker
 
 module _ (shared : List (SharedView Object)) where
+  -- one pass was replaced by another of its object
+  pub set_of : (old : List (PassView Object)) (o : ℕ) (into after : PassView Object) → AreOf shared old → slice_get old o ≡ Some into → after.id ≡ into.id → AreOf shared (slice_set old o after)
+  set_of old o into after of was id_is = record {
+    count = length-set old o after ∙ of.count;
+    each = λ k s pass there at. ⊎_elim
+        (λ (t : (o ≡ k) × (after ≡ pass)).
+        ap (λ (p : PassView Object). p.id) (sym t.1) ∙ id_is ∙ of.each k s into there (subst (λ (n : ℕ). slice_get old n ≡ Some into) t.0 was))
+        (λ (t : (o ≢ k) × (slice_get old k ≡ Some pass)). of.each k s pass there t.1)
+        (at_set old o k after pass at);
+    numbered = λ k pass at. ⊎_elim
+        (λ (t : (o ≡ k) × (after ≡ pass)).
+        ap (λ (p : PassView Object). p.id.object) (sym t.1) ∙ ap (λ (i : Identity Object). i.object) id_is
+        ∙ of.numbered k into (subst (λ (n : ℕ). slice_get old n ≡ Some into) t.0 was))
+        (λ (t : (o ≢ k) × (slice_get old k ≡ Some pass)). of.numbered k pass t.1)
+        (at_set old o k after pass at);
+  }
+
   taken_of : (o : ℕ) (from : PassView Object) (old new : List (PassView Object)) → AreOf shared old → IsTaken o from old new → AreOf shared new
   taken_of o from old new of taken =
-      let long : length new ≡ length old = ap length taken.is ∙ length-set old o taken.after in
-      let id_is : taken.after.id ≡ taken.into.id = same_id taken.into from taken.after taken.joined in
-      record {
-        count = long ∙ of.count;
-        each = λ k s pass there at. ⊎_elim
-            (λ (t : (o ≡ k) × (taken.after ≡ pass)).
-            ap (λ (p : PassView Object). p.id) (sym t.1) ∙ id_is ∙ of.each k s taken.into there (subst (λ (n : ℕ). slice_get old n ≡ Some taken.into) t.0 taken.was))
-            (λ (t : (o ≢ k) × (slice_get old k ≡ Some pass)). of.each k s pass there t.1)
-            (at_set old o k taken.after pass (ap (λ (ps : List (PassView Object)). slice_get ps k) (sym taken.is) ∙ at));
-        numbered = λ k pass at. ⊎_elim
-            (λ (t : (o ≡ k) × (taken.after ≡ pass)).
-            ap (λ (p : PassView Object). p.id.object) (sym t.1) ∙ ap (λ (i : Identity Object). i.object) id_is
-            ∙ of.numbered k taken.into (subst (λ (n : ℕ). slice_get old n ≡ Some taken.into) t.0 taken.was))
-            (λ (t : (o ≢ k) × (slice_get old k ≡ Some pass)). of.numbered k pass t.1)
-            (at_set old o k taken.after pass (ap (λ (ps : List (PassView Object)). slice_get ps k) (sym taken.is) ∙ at));
-      }
+      subst (AreOf shared) (sym taken.is) (set_of old o taken.into taken.after of taken.was (same_id taken.into from taken.after taken.joined))
 
   module _ (old from : List (PassView Object)) where
     pub taking_first : AreOf shared old → AreTaking shared old from from old

@@ -1,6 +1,6 @@
 -- What a route tells behind a first part that was shipped.
-use Rattle.std.proofs.Common.{◌≡◌, ℕ, ◌+◌, ◌<◌, ◌≤◌, ◌⊎◌, ◌++◌, List, [], ◌∷◌, length, refl, sym, ◌∙◌, subst, inl, inr, slice_index_or, arith}
-use Rattle.std.specs.Prelude.{IsPermutation, Some, slice_get, slice_set}
+use Rattle.std.proofs.Common.{◌≡◌, ℕ, ◌+◌, ◌<◌, ◌≤◌, ◌⊎◌, ◌++◌, List, [], ◌∷◌, zero, suc, length, map, refl, sym, ap, ◌∙◌, subst, inl, inr, slice_index_or, arith}
+use Rattle.std.specs.Prelude.{IsPermutation, None, Option, Some, slice_get, slice_set}
 use Rattle.std.specs.List.{Contains, swap_remove}
 use Rattle.std.proofs.lemmas.Bool.{cases_eq, cases_lt}
 use Rattle.std.proofs.lemmas.List.{length-set}
@@ -10,7 +10,8 @@ use Rattle.std.proofs.lemmas.Option.{get_or_from_slice_get, slice_get_within}
 use Rattle.anti_trace.proofs.Changed.{set_here, set_other}
 use Rattle.anti_trace.proofs.Living.{decide}
 use Rattle.anti_work.specs.declared.worker.Route.{Route}
-use Rattle.anti_work.specs.inner.Shipping.{FirstHaveNoted, GoesUp, HasNoted, HasNotedAt, HasShipped}
+use Rattle.anti_work.specs.inner.Rounds.{ends_of}
+use Rattle.anti_work.specs.inner.Shipping.{FirstHaveNoted, GoesUp, HasNoted, HasNotedAt, HasShipped, HaveNoted}
 
 -- ---- a version of a list
 
@@ -217,3 +218,28 @@ module _ (store region version : ℕ) (old : List Route) where
               (λ low. before.0 (omega (arith, low, other, next_is)), λ from. before.1 (omega (arith, from, next_is)))
         ],
   )
+
+-- ---- where routes go
+
+-- each goes where it went
+same_ends : (store region version : ℕ) (was is : Route) → HasNotedAt store region version was is → ends_of is ≡ ends_of was
+same_ends store region version was is noted =
+    elim noted as (λ _. ends_of is ≡ ends_of was) [
+      | inl on ↦ (let s : is.store ≡ was.store = on.1.store in let r : is.region ≡ was.region = on.1.region in cc)
+      | inr off ↦ ap ends_of off.1
+    ]
+
+ends_by : (old new : List Route) → length new ≡ length old
+    → ((i : ℕ) (was is : Route) → slice_get old i ≡ Some was → slice_get new i ≡ Some is → ends_of is ≡ ends_of was) → map ends_of new ≡ map ends_of old
+ends_by [] [] many each = refl
+ends_by [] (is ∷ new) many each = absurd (omega (arith, many))
+ends_by (was ∷ old) [] many each = absurd (omega (arith, many))
+ends_by (was ∷ old) (is ∷ new) many each =
+    let here : ends_of is ≡ ends_of was = each zero was is refl refl in
+    let behind : map ends_of new ≡ map ends_of old = ends_by old new (omega (arith, many)) (λ i a b at to. each (suc i) a b at to) in
+    cc
+
+pub noted_ends : (store : ℕ) (first : Option (ℕ × ℕ)) (old new : List Route) → HaveNoted store first old new → map ends_of new ≡ map ends_of old
+noted_ends store None old new noted = ap (map ends_of) noted
+noted_ends store (Some (region, version)) old new noted =
+    ends_by old new noted.0 (λ i was is at to. same_ends store region version was is ((noted.1 i was is at to).0 (slice_get_within old i was at)))

@@ -34,6 +34,14 @@ gets_more app calls e = record {
 
 -- ---- the worker
 
+-- each process that it started is its own
+pub ours_more : (app : App) (old new : Worker) (calls : List Entry) (e : Entry) → WorkerStands app old calls → new.number ≡ old.number
+    → (bears e.call ≡ true → IfSome (role_of app e) (λ role. worker_at app role.service ≡ old.number))
+    → All (λ x. bears x.call ≡ true → IfSome (role_of app x) (λ role. worker_at app role.service ≡ new.number)) (calls ++ e ∷ [])
+ours_more app old new calls e stands number own =
+    subst (λ (n : ℕ). All (λ x. bears x.call ≡ true → IfSome (role_of app x) (λ role. worker_at app role.service ≡ n)) (calls ++ e ∷ [])) (sym number)
+    (All-push (λ x. bears x.call ≡ true → IfSome (role_of app x) (λ role. worker_at app role.service ≡ old.number)) calls e stands.ours own)
+
 -- Its call is none of its carrier: its clock as one and its routes stay.
 pub stands_more : (app : App) (old new : Worker) (calls : List Entry) (e : Entry) → WorkerStands app old calls → new.number ≡ old.number → (e.actor ≡ Carrier old.number → ⊥)
     → KnowsCalls app old.number new.passes.items (calls ++ e ∷ []) → AreProcessesOf app (lists new.processes) (calls ++ e ∷ [])
@@ -46,8 +54,7 @@ stands_more app old new calls e stands number other knows processes go own clock
   go = go;
   clock = clock ∙ stands.clock ∙ sym (ap last_stamp (entries_by_past (Carrier old.number) calls e other))
       ∙ ap (λ (n : ℕ). last_stamp (entries_by (Carrier n) (calls ++ e ∷ []))) (sym number);
-  ours = subst (λ (n : ℕ). All (λ x. bears x.call ≡ true → IfSome (role_of app x) (λ role. worker_at app role.service ≡ n)) (calls ++ e ∷ [])) (sym number)
-      (All-push (λ x. bears x.call ≡ true → IfSome (role_of app x) (λ role. worker_at app role.service ≡ old.number)) calls e stands.ours own);
+  ours = ours_more app old new calls e stands number own;
   routes = subst (λ (n : ℕ). All (RouteStands n (calls ++ e ∷ [])) new.routes.items) (sym number)
       (subst (All (RouteStands old.number (calls ++ e ∷ []))) (sym routes)
       (routes_kept old.number calls old.routes.items e (λ store region v first. other first.1) stands.routes));

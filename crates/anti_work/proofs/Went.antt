@@ -44,7 +44,7 @@ use Rattle.anti_work.specs.inner.Tries.{AsksFor, IsFed, IsGoRefused, MayFeed}
 use Rattle.anti_work.specs.inner.Working.{IsRefusedAt, Stays, StoppedAt, WorkerStands}
 use Rattle.anti_work.proofs.Asked.{made_above, made_entry, made_knows, made_no_birth, process_did, refusing_makes_none}
 use Rattle.anti_work.proofs.Composed.{refused_asked, refused_past, stays_asked, stays_itself}
-use Rattle.anti_work.proofs.OneMore.{Ascend, gets_more, mine_ascend, stands_more}
+use Rattle.anti_work.proofs.OneMore.{Ascend, gets_more, mine_ascend, ours_more, stands_more}
 
 -- ---- a process that took a reply
 
@@ -208,8 +208,16 @@ module _ (app : App) (w : Worker) (calls : List Entry) (stands : WorkerStands ap
       knows_now = subst (λ (n : ℕ). KnowsCalls app n new.passes.items more) (sym number) knows
 
       -- its reply is foreign
-      pub went_stops : is_foreign app reply ≡ true → (all : List Entry) × StoppedAt app new (calls ++ all)
-      went_stops foreign = ([], subst (StoppedAt app new) (sym (append-nil calls)) (record { entry = e; knows = knows_now; foreign = inr foreign }))
+      pub went_stops : IsTrue (is_sound app) → is_foreign app reply ≡ true → (all : List Entry) × StoppedAt app new (calls ++ all)
+      went_stops sound foreign = (
+        [],
+        subst (StoppedAt app new) (sym (append-nil calls)) (record {
+          entry = e;
+          knows = knows_now;
+          ours = ours_more app w new calls e stands number (λ bearing. absurd (next_bears_none app sound did q.object q.span q.call wants bearing));
+          foreign = inr foreign;
+        }),
+      )
 
       module _ (sound : IsTrue (is_sound app)) (fed : IsFed app stamp reply (lists w.processes) (lists new.processes) object at)
           (clock_same : new.clock ≡ w.clock) (routes_same : new.routes.items ≡ w.routes.items) where

@@ -1,6 +1,6 @@
 -- Workers that were refused all that they try made a run of workers.
 use Rattle.std.proofs.Common.{◌≡◌, ℕ, zero, suc, ◌+◌, ◌<◌, ◌≤◌, inl, inr, List, [], length, get_or, refl, sym, ap, subst, arith}
-use Rattle.std.specs.Prelude.{All, Contains, IsTrue, slice_index_or}
+use Rattle.std.specs.Prelude.{All, Contains, IsTrue, Some, slice_index_or}
 use Rattle.std.proofs.lemmas.List.Elements.{Contains-get_or}
 use Rattle.std.proofs.lemmas.Option.{slice_get_cases}
 use Rattle.anti_turn.specs.Lists.{IsFront}
@@ -11,13 +11,13 @@ use Rattle.anti_app.specs.Objects.{object_count}
 use Rattle.anti_app.specs.Sound.{is_sound}
 use Rattle.anti_object.specs.declared.object.Object.{Object}
 use Rattle.anti_trace.specs.Traces.{IsTrace, entries_on}
-use Rattle.anti_work.specs.Workers.{HasTried, IsWorkersRun}
+use Rattle.anti_work.specs.Workers.{HasTried, IsWorkersRun, worker_of}
 use Rattle.anti_work.specs.inner.Gathering.{HaveEnded, IsEndOf}
 use Rattle.anti_work.specs.inner.Knowing.{ArePasses, number_at, number_of, seen_at}
 use Rattle.anti_work.specs.inner.Trying.{AllRefused, StartItsOwn}
 use Rattle.anti_work.specs.inner.Works.{AreMadeBy}
 use Rattle.anti_work.proofs.Merged.{IsCallOf, from_trace, inside, merged_is_legal, of_worker}
-use Rattle.anti_work.proofs.Seats.{same_seats}
+use Rattle.anti_work.proofs.Seats.{same_seats, worker_is}
 use Rattle.anti_work.proofs.Tried.{has_tried}
 
 -- the number of a pass is no less than 1
@@ -65,10 +65,24 @@ module _ (app : App) (all : List (List (PassView Object))) (histories : ℕ → 
         (has_tried app histories seat (length all) works are trace order same sound ours w low (slice_index_or all w []) (λ o there. refl) (front_seen w low)
         (refused w low))
 
+    -- each entry is of one of them
+    known : All (λ e. (w : ℕ) × (1 ≤ w) × (w ≤ app.workers) × (worker_of app trace e.actor ≡ Some w)) trace
+    known k d short =
+        let e : Entry = get_or trace k d in
+        let there : Contains (histories e.object) e =
+        from_trace app histories seat (length all) works are trace order same e (Contains-get_or trace k d short) in
+        let made : IsCallOf seat (length all) works e.object e = of_worker app histories seat (length all) works are e.object e there in (
+          made.worker + 1,
+          omega arith,
+          (let low = made.low in omega arith),
+          worker_is app histories seat (length all) works are trace order same sound ours made.worker made.low e made.own,
+        )
+
     pub workers_run : IsWorkersRun app trace
     workers_run = record {
       legal = merged_is_legal app histories seat (length all) works are trace order same;
       seats = seats_positive;
+      known = known;
       same = same_seats app histories seat (length all) works are trace order same sound ours;
       tried = tried;
     }

@@ -66,9 +66,10 @@ pub record HasTried (app : App) (trace : List Entry) (w : ℕ) : Type 0 where
   pub ships : (o : ℕ) (s : StoreDef) (region version : ℕ) → slice_get app.stores.items o ≡ Some s → worker_at app o ≡ w → Contains s.replicas.items region
       → IsNextVersion w region (entries_on o trace) version → IsLeft app trace w o (Ship region version 1)
 
--- The workers made a legal trace. Two entries of an object have the same seat just where they are of the same worker.
+-- The workers made a legal trace: each entry is of one of them, and by a pass. Two entries of an object have the same seat just where they are of the same worker.
 pub record IsWorkersRun (app : App) (trace : List Entry) : Type 0 where
   pub legal : IsLegalTrace app trace
   pub seats : All (λ e. 0 < e.seat) trace
+  pub known : All (λ e. (w : ℕ) × (1 ≤ w) × (w ≤ app.workers) × (worker_of app trace e.actor ≡ Some w)) trace
   pub same : All (λ d. All (λ e. d.object ≡ e.object → (d.seat ≡ e.seat) ↔ (worker_of app trace d.actor ≡ worker_of app trace e.actor)) trace) trace
   pub tried : (w : ℕ) → 1 ≤ w → w ≤ app.workers → HasTried app trace w

@@ -1,9 +1,12 @@
 pub mod Closing
+pub mod Firsts
 pub mod Gathering
 pub mod Joining
 pub mod Knowing
 pub mod Refusing
+pub mod Rounds
 pub mod Shipping
+pub mod Starting
 pub mod Tries
 pub mod Trying
 pub mod Working

@@ -1,4 +1,4 @@
-ghost use Rattle.std.specs.Prelude.{◌≡◌, ◌<◌, Err, IsTrue, None, OnOk, length, true};
+ghost use Rattle.std.specs.Prelude.{◌≡◌, ◌<◌, Err, IsTrue, None, OnOk, length, map, true};
 ghost use Rattle.anti_app.specs.Sound.{is_sound};
 ghost use Rattle.anti_proc.specs.Tasks.{task_of};
 ghost use Rattle.anti_trace.specs.Histories.{Entries};
@@ -6,10 +6,12 @@ ghost use Rattle.anti_trace.specs.Legal.{bears};
 ghost use Rattle.anti_trace.specs.inner.Living.{lists};
 ghost use Rattle.anti_play.specs.Schedule.{bearing};
 ghost use Rattle.anti_work.specs.inner.Knowing.{AreOf};
+ghost use Rattle.anti_work.specs.inner.Rounds.{ends_of};
 ghost use Rattle.anti_work.specs.inner.Tries.{BearsOwn, HasBorn, IsWorkerOf};
 ghost use Rattle.anti_work.specs.inner.Working.{ComesOf, IsRefusedAt, WorkerStands};
 
 use crate::asking::ask;
+use crate::going::keep_awake;
 use crate::worker::{Stop, Worker};
 use anti_app::App;
 use anti_ids::Copies;
@@ -56,6 +58,7 @@ impl Worker {
         requires own { BearsOwn app.now self.old.number object call }
         ensures of { AreOf shared.now self.new.passes.items }
         ensures number { self.new.number ≡ self.old.number }
+        ensures routes { OnOk result (map ends_of self.new.routes.items ≡ map ends_of self.old.routes.items) }
         ensures tried { (calls : Entries) → WorkerStands app.now self.old calls
             → ComesOf app.now self.old self.new calls
             (IsRefusedAt app.now self.new calls (bearing calls object call)) result }
@@ -88,8 +91,12 @@ impl Worker {
                     call: again,
                     reply,
                 };
+                let at = self.processes.born_count(object);
                 match add(&mut self.processes, self.alloc, app, &entry) {
-                    Ok(()) => Ok(true),
+                    Ok(()) => match keep_awake(&mut self.awake, object, at) {
+                        Ok(()) => Ok(true),
+                        Err(_none) => Err(Stop::NoMemory),
+                    },
                     Err(Stop::NoMemory) => Err(Stop::NoMemory),
                     Err(Stop::Foreign) => Err(Stop::Foreign),
                 }

@@ -1,10 +1,11 @@
-ghost use Rattle.std.specs.Prelude.{◌≡◌, true};
+ghost use Rattle.std.specs.Prelude.{◌≡◌, OnOk, map, true};
 ghost use Rattle.anti_kind.specs.declared.actor.Actor.TheVariants.{Carrier};
 ghost use Rattle.anti_app.specs.declared.app.App.{App};
 ghost use Rattle.anti_trace.specs.Histories.{Entries};
 ghost use Rattle.anti_trace.specs.Legal.{carries};
 ghost use Rattle.anti_play.specs.Schedule.{asking_at};
 ghost use Rattle.anti_work.specs.inner.Knowing.{AreOf};
+ghost use Rattle.anti_work.specs.inner.Rounds.{ends_of};
 ghost use Rattle.anti_work.specs.inner.Working.{ComesOf, IsRefusedAt, WorkerStands};
 
 use crate::asking::ask;
@@ -28,6 +29,7 @@ impl Worker {
         requires carries { carries call ≡ true }
         ensures of { AreOf shared.now self.new.passes.items }
         ensures number { self.new.number ≡ self.old.number }
+        ensures routes { OnOk result (map ends_of self.new.routes.items ≡ map ends_of self.old.routes.items) }
         ensures tried { (app : App) (calls : Entries) → WorkerStands app self.old calls
             → ComesOf app self.old self.new calls
             (IsRefusedAt app self.new calls (asking_at calls object (Carrier self.old.number) 0 call)) result }

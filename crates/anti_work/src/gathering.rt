@@ -1,7 +1,8 @@
 ghost use Rattle.std.specs.Prelude.{◌≡◌, ◌<◌, ℕ, All, IfOk, List as Items, [], length, map};
 ghost use Rattle.anti_kind.specs.declared.entry.Entry.{Entry};
 ghost use Rattle.anti_app.specs.declared.app.App.{App};
-ghost use Rattle.anti_work.specs.inner.Closing.{AreClosedBy, AreKept, AreSharedBy, IsClosedBy, KnowAll, history_at};
+ghost use Rattle.anti_play.specs.inner.Kepts.{AreKept, history_at};
+ghost use Rattle.anti_work.specs.inner.Closing.{AreClosedBy, AreSharedBy, IsClosedBy, KnowAll};
 ghost use Rattle.anti_work.specs.inner.Gathering.{HaveEnded};
 ghost use Rattle.anti_work.specs.inner.Joining.{HaveJoined, HaveTaken, IsDoneOf, IsOfPlace, IsTaken, passes_of};
 ghost use Rattle.anti_work.specs.inner.Knowing.{AreOf};

@@ -1,16 +1,17 @@
-ghost use Rattle.std.specs.Prelude.{◌≡◌, ◌<◌, Err, IsTrue, OnOk, length, true};
+ghost use Rattle.std.specs.Prelude.{◌≡◌, ◌<◌, Err, IsTrue, OnOk, length, map, true};
 ghost use Rattle.anti_app.specs.Sound.{is_sound};
 ghost use Rattle.anti_proc.specs.Foreign.{is_foreign};
 ghost use Rattle.anti_trace.specs.Histories.{Entries};
 ghost use Rattle.anti_trace.specs.inner.Living.{IsAt, born_at, lists};
 ghost use Rattle.anti_work.specs.inner.Knowing.{AreOf};
+ghost use Rattle.anti_work.specs.inner.Rounds.{ends_of};
 ghost use Rattle.anti_work.specs.inner.Tries.{AsksFor, IsFed, IsGoRefused, IsWorkerOf, MayFeed};
 ghost use Rattle.anti_work.specs.inner.Working.{ComesOf, WorkerStands};
 
 use crate::asking::ask;
-use crate::worker::{Stop, Worker};
+use crate::worker::{Awake, Stop, Worker};
 use anti_app::App;
-use anti_ids::Copies;
+use anti_ids::{Copies, NoMemory};
 use anti_kind::{Actor, Answer, Asking, Reply};
 use anti_object::Object;
 use anti_proc::ProcFault;
@@ -44,6 +45,12 @@ fn feed(
     Ok(())
 }
 
+// A process is awake.
+pub(crate) fn keep_awake(awake: &mut Vec<Awake>, object: u32, at: usize) -> Result<(), NoMemory> {
+    awake.push(Awake { object, at })?;
+    Ok(())
+}
+
 impl Worker {
     // Asks for the next call of a process, which stands at an index among those that were born at an object, and has the process take the
     // reply. It tells whether a call was made.
@@ -62,6 +69,7 @@ impl Worker {
         requires at { at < length (born_at (lists self.old.processes) object) }
         ensures of { AreOf shared.now self.new.passes.items }
         ensures number { self.new.number ≡ self.old.number }
+        ensures routes { OnOk result (map ends_of self.new.routes.items ≡ map ends_of self.old.routes.items) }
         ensures tried { (calls : Entries) → WorkerStands app.now self.old calls
             → ComesOf app.now self.old self.new calls
             (IsGoRefused app.now self.new calls object at) result }
@@ -103,6 +111,7 @@ impl Worker {
         requires there { asking.object < length shared.now }
         ensures of { AreOf shared.now self.new.passes.items }
         ensures number { self.new.number ≡ self.old.number }
+        ensures routes { OnOk result (map ends_of self.new.routes.items ≡ map ends_of self.old.routes.items) }
         ensures tried { (calls : Entries) → WorkerStands app.now self.old calls
             → ComesOf app.now self.old self.new calls
             (IsGoRefused app.now self.new calls object at) result }
@@ -113,7 +122,10 @@ impl Worker {
                 stamp,
                 reply,
             } => match feed(&mut self.processes, app, object, at, stamp, &reply) {
-                Ok(()) => Ok(true),
+                Ok(()) => match keep_awake(&mut self.awake, object, at) {
+                    Ok(()) => Ok(true),
+                    Err(_none) => Err(Stop::NoMemory),
+                },
                 Err(Stop::NoMemory) => Err(Stop::NoMemory),
                 Err(Stop::Foreign) => Err(Stop::Foreign),
             },

@@ -16,8 +16,15 @@ pub(crate) struct Route {
     pub(crate) ahead: Vec<u64>,
 }
 
+// A process by the object at which it was born, and its index among those that were born there.
+#[derive(Clone, Copy)]
+pub(crate) struct Awake {
+    pub(crate) object: u32,
+    pub(crate) at: usize,
+}
+
 // A worker on its thread: its number, its passes, one for each object, the processes that it bore, its last stamp as a carrier, and what it
-// has shipped.
+// has shipped. The processes that made a call in its round, or were born in it, are awake: they are asked first in the next one.
 #[derive(Drop)]
 pub(crate) struct Worker {
     pub(crate) number: u32,
@@ -25,6 +32,7 @@ pub(crate) struct Worker {
     pub(crate) processes: Processes,
     pub(crate) clock: u64,
     pub(crate) routes: Vec<Route>,
+    pub(crate) awake: Vec<Awake>,
     pub(crate) alloc: Global,
 }
 

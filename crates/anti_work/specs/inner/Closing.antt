@@ -1,7 +1,6 @@
 -- What is kept of the objects that were shared.
-use Rattle.std.specs.Prelude.{◌≡◌, ℕ, ◌+◌, ◌<◌, List, [], ◌++◌, length, reverse, All, Option, None, Some, slice_get, slice_index_or}
+use Rattle.std.specs.Prelude.{◌≡◌, ℕ, ◌+◌, ◌<◌, List, [], ◌++◌, length, reverse, All, Some, slice_get, slice_index_or}
 use Rattle.std.specs.List.{AllZip}
-use Rattle.anti_ids.specs.List.{Listed}
 use Rattle.anti_kind.specs.declared.entry.Entry.{Entry}
 use Rattle.anti_app.specs.declared.app.App.{App}
 use Rattle.anti_app.specs.Objects.{object_count}
@@ -11,11 +10,8 @@ use Rattle.anti_object.specs.Starts.{start_of}
 use Rattle.anti_shared.specs.Passes.{IsPass, PassView, SharedView, numbers_of}
 use Rattle.anti_shared.specs.Passes as passes
 use Rattle.anti_turn.specs.Lists.{times}
+use Rattle.anti_play.specs.inner.Kepts.{Kept}
 use Rattle.anti_work.specs.inner.Knowing.{KnowsCalls}
-
--- an object, and the calls that were made on it
-abbrev pub Kept : Type 0
-Kept = Object × Listed Entry
 
 -- The object of a pass was closed by it.
 pub record IsClosedBy (pass : PassView Object) (kept : Kept) : Type 0 where
@@ -45,24 +41,6 @@ pub record AreClosing (firsts : List (PassView Object)) (shared : List (SharedVi
 pub record AreSharedBy (app : App) (shared : List (SharedView Object)) : Type 0 where
   pub count : length shared ≡ object_count app
   pub each : (o : ℕ) (s : SharedView Object) → slice_get shared o ≡ Some s → passes.start_of object_start s.id ≡ start_of app o
-
--- The object of a number of the application, which stands for its history.
-pub record IsKeptAt (app : App) (o : ℕ) (kept : Kept) : Type 0 where
-  pub start : start_of app o ≡ Some (object_start kept.0)
-  pub stands : ObjectAt kept.0 kept.1.items
-
--- What is kept is that of the objects of the application, in the order of their numbers.
-pub record AreKept (app : App) (kepts : List Kept) : Type 0 where
-  pub count : length kepts ≡ object_count app
-  pub each : (o : ℕ) (kept : Kept) → slice_get kepts o ≡ Some kept → IsKeptAt app o kept
-
-abbrev pub history_of : Option Kept → List Entry
-history_of None = []
-history_of (Some kept) = kept.1.items
-
--- the history of the object of a number
-abbrev pub history_at : List Kept → ℕ → List Entry
-history_at kepts o = history_of (slice_get kepts o)
 
 -- The passes of each worker know its calls.
 abbrev pub KnowAll : App → List (List (PassView Object)) → (ℕ → List Entry) → Type 0

@@ -52,6 +52,7 @@ IsForeign app e = ((bears e.call ≡ true) × (task_of app e ≡ None)) ⊎ (is_
 pub record StoppedAt (app : App) (w : Worker) (calls : List Entry) : Type 0 where
   pub entry : Entry
   pub knows : KnowsCalls app w.number w.passes.items (calls ++ entry ∷ [])
+  pub ours : All (λ e. bears e.call ≡ true → IfSome (role_of app e) (λ role. worker_at app role.service ≡ w.number)) (calls ++ entry ∷ [])
   pub foreign : IsForeign app entry
 
 -- No call was made: it stands for the same calls, has the same processes, and what was refused was refused.

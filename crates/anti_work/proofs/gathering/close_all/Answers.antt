@@ -5,7 +5,8 @@ use Rattle.anti_kind.specs.declared.entry.Entry.{Entry}
 use Rattle.anti_app.specs.declared.app.App.{App}
 use Rattle.anti_object.specs.declared.object.Object.{Object}
 use Rattle.anti_shared.specs.Passes.{SharedView}
-use Rattle.anti_work.specs.inner.Closing.{AreClosedBy, AreKept, AreSharedBy, KnowAll, history_at}
+use Rattle.anti_play.specs.inner.Kepts.{AreKept, history_at}
+use Rattle.anti_work.specs.inner.Closing.{AreClosedBy, AreSharedBy, KnowAll}
 use Rattle.anti_work.specs.inner.Gathering.{HaveEnded}
 use Rattle.anti_work.specs.inner.Joining.{passes_of}
 use Rattle.anti_work.specs.inner.Knowing.{AreOf}

@@ -3,7 +3,8 @@ use Rattle.std.specs.Prelude.{◌≡◌, [], ◌∷◌, ◌++◌}
 use Rattle.anti_ids.specs.List.{Listed}
 use Rattle.anti_object.specs.declared.object.Object.{Object}
 use Rattle.anti_shared.specs.Passes.{PassView, SharedView}
-use Rattle.anti_work.specs.inner.Closing.{AreClosing, Kept}
+use Rattle.anti_play.specs.inner.Kepts.{Kept}
+use Rattle.anti_work.specs.inner.Closing.{AreClosing}
 use Rattle.anti_work.proofs.Closed.{closing_all, closing_first, closing_more, next_id, some_pass}
 use Rattle.anti_work.proofs.gathering.close_each.Goals as goal
 

@@ -7,17 +7,17 @@ pub add-requires-clause-there : goal.add-requires-clause-there
 add-requires-clause-there g c =
     object_within c.args.app.now c.args.self.now c.requires.worker.0 _ c.args.object c.requires.worker.1 c.requires.of.count (omega (arith, c.if-object-shared.false))
 
-pub returns-in-Ok-clause-tried : goal.returns-in-Ok-clause-tried
-returns-in-Ok-clause-tried g c calls stands =
+pub returns-in-Ok-keep_awake-clause-tried : goal.returns-in-Ok-keep_awake-clause-tried
+returns-in-Ok-keep_awake-clause-tried g c calls stands =
     bore_stands c.args.app.now c.args.self.now calls stands c.args.object c.args.call c.requires.bears
-    (record c.args.self.now { passes = c.ask.new.passes; processes = c.add.new.processes })
+    (record c.args.self.now { passes = c.ask.new.passes; processes = c.add.new.processes; awake = c.keep_awake.new.awake })
     c.in-Made.place c.in-Made.stamp c.in-Made.reply c.in-Made.ensures.asked refl c.requires.own c.in_ok-again.again c.in_ok-again.ensures c.in-Ok.ensures.born refl refl
 
 pub returns-in-Made-clause-tried : goal.returns-in-Made-clause-tried
 returns-in-Made-clause-tried g c calls stands =
     bore_stops c.args.app.now c.args.self.now calls stands c.args.object c.args.call c.requires.bears
     (record c.args.self.now { passes = c.ask.new.passes; processes = c.add.new.processes })
-    c.in-Made.place c.in-Made.stamp c.in-Made.reply c.in-Made.ensures.asked refl c.in_ok-again.again c.in_ok-again.ensures
+    c.in-Made.place c.in-Made.stamp c.in-Made.reply c.in-Made.ensures.asked refl c.requires.own c.in_ok-again.again c.in_ok-again.ensures
     (c.add.ensures.foreign (c.in-Err-Foreign.is ∙ ap Err c.in-Err-Foreign.field-0-is))
 
 pub returns-in-NotYet-clause-tried : goal.returns-in-NotYet-clause-tried

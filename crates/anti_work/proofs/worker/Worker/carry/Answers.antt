@@ -2,6 +2,7 @@
 use Rattle.std.proofs.Common.{Option, ℕ, refl, subst, arith}
 use Rattle.anti_work.specs.inner.Shipping.{HaveNoted}
 use Rattle.anti_work.proofs.Carried.{carried_stands, carry_past, carry_refused}
+use Rattle.anti_work.proofs.Noted.{noted_ends}
 use Rattle.anti_work.proofs.worker.Worker.carry.Goals as goal
 
 pub returns-in-Ok-clause-tried : goal.returns-in-Ok-clause-tried
@@ -10,6 +11,9 @@ returns-in-Ok-clause-tried g c app calls stands =
     (record c.args.self.now { passes = c.ask.new.passes; clock = c.in-Made.stamp; routes = c.note.new.routes })
     c.in-Made.place c.in-Made.stamp c.in-Made.reply c.in-Made.ensures.asked refl refl refl
     (subst (λ (first : Option (ℕ × ℕ)). HaveNoted c.args.object first c.args.self.now.routes.items c.note.new.routes.items) c.first_part-first.ensures c.in-Ok.ensures)
+
+pub returns-in-Ok-clause-routes : goal.returns-in-Ok-clause-routes
+returns-in-Ok-clause-routes g c = noted_ends c.args.object c.first_part-first.result c.args.self.now.routes.items c.note.new.routes.items c.in-Ok.ensures
 
 pub returns-in-NotYet-clause-tried : goal.returns-in-NotYet-clause-tried
 returns-in-NotYet-clause-tried g c app calls stands =

@@ -7,11 +7,11 @@ use Rattle.anti_work.proofs.worker.Worker.go_with.Goals as goal
 pub feed-requires-clause-fed : goal.feed-requires-clause-fed
 feed-requires-clause-fed g c p is = may_feed c.args.app.now c.args.self.now c.requires.worker.0 c.requires.worker.1 c.args.object c.args.at p is
 
-pub returns-in-Ok-clause-tried : goal.returns-in-Ok-clause-tried
-returns-in-Ok-clause-tried g c calls stands =
+pub returns-in-Ok-keep_awake-clause-tried : goal.returns-in-Ok-keep_awake-clause-tried
+returns-in-Ok-keep_awake-clause-tried g c calls stands =
     let here = process_at (born_at (lists c.args.self.now.processes) c.args.object) c.args.at c.requires.at in
     went_stands c.args.app.now c.args.self.now calls stands c.args.object c.args.at here.0 here.1 c.args.asking (c.requires.asks here.0 here.1)
-    (record c.args.self.now { passes = c.ask.new.passes; processes = c.feed.new.processes })
+    (record c.args.self.now { passes = c.ask.new.passes; processes = c.feed.new.processes; awake = c.keep_awake.new.awake })
     c.in-Made.place c.in-Made.stamp c.in-Made.reply c.in-Made.ensures.asked refl c.requires.sound c.in-Ok.ensures.fed refl refl
 
 pub returns-in-Made-clause-tried : goal.returns-in-Made-clause-tried
@@ -19,7 +19,7 @@ returns-in-Made-clause-tried g c calls stands =
     let here = process_at (born_at (lists c.args.self.now.processes) c.args.object) c.args.at c.requires.at in
     went_stops c.args.app.now c.args.self.now calls stands c.args.object c.args.at here.0 here.1 c.args.asking (c.requires.asks here.0 here.1)
     (record c.args.self.now { passes = c.ask.new.passes; processes = c.feed.new.processes })
-    c.in-Made.place c.in-Made.stamp c.in-Made.reply c.in-Made.ensures.asked refl
+    c.in-Made.place c.in-Made.stamp c.in-Made.reply c.in-Made.ensures.asked refl c.requires.sound
     (c.feed.ensures.foreign (c.in-Err-Foreign.is ∙ ap Err c.in-Err-Foreign.field-0-is))
 
 pub returns-in-NotYet-clause-tried : goal.returns-in-NotYet-clause-tried
