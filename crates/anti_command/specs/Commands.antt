@@ -5,8 +5,8 @@ use Rattle.anti_load.specs.Load.{load_application}
 use Rattle.anti_report.specs.Report.{Told}
 use Rattle.anti_command.specs.Faults.{writes}
 use Rattle.anti_command.specs.Placed.{IsPlacementOf}
-use Rattle.anti_command.specs.Rows.{Origin, Product, Document, Requests, Run, Placement, row_of}
-use Rattle.anti_command.specs.Runs.{application_of, IsPrintOf, IsRunOf, IsStated}
+use Rattle.anti_command.specs.Rows.{Origin, Making, Product, Document, Requests, Choices, Workers, Run, Placement, row_of}
+use Rattle.anti_command.specs.Runs.{application_of, IsByWorkers, IsPlayed, IsPrintOf, IsRunOf, IsStated}
 use Rattle.anti_command.specs.declared.command.Command.{Command}
 use Rattle.anti_command.specs.declared.fault.TopFault.{TopFault}
 use Rattle.anti_command.specs.declared.outcome.RunKept.{RunKept}
@@ -23,7 +23,7 @@ reads_source (Some command) = is_document (row_of command).origin
 
 -- it plays a run
 abbrev is_run : Product → Bool
-is_run (Run form) = true
+is_run (Run making form) = true
 is_run Placement = false
 
 abbrev pub plays : Option Command → Bool
@@ -34,9 +34,14 @@ plays (Some command) = is_run (row_of command).product
 abbrev pub keeps_run : Option Command → Option TopFault → Bool
 keeps_run asked fault = writes fault && plays asked
 
--- a run of the application that is given is kept, and the text prints it in this form
-abbrev pub IsRunPrinted : (App → Type 0) → (App → Told → List ℕ) → Option RunKept → List ℕ → Type 0
-IsRunPrinted IsGiven form kept text = IsSomeAnd kept (λ run. IsRunOf IsGiven run × IsPrintOf form run text)
+-- the run was made so
+abbrev pub IsRunBy : Making → RunKept → Type 0
+IsRunBy Choices run = IsPlayed run
+IsRunBy Workers run = IsByWorkers run
+
+-- a run of the application that is given is kept, which was made so, and the text prints it in this form
+abbrev pub IsRunPrinted : (App → Type 0) → Making → (App → Told → List ℕ) → Option RunKept → List ℕ → Type 0
+IsRunPrinted IsGiven making form kept text = IsSomeAnd kept (λ run. IsRunOf IsGiven (IsRunBy making) run × IsPrintOf form run text)
 
 -- the application comes from there, where the source has this left
 abbrev pub IsFrom : Origin → Option (List ℕ) → App → Type 0
@@ -45,7 +50,7 @@ IsFrom (Requests requests) left = λ app. app ≡ load_application requests
 
 -- of the application that is given this was made: this is the run that is kept, and this the text
 abbrev pub IsMade : Product → (App → Type 0) → Option RunKept → List ℕ → Type 0
-IsMade (Run form) IsGiven kept text = IsRunPrinted IsGiven form kept text
+IsMade (Run making form) IsGiven kept text = IsRunPrinted IsGiven making form kept text
 IsMade Placement IsGiven kept text = (kept ≡ None) × IsPlacementOf IsGiven text
 
 -- what is asked was done to what the source had: this is the run that is kept, and this the text

@@ -7,4 +7,5 @@ pub mod Runs
 pub mod Placed
 pub mod Commands
 pub mod Causes
+pub mod Outcomes
 pub mod inner

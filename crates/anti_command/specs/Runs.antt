@@ -1,6 +1,7 @@
 -- What bytes state, a run of an application, what this is worth, and its printed forms.
-use Rattle.std.specs.Prelude.{ℕ, ◌≡◌, ◌≤◌, List, length, Option, IfSome, Result, Ok}
+use Rattle.std.specs.Prelude.{ℕ, ◌≡◌, ◌≤◌, List, [], filter, length, nat_lt, Option, IfSome, Result, Ok}
 use Rattle.anti_ids.specs.List.{plain}
+use Rattle.anti_kind.specs.declared.entry.Entry.{Entry}
 use Rattle.anti_app.specs.declared.app.App.{App}
 use Rattle.anti_app.specs.declared.app.AppFault.{AppFault}
 use Rattle.anti_app.specs.Stated.{app_of}
@@ -8,7 +9,9 @@ use Rattle.anti_report.specs.Report.{IsPrinted, Told}
 use Rattle.anti_trace.specs.Legal.{IsLegalTrace}
 use Rattle.law_causal.specs.Settled.{BarriersFindAll, DryRunsName}
 use Rattle.anti_order.specs.Answers.{SpansAreExplained}
-use Rattle.anti_play.specs.Schedule.{trace_of, waits_of}
+use Rattle.anti_play.specs.Complete.{IsComplete}
+use Rattle.anti_play.specs.Schedule.{finished, trace_of, waits_of}
+use Rattle.anti_work.specs.Workers.{IsWorkersRun}
 use Rattle.anti_command.specs.declared.outcome.RunKept.{RunKept}
 use Rattle.anti_ids.specs.declared.limits.TheConstants.{LONGEST_DOCUMENT}
 
@@ -23,6 +26,16 @@ IsStated left app = IfSome left (λ bytes. (length bytes ≤ LONGEST_DOCUMENT) �
 -- the choices of the application were played, each in its turn
 unfoldable pub IsPlayed : RunKept → Type 0
 IsPlayed kept = (kept.trace ≡ trace_of kept.app) × (kept.waits ≡ plain (waits_of kept.app))
+
+-- The workers of the application made a run, and what they left was made behind it: what they did is what has a seat. Nothing is left that
+-- can be made, and no choice was played.
+pub record IsByWorkers (kept : RunKept) : Type 0 where
+  pub begun : List Entry
+  pub workers : IsWorkersRun kept.app begun
+  pub finished : kept.trace ≡ finished kept.app begun
+  pub seated : filter (λ e. nat_lt 0 e.seat) kept.trace ≡ begun
+  pub complete : IsComplete kept.app kept.trace
+  pub waits : kept.waits ≡ plain []
 
 -- the trace is a legal one of the application
 unfoldable pub IsLegalRun : RunKept → Type 0
@@ -41,10 +54,10 @@ ExplainsSpans kept = SpansAreExplained kept.app kept.trace
 unfoldable pub IsPrintOf : (App → Told → List ℕ) → RunKept → List ℕ → Type 0
 IsPrintOf form kept bytes = IsPrinted (form kept.app) kept.app kept.trace kept.waits.items bytes
 
--- the run is one of the application that is given
-pub record IsRunOf (IsGiven : App → Type 0) (kept : RunKept) : Type 0 where
+-- the run is one of the application that is given, and was made so
+pub record IsRunOf (IsGiven : App → Type 0) (IsRunSo : RunKept → Type 0) (kept : RunKept) : Type 0 where
   pub given : IsGiven kept.app
-  pub played : IsPlayed kept
+  pub made : IsRunSo kept
   pub legal : IsLegalRun kept
   pub barriers : FindsAll kept
   pub orders : ExplainsSpans kept

@@ -4,13 +4,14 @@ use Rattle.std.specs.Str.{bytes_eq}
 use Rattle.anti_ids.specs.Decimals.{decimal_in}
 use Rattle.anti_ids.specs.declared.limits.TheConstants.{MOST_REQUESTS}
 use Rattle.anti_command.specs.declared.command.Command.{Command}
-use Rattle.anti_command.specs.declared.command.Command.TheVariants.{Step, Json, Place, Load}
+use Rattle.anti_command.specs.declared.command.Command.TheVariants.{Step, Json, Run, Place, Load}
 
 -- the command of one word
 abbrev pub word_of : List ℕ → Option Command
 word_of word =
     if bytes_eq word (codes "step") then Some Step else
     if bytes_eq word (codes "json") then Some Json else
+    if bytes_eq word (codes "run") then Some Run else
     if bytes_eq word (codes "place") then Some Place else None
 
 -- `load` and how many requests, without a zero that the number does not need
@@ -22,3 +23,11 @@ abbrev pub command_of : List (List ℕ) → Option Command
 command_of (word ∷ []) = word_of word
 command_of (word ∷ number ∷ []) = load_of word number
 command_of _ = None
+
+-- the command where no threads are at hand, so that none runs workers
+abbrev pub without_workers : Option Command → Option Command
+without_workers (Some Run) = None
+without_workers asked = asked
+
+abbrev pub plain_command_of : List (List ℕ) → Option Command
+plain_command_of words = without_workers (command_of words)

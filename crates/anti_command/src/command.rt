@@ -11,6 +11,8 @@ pub enum Command {
     Step,
     /// The same, and write the record as JSON.
     Json,
+    /// Let workers play the document that is read, make what they left, and write the record of the run.
+    Run,
     /// Tell whether barriers, transfers and roots stand where they must in the document that is read.
     Place,
     /// Play the load of so many requests, 1 to `MOST_REQUESTS`, and write the summary of the run. Nothing is read.
@@ -24,6 +26,7 @@ fn word_of(word: &[u8]) -> Option<Command>
     match word {
         b"step" => Some(Command::Step),
         b"json" => Some(Command::Json),
+        b"run" => Some(Command::Run),
         b"place" => Some(Command::Place),
         _ => None,
     }
@@ -43,7 +46,7 @@ fn load_of(word: &[u8], number: &[u8]) -> Option<Command>
     })
 }
 
-/// The command that the words ask for: `step`, `json` or `place`, alone, or `load` and a number. It is `None` where they ask for none.
+/// The command that the words ask for: `step`, `json`, `run` or `place`, alone, or `load` and a number. It is `None` where they ask for none.
 pub fn asked_for(words: &[Value]) -> Option<Command>
     ensures command { result ≡ command_of words.now }
     ensures few { (n : ℕ) → result ≡ Some (Load n) → n ≤ MOST_REQUESTS }

@@ -16,4 +16,4 @@ pub use command::Command;
 pub use fault::{TopFault, status_of};
 pub use fault_line::tell;
 pub use outcome::{Outcome, RunKept};
-pub use top::antipode_plain;
+pub use top::{antipode, antipode_plain};

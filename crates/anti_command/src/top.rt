@@ -1,64 +1,37 @@
-ghost use Rattle.std.specs.Prelude.{◌≡◌, None, Some, false, IfSome, is_some};
-ghost use Rattle.anti_ids.specs.Counts.{Rose};
-ghost use Rattle.anti_edge.specs.Outside.{AddsFront, with_bytes};
-ghost use Rattle.anti_command.specs.Words.{command_of};
-ghost use Rattle.anti_command.specs.Lines.{line_of};
-ghost use Rattle.anti_command.specs.Faults.{status_of, writes};
-ghost use Rattle.anti_command.specs.Commands.{reads_source, keeps_run, IsDoneAnd, CanBeDone};
-ghost use Rattle.anti_command.specs.Causes.{HasCause};
+ghost use Rattle.std.specs.Prelude.{◌≡◌, Some, false, true, IfErr};
+ghost use Rattle.anti_command.specs.Outcomes.{IsOutcomeOf};
+ghost use Rattle.anti_command.specs.Faults.{writes};
+ghost use Rattle.anti_command.specs.Words.{command_of, plain_command_of, without_workers};
+ghost use Rattle.anti_command.specs.inner.Settling.{IsSettled};
+ghost use Rattle.anti_command.specs.declared.command.Command.TheVariants.{Run};
 
+use crate::command::{Command, asked_for};
 use crate::dispatch::prepare;
 use crate::fault::{TopFault, status_of};
 use crate::fault_line::tell;
 use crate::outcome::Outcome;
+use crate::prepared::Prepared;
+use crate::products::work_document;
 use anti_edge::{Failed, Sink, Source, write_all};
 use anti_ids::Value;
+use anti_text::RecordText;
+use anti_work::Gate;
 use std::alloc::Global;
+use std::sync::Wait;
+use std::thread::Threads;
 
-/// Does what the words ask for with the document that the source has; a load reads nothing. The text goes to `out`, the line of a fault to
-/// `err`.
-pub fn antipode_plain<S: Source, K: Sink, E: Sink>(
-    alloc: Global,
-    words: &[Value],
-    src: &mut S,
+// Writes what was prepared, or tells why nothing was.
+fn settle<K: Sink, E: Sink>(
+    prepared: Result<Prepared, TopFault>,
     out: &mut K,
     err: &mut E,
 ) -> Outcome
-    // With status 0 what the words ask for was done, and just its text was written.
-    ensures headline { result.status ≡ 0 →
-        IsDoneAnd (command_of words.now) (S.left src.old) result.kept
-        (λ text. K.written out.new ≡ with_bytes text (K.written out.old)) }
-
-    // The status is the fault's, and each fault has its cause.
-    ensures status { result.status ≡ status_of result.fault }
-    ensures cause { IfSome result.fault (HasCause (command_of words.now)
-        (S.left src.old) (S.left src.new)
-        (Rose (S.faults src.old) (S.faults src.new))
-        (Rose (K.faults out.old) (K.faults out.new))) }
-    ensures usage { command_of words.now ≡ None → result.fault ≡ Some TopFault.Usage }
-
-    // What can be done is done, unless a count rose or memory ran out.
-    ensures complete { CanBeDone (command_of words.now) (S.left src.old) →
-        ¬ Rose (S.faults src.old) (S.faults src.new) →
-        ¬ Rose (K.faults out.old) (K.faults out.new) →
-        IfSome result.fault (λ fault. fault ≡ TopFault.NoMemory) }
-
-    // A write fault leaves a front of the text. Any other leaves the sink alone.
-    ensures begun { result.fault ≡ Some TopFault.WriteFault →
-        IsDoneAnd (command_of words.now) (S.left src.old) result.kept
-        (λ text. AddsFront text (K.written out.old) (K.written out.new)) }
-    ensures kept { is_some result.kept ≡ keeps_run (command_of words.now) result.fault }
-    ensures out { writes result.fault ≡ false → out.new ≡ out.old }
-    ensures src { reads_source (command_of words.now) ≡ false → src.new ≡ src.old }
-
-    // The line of the fault is told.
-    ensures silent { result.fault ≡ None → err.new ≡ err.old }
-    ensures line { IfSome result.fault (λ fault.
-        AddsFront (line_of fault) (E.written err.old) (E.written err.new)) }
-    ensures whole { IfSome result.fault (λ fault. ¬ Rose (E.faults err.old) (E.faults err.new) →
-        E.written err.new ≡ with_bytes (line_of fault) (E.written err.old)) }
+    requires unwritten { IfErr prepared (λ fault. writes (Some fault) ≡ false) }
+    ensures { IsSettled prepared
+        (record { tells = K.written; faults = K.faults; old = out.old; new = out.new })
+        (record { tells = E.written; faults = E.faults; old = err.old; new = err.new }) result }
 {
-    let (kept, text) = match prepare(alloc, words, src) {
+    let (kept, text) = match prepared {
         Ok(prepared) => prepared,
         Err(fault) => {
             tell(err, fault);
@@ -84,4 +57,60 @@ pub fn antipode_plain<S: Source, K: Sink, E: Sink>(
             }
         }
     }
+}
+
+/// Does what the words ask for with the document that the source has, where no threads are at hand: it runs no workers, and always
+/// returns. A load reads nothing. The text goes to `out`, the line of a fault to `err`.
+pub fn antipode_plain<S: Source, K: Sink, E: Sink>(
+    alloc: Global,
+    words: &[Value],
+    src: &mut S,
+    out: &mut K,
+    err: &mut E,
+) -> Outcome
+    ensures { IsOutcomeOf (plain_command_of words.now)
+        (record { tells = S.left; faults = S.faults; old = src.old; new = src.new })
+        (record { tells = K.written; faults = K.faults; old = out.old; new = out.new })
+        (record { tells = E.written; faults = E.faults; old = err.old; new = err.new }) result }
+{
+    let prepared = prepare(alloc, words, src);
+    settle(prepared, out, err)
+}
+
+// Whether workers are asked for.
+fn runs_workers(asked: Option<Command>) -> bool
+    ensures yes { result ≡ true → asked ≡ Some Run }
+    ensures no { result ≡ false → without_workers asked ≡ asked }
+{
+    match asked {
+        None => false,
+        Some(Command::Step) => false,
+        Some(Command::Json) => false,
+        Some(Command::Run) => true,
+        Some(Command::Place) => false,
+        Some(Command::Load { .. }) => false,
+    }
+}
+
+/// Does what the words ask for with the document that the source has; a load reads nothing. Workers run on threads of the runtime, and pass
+/// the gate at the begin of each of their rounds; only then may the call wait. The text goes to `out`, the line of a fault to `err`.
+pub fn antipode<R: Threads + Wait + Sync, S: Source, K: Sink, E: Sink, G: Gate + Sync>(
+    rt: &R,
+    alloc: Global,
+    words: &[Value],
+    src: &mut S,
+    out: &mut K,
+    err: &mut E,
+    gate: &G,
+) -> Outcome
+    ensures { IsOutcomeOf (command_of words.now)
+        (record { tells = S.left; faults = S.faults; old = src.old; new = src.new })
+        (record { tells = K.written; faults = K.faults; old = out.old; new = out.new })
+        (record { tells = E.written; faults = E.faults; old = err.old; new = err.new }) result }
+{
+    if !runs_workers(asked_for(words)) {
+        return antipode_plain(alloc, words, src, out, err);
+    }
+    let prepared = work_document::<RecordText, R, S, G>(rt, alloc, src, gate);
+    settle(prepared, out, err)
 }

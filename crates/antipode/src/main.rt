@@ -1,14 +1,16 @@
 //! `antipode step` plays the choices of the document on standard input, and writes the record of the run to standard output; `antipode
-//! json` writes it as JSON. `antipode place` tells whether barriers, transfers and roots stand where they must in the document. `antipode
+//! json` writes it as JSON. `antipode run` lets workers on threads play the document, and writes the record of what they did. `antipode
+//! place` tells whether barriers, transfers and roots stand where they must in the document. `antipode
 //! load 400` plays the load of 400 requests, and writes the summary of the run; it reads nothing.
 #![tactic(auto)]
 
 ghost use Rattle.std.specs.Prelude.{◌≡◌, IfOk};
 ghost use Rattle.antipode.specs.Words.{word_of};
 
-use anti_command::{TopFault, antipode_plain, status_of, tell};
+use anti_command::{TopFault, antipode, status_of, tell};
 use anti_edge::{RealSink, RealSource};
 use anti_ids::{List, NoMemory, Value, ValueFault};
+use anti_work::Open;
 use std::alloc::Global;
 use std::process::ExitCode;
 use std::rt::Env;
@@ -49,13 +51,16 @@ fn main(rt: HostRuntime) -> ExitCode {
     let mut out = RealSink::new(rt.stdout());
     let mut err = RealSink::new(rt.stderr());
     let status = match words_of(&rt) {
-        Ok(words) => antipode_plain(
+        Ok(words) => antipode(
+            &rt,
             rt.alloc(),
             words.as_slice(),
             &mut src,
             &mut out,
             &mut err,
-        ).status,
+            &Open,
+        )
+        .status,
         Err(NoMemory) => {
             tell(&mut err, TopFault::NoMemory);
             status_of(Some(TopFault::NoMemory))

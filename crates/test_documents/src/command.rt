@@ -27,7 +27,7 @@ end 4
 ";
 
 // Words that ask for nothing.
-static NO_COMMANDS: [&[&[u8]]; 14] = [
+static NO_COMMANDS: [&[&[u8]]; 15] = [
     &[],
     &[b"load"],
     &[b"load", b""],
@@ -42,6 +42,8 @@ static NO_COMMANDS: [&[&[u8]]; 14] = [
     &[b"place", b"7"],
     &[b"step", b"x"],
     &[b"step", b"json"],
+    // no threads are at hand
+    &[b"run"],
 ];
 
 // What a call with such words comes to.

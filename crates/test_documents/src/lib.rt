@@ -30,3 +30,5 @@ mod services;
 mod stores;
 #[cfg(test)]
 mod text;
+#[cfg(test)]
+mod workers;

@@ -1,0 +1,2 @@
+mod ByWorkers
+mod Settled
