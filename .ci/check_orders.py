@@ -1,7 +1,7 @@
 #!/usr/bin/env python3
-"""Reads a record of `antipode step` and works out the order that explains what each span read, from its entries alone.
+"""Reads records of `antipode` and works out the order that explains what each span read, from their entries alone.
 
-    .ci/check_orders.py NAME.out
+    .ci/check_orders.py NAME.out ..
 
 What a process carried is not in the record, so this goes another way than the program: it finds which entries are causally before which (by
 the order of a process within a span, by messages, by the rows that are shown, and by the lineages that are stored beside them), and takes as
@@ -97,18 +97,24 @@ def unexplained(entries, order):
     return None
 
 
-with open(sys.argv[1], encoding="ascii") as file:
-    lines = file.read().splitlines()
-entries = [Entry(line) for line in lines if line.split(" ")[0].isdigit()]
-before = pasts(entries)
-spans = sorted({entry.actor for entry in entries if entry.reads})
-told = {line.split(" ")[1]: line.split(" ")[2:] for line in lines if line.startswith("span ")}
-if sorted(told) != spans:
-    sys.exit(f"{sys.argv[1]}: the spans with a read are {spans}")
-for span, (word, *marks) in told.items():
-    order = order_of(entries, before, [place for place, entry in enumerate(entries) if entry.reads and entry.actor == span])
-    wanted = [entries[place].mark for place in order]
-    if word == "order" and marks != wanted:
-        sys.exit(f"{sys.argv[1]}: the order of {span} is {' '.join(wanted)}")
-    if word == "order" and unexplained(entries, order):
-        sys.exit(f"{sys.argv[1]}: {span} does not explain {unexplained(entries, order)}")
+def check(name):
+    """Ends the program with what is wrong with a record."""
+    with open(name, encoding="ascii") as file:
+        lines = file.read().splitlines()
+    entries = [Entry(line) for line in lines if line.split(" ")[0].isdigit()]
+    before = pasts(entries)
+    spans = sorted({entry.actor for entry in entries if entry.reads})
+    told = {line.split(" ")[1]: line.split(" ")[2:] for line in lines if line.startswith("span ")}
+    if sorted(told) != spans:
+        sys.exit(f"{name}: the spans with a read are {spans}")
+    for span, (word, *marks) in told.items():
+        order = order_of(entries, before, [place for place, entry in enumerate(entries) if entry.reads and entry.actor == span])
+        wanted = [entries[place].mark for place in order]
+        if word == "order" and marks != wanted:
+            sys.exit(f"{name}: the order of {span} is {' '.join(wanted)}")
+        if word == "order" and unexplained(entries, order):
+            sys.exit(f"{name}: {span} does not explain {unexplained(entries, order)}")
+
+
+for name in sys.argv[1:]:
+    check(name)

@@ -1,7 +1,7 @@
 #!/usr/bin/env python3
 """Judges the record of a run beside its document: whether the application that the document states can have run so.
 
-    examples/check_run.py [--complete] [--workers] DOCUMENT [RECORD]
+    examples/check_run.py [--complete] [--workers] DOCUMENT [RECORD..]
 
 It shares nothing with the program: it plays the entries of the record one after another, by docs/FORMAT.md and docs/MODEL.md alone. Each
 entry has to stand in its order, with the stamp and the place that are due; its call has to be just what its process asks for next, or one
@@ -12,7 +12,8 @@ choices were asked for when, and the orders of spans are judged by `.ci/check_or
 Where all that holds it prints a line, `legal` with the number of entries and `complete` or the first thing that was left undone, as a
 choice, and the status is 0. Else it tells the first line of the record that is wrong, and the status is 1. With `--complete`, and where
 the last choice of the document is `finish`, nothing may be left undone. With `--workers` there are the carriers ~1 to ~W beside ~0, for
-the W workers of the document. The record comes from standard input where none is named.
+the W workers of the document, and there is no line `wait`. The record comes from standard input where none is named; of several each is judged, up to the first that
+is wrong.
 """
 import argparse
 import collections
@@ -662,7 +663,8 @@ def judge(run, lines):
         run.note(lines.next)
         count += 1
         lines.go_on()
-    lines.pass_over("wait")
+    if len(run.carriers) == 1:  # workers play no choices
+        lines.pass_over("wait")
     for name, process in run.in_order():
         lines.expect(f"process {name} {process.service} {process.handler} {run.end_of(process)}")
     lines.pass_over("span")
@@ -671,20 +673,21 @@ def judge(run, lines):
     return count
 
 
-def judged(asked):
+def judged(asked, record):
     """The line that is told of a record, where it is legal."""
     with open(asked.document, "rb") as file:
         app = Application(tomllib.load(file))
     run = Run(app, [f"~{number}" for number in range(app.workers + 1 if asked.workers else 1)])
-    with open(asked.record or 0, encoding="ascii", newline="\n") as file:
+    where = f"{record}, " if len(asked.records) > 1 else ""
+    with open(record or 0, encoding="ascii", newline="\n") as file:
         lines = Lines(file)
         try:
             count = judge(run, lines)
         except Wrong as fault:
-            sys.exit(f"line {lines.number}: {fault}")
+            sys.exit(f"{where}line {lines.number}: {fault}")
     left = next(run.undone(), None)
     if left and (asked.complete or app.finishes):
-        sys.exit(f"left undone: {left}")
+        sys.exit(f"{where}left undone: {left}")
     return f"legal, {count} entries, " + (f"left undone: {left}" if left else "complete")
 
 
@@ -693,8 +696,10 @@ if __name__ == "__main__":
     parser.add_argument("--complete", action="store_true", help="nothing may be left undone")
     parser.add_argument("--workers", action="store_true", help="the workers of the document are carriers, too")
     parser.add_argument("document")
-    parser.add_argument("record", nargs="?")
+    parser.add_argument("records", metavar="record", nargs="*")
     try:
-        print(judged(parser.parse_args()))
+        given = parser.parse_args()
+        for name in given.records or [None]:
+            print(judged(given, name))
     except (OSError, ValueError) as fault:
         sys.exit(str(fault))
