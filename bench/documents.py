@@ -1,5 +1,6 @@
 """The documents that bench/run plays: each a function of the sizes that it grows with."""
 import os
+import re
 
 HERE = os.path.dirname(os.path.abspath(__file__))
 
@@ -47,21 +48,21 @@ def document(choices, body):
     )
 
 
-def finished(requests, names, lines):
-    """So many requests to one handler with these lines, on stores of these names with a replica each, and `finish`."""
+def finished(requests, names, lines, services=1):
+    """So many requests in turn to so many services, each a handler with these lines, on stores of these names with a replica each, and `finish`."""
     stores = ", ".join(f'{{ name = "{name}", kind = "kv", replicas = ["eu"] }}' for name in names)
-    return "\n".join(
-        [
-            'regions = ["eu"]',
-            'choices = ["finish"]',
-            f"store = [{stores}]",
-            "request = [" + ", ".join(['{ service = "w", handler = "h", value = "k" }'] * requests) + "]",
-            "[[service]]",
-            'name = "w"',
-            'region = "eu"',
-            f'handler = [{{ name = "h", body = {quoted(lines)} }}]',
-        ]
-    )
+    asked = ", ".join(f'{{ service = "w{i % services or ""}", handler = "h", value = "k" }}' for i in range(requests))
+    served = [
+        line
+        for i in range(services)
+        for line in ("[[service]]", f'name = "w{i or ""}"', 'region = "eu"', f'handler = [{{ name = "h", body = {quoted(lines)} }}]')
+    ]
+    return "\n".join(['regions = ["eu"]', 'choices = ["finish"]', f"store = [{stores}]", f"request = [{asked}]", *served])
+
+
+def with_workers(text, workers):
+    """The same document with so many workers."""
+    return f"workers = {workers}\n" + re.sub(r"^workers = .*\n", "", text, flags=re.MULTILINE)
 
 
 def called(requests, deep):
