@@ -11,6 +11,8 @@ mod blob;
 #[cfg(test)]
 mod edge;
 #[cfg(test)]
+mod flight;
+#[cfg(test)]
 mod ids;
 #[cfg(test)]
 mod inbox;

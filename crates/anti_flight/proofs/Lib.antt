@@ -1,0 +1,11 @@
+mod Apart
+mod Blocks
+mod Crosses
+pub mod Given
+mod Heap
+mod Memory
+mod Pairs
+mod Rings
+mod Rising
+mod Sharing
+mod Splits

@@ -1,0 +1,3 @@
+pub mod Linked
+pub mod Ownership
+pub mod Standing
