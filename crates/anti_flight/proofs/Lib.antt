@@ -3,6 +3,7 @@ mod Blocks
 mod Crosses
 pub mod Given
 mod Heap
+pub mod Items
 mod Memory
 mod Pairs
 mod Rings

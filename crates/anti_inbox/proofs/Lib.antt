@@ -1,3 +1,4 @@
+pub mod Leaving
 pub mod Lists
 pub mod Fates
 pub mod Delivered

@@ -55,6 +55,9 @@ range_more n =
     ∙ map-range_with_len_more (λ (x : ℕ). x) 1 n (n + 1) (omega arith)
     ∙ ap (λ (r : List ℕ). r ++ (n + 1) ∷ []) (map-id (range_with_len 1 n))
 
+pub length_range : (n : ℕ) → length (range_with_len 1 n) ≡ n
+length_range n = ap length (sym (map-id (range_with_len 1 n))) ∙ length-map-range_with_len (λ (x : ℕ). x) 1 n
+
 -- a test that each element passes keeps them all
 pub filter-all : {X : Type 0} (p : X → Bool) (xs : List X) → ((x : X) → p x ≡ true) → filter p xs ≡ xs
 filter-all p [] passes = refl
@@ -66,6 +69,10 @@ filter-none p [] fails = refl
 filter-none {X} p (x ∷ xs) fails =
     cond-false (p x) (x ∷ filter p xs) (filter p xs) (fails 0 x (omega arith))
     ∙ filter-none p xs (λ k d short. fails (suc k) d (omega arith))
+
+-- a test keeps no more than there are
+pub filter-most : {X : Type 0} (p : X → Bool) (xs : List X) → length (filter p xs) ≤ length xs
+filter-most p xs = let counted : length (filter p xs) ≡ count_by p xs = length-filter p xs in omega (arith, counted, count_by-le-length p xs)
 
 -- of two tests it does not matter which comes first, and the second keeps no more
 pub filters-length : {X : Type 0} (p q : X → Bool) (xs : List X) → length (filter p (filter q xs)) ≤ length (filter p xs)

@@ -20,7 +20,7 @@ use Rattle.anti_inbox.specs.declared.inbox.Fate.{Fate}
 use Rattle.anti_inbox.specs.declared.inbox.Inbox.{Inbox}
 use Rattle.anti_inbox.specs.inner.Fates.{reposts, fate_of, untouched, taken, reposted, answered, heard}
 use Rattle.anti_inbox.specs.inner.Inboxes.{start_of, requests_of, Knows, At, Keeps, Turns}
-use Rattle.anti_inbox.proofs.Lists.{filter-and, map_same, set_mapped}
+use Rattle.anti_inbox.proofs.Lists.{filter-and, filter-most, map_same, set_mapped}
 use Rattle.anti_inbox.proofs.Fates.{fate_outside, fate_kept, fate_taken, fate_reposted, fate_answered, fate_heard}
 use Rattle.anti_inbox.proofs.Reading.{its_counts, count_messages, count_fates, fate_at, at_number, IsHanding}
 
@@ -49,6 +49,7 @@ knows_same m n h knows turns =
       messages_are = turns.messages_are ∙ knows.messages_are ∙ ap (λ (rs : List Message). messages rs h) (sym same);
       fates_are = turns.fates_are ∙ knows.fates_are ∙ ap (λ (rs : List Message). map (fate_of h) (numbers rs h)) (sym same);
       free_are = turns.free_are ∙ knows.free_are ∙ ap (λ (rs : List Message). free rs h) (sym same);
+      came_within = omega (arith, turns.came_within, knows.came_within, ap (λ (rs : List Message). length (deliveries rs h)) same);
     }
 
 -- The free deliveries after one entry more.
@@ -68,6 +69,32 @@ module _ (requests : List Message) (h : List Entry) (e : Entry) where
   not_or : (a b c : Bool) → b ≡ c → not (a || b) ≡ (not a && not c)
   not_or true b c same = refl
   not_or false b c same = ap not same
+
+  never_fewer : length (deliveries requests h) ≤ length (deliveries requests (h ++ e ∷ []))
+  never_fewer = omega (arith, ap length (deliveries_more requests h e), length-append (deliveries requests h) (delivered e.call e.reply))
+
+  -- there are no more than were free and came
+  free_most : length (free requests (h ++ e ∷ [])) + length (deliveries requests h) ≤ length (free requests h) + length (deliveries requests (h ++ e ∷ []))
+  free_most =
+      let p : ℕ → Bool = λ n. not (is_taken h n) in
+      let q : ℕ → Bool = λ n. not (takes n e.call e.reply) in
+      let ds : List ℕ = deliveries requests h in
+      let new : List ℕ = delivered e.call e.reply in
+      let parts : free requests (h ++ e ∷ []) ≡ filter q (free requests h) ++ filter (λ n. p n && q n) new =
+      ap (filter (λ n. not (is_taken (h ++ e ∷ []) n))) (deliveries_more requests h e)
+      ∙ filter_agree (λ n. not (is_taken (h ++ e ∷ []) n)) (λ n. p n && q n)
+      (λ n. ap not (taken_more requests h e n) ∙ not_or (is_taken h n) (takes n e.call e.reply) (takes n e.call e.reply) refl) (ds ++ new)
+      ∙ filter-append (λ n. p n && q n) ds new
+      ∙ ap (λ (ns : List ℕ). ns ++ filter (λ n. p n && q n) new) (filter-and p q ds) in
+      omega (
+        arith,
+        ap length parts,
+        length-append (filter q (free requests h)) (filter (λ n. p n && q n) new),
+        filter-most q (free requests h),
+        filter-most (λ n. p n && q n) new,
+        ap length (deliveries_more requests h e),
+        length-append ds new,
+      )
 
   -- the message numbered k is taken
   free_less : (k : ℕ) → ((n : ℕ) → takes n e.call e.reply ≡ (n == k)) → delivered e.call e.reply ≡ [] → free requests (h ++ e ∷ []) ≡ filter (λ n. not (n == k)) (free requests h)
@@ -104,6 +131,8 @@ module _ (m n : Inbox) (h : List Entry) (e : Entry) (at : At m h) (f : Follows (
             ∙ ap (λ (xs : List Message). messages xs (h ++ e ∷ [])) (sym same);
         fates_are = turns.fates_are ∙ fates_are ∙ ap (λ (xs : List Message). map (fate_of (h ++ e ∷ [])) (numbers xs (h ++ e ∷ []))) (sym same);
         free_are = turns.free_are ∙ free_are ∙ ap (λ (xs : List Message). free xs (h ++ e ∷ [])) (sym same);
+        came_within =
+            omega (arith, turns.came_within, k.came_within, free_most rs h e, never_fewer rs h e, ap length free_are, ap length k.free_are, ap (λ (xs : List Message). length (deliveries xs (h ++ e ∷ []))) same);
       }
 
   -- where no message is posted

@@ -7,6 +7,7 @@ use Rattle.std.proofs.lemmas.List.Sums.{sum_by-le}
 use Rattle.std.proofs.lemmas.List.Elements.{All-filter}
 use Rattle.std.proofs.lemmas.List.FromFn.{length-map-range_with_len, get_or-map-range_with_len}
 use Rattle.std.proofs.lemmas.Option.{slice_get-get_or}
+use Rattle.std.specs.List.{range_with_len}
 use Rattle.anti_ids.specs.declared.limits.TheConstants.{MOST_UNITS}
 use Rattle.anti_kind.specs.declared.call.Call.{Call}
 use Rattle.anti_kind.specs.declared.call.Call.TheVariants.{Post, Take, Repost, TakeReply}
@@ -14,8 +15,9 @@ use Rattle.anti_kind.specs.declared.entry.Entry.{Entry}
 use Rattle.anti_kind.specs.declared.message.Message.{Message}
 use Rattle.anti_kind.specs.declared.message.MessageKind.{MessageKind}
 use Rattle.anti_kind.specs.declared.message.MessageKind.TheVariants as kinds
-use Rattle.anti_kind.specs.declared.call.Reply.TheVariants.{Got}
-use Rattle.anti_kind.specs.Inbox.{posted, messages, listed, numbered, is_call_message, is_taken, has_reply, reply_is_taken, deliveries, free, got_of, handed, post_ready}
+use Rattle.anti_kind.specs.declared.call.Reply.{Reply}
+use Rattle.anti_kind.specs.declared.call.Reply.TheVariants.{Got, Posted}
+use Rattle.anti_kind.specs.Inbox.{posted, messages, delivered, listed, numbered, is_call_message, is_taken, has_reply, reply_is_taken, deliveries, free, got_of, handed, post_ready}
 use Rattle.anti_kind.specs.Objects.{inbox, ready, IsLegal}
 use Rattle.anti_kind.specs.Starts.{IsInbox}
 use Rattle.anti_kind.proofs.Bounds.{length_within}
@@ -24,6 +26,7 @@ use Rattle.anti_inbox.specs.declared.inbox.Fate.{Fate}
 use Rattle.anti_inbox.specs.declared.inbox.Inbox.{Inbox}
 use Rattle.anti_inbox.specs.inner.Fates.{fate_of, untouched}
 use Rattle.anti_inbox.specs.inner.Inboxes.{start_of, requests_of, At}
+use Rattle.anti_inbox.proofs.Lists.{length_range}
 use Rattle.anti_inbox.proofs.Fates.{fate_outside}
 
 -- each entry adds at most one message
@@ -44,6 +47,21 @@ few_messages requests h sane legal =
     let short : length h ≤ MOST_UNITS = length_within (inbox requests) h sane legal in
     omega (arith, sane.few)
 
+-- and each at most one delivery
+one_delivery : (c : Call) (r : Reply) → length (delivered c r) ≤ 1
+one_delivery (Post m) (Posted n) = omega arith
+one_delivery (Repost n) r = omega arith
+one_delivery _ _ = omega arith
+
+few_deliveries : (requests : List Message) (h : List Entry) → IsInbox requests → IsLegal (inbox requests) h → length (deliveries requests h) ≤ 4496
+few_deliveries requests h sane legal =
+    let came : List ℕ = flat_map (λ (e : Entry). delivered e.call e.reply) h in
+    let both : length (deliveries requests h) ≡ length (range_with_len 1 (length requests)) + length came = length-append (range_with_len 1 (length requests)) came in
+    let sum = length-flat_map (λ (e : Entry). delivered e.call e.reply) h in
+    let most = sum_by-le (λ (e : Entry). length (delivered e.call e.reply)) 1 h (λ k d short. one_delivery (get_or h k d).call (get_or h k d).reply) in
+    let short : length h ≤ MOST_UNITS = length_within (inbox requests) h sane legal in
+    omega (arith, sane.few, length_range (length requests))
+
 module _ (m : Inbox) (h : List Entry) (at : At m h) where
   abbrev rs : List Message
   rs = requests_of m
@@ -59,6 +77,9 @@ module _ (m : Inbox) (h : List Entry) (at : At m h) where
 
   pub its_few : length m.messages.items ≤ 4496
   its_few = omega (arith, count_messages, few_messages rs h at.sane at.legal)
+
+  pub few_came : m.free.next ≤ 4496
+  few_came = omega (arith, at.state.knows.came_within, few_deliveries rs h at.sane at.legal)
 
   -- what stands at the index of a number
   pub fate_at : (n : ℕ) (d : Fate) → 1 ≤ n → n ≤ length m.fates.items → get_or m.fates.items (n - 1) d ≡ fate_of h n

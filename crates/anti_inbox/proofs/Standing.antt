@@ -18,12 +18,12 @@ use Rattle.anti_kind.proofs.Deliveries.{inbox_units, start_owes}
 use Rattle.anti_inbox.specs.declared.inbox.Inbox.{Inbox}
 use Rattle.anti_inbox.specs.inner.Fates.{fate_of}
 use Rattle.anti_inbox.specs.inner.Inboxes.{start_of, requests_of, Knows, InboxStands, At, Keeps}
-use Rattle.anti_inbox.proofs.Lists.{filter-all}
+use Rattle.anti_inbox.proofs.Lists.{filter-all, length_range}
 
 -- an inbox on which nothing has happened
 pub stands_new : (m : Inbox) → IsInbox m.messages.items → m.requests ≡ length m.messages.items → m.fates.items ≡ map (fate_of []) (range_with_len 1 m.requests)
-    → m.free.items ≡ range_with_len 1 m.requests → m.held ≡ 0 → m.owed ≡ length m.messages.items → InboxStands m []
-stands_new m sane count fates_are free_are held_is owed_is =
+    → m.free.items ≡ range_with_len 1 m.requests → m.free.next ≡ m.requests → m.held ≡ 0 → m.owed ≡ length m.messages.items → InboxStands m []
+stands_new m sane count fates_are free_are came held_is owed_is =
     let ms : List Message = m.messages.items in
     let all : requests_of m ≡ ms = ap (λ (k : ℕ). take k ms) count ∙ take-length ms in
     let size : m.requests ≡ length (messages (requests_of m) []) = count ∙ ap length (sym (append-nil (requests_of m) ∙ all)) in
@@ -36,6 +36,10 @@ stands_new m sane count fates_are free_are held_is owed_is =
         free_are =
             free_are ∙ ap (range_with_len 1) size'
             ∙ sym (filter-all (λ n. not (is_taken [] n)) (deliveries (requests_of m) []) (λ n. refl) ∙ append-nil (range_with_len 1 (length (requests_of m))));
+        came_within =
+            let all_come : length (deliveries (requests_of m) []) ≡ m.requests =
+            ap length (append-nil (range_with_len 1 (length (requests_of m)))) ∙ length_range (length (requests_of m)) ∙ sym size' in
+            omega (arith, came, all_come);
       };
       held_is = held_is;
       owed_is = owed_is ∙ sym (ap (λ (rs : List Message). owed (inbox rs) []) all ∙ start_owes ms sane);
@@ -74,7 +78,7 @@ module _ (m : Inbox) (h : List Entry) (e : Entry) (at : At m h) (f : Follows (st
   pub stands_more : (k n : Inbox) (needs : ℕ) → needs ≡ need (start_of m) h e.call → Keeps m k → Knows k (h ++ e ∷ [])
       → n ≡ record k { held = k.held + 1; owed = k.owed + needs - 1 } → InboxStands n (h ++ e ∷ [])
   stands_more k n needs is keeps knows turns = subst (λ (x : Inbox). InboxStands x (h ++ e ∷ [])) (sym turns) (record {
-    knows = record { requests_within = knows.requests_within; messages_are = knows.messages_are; fates_are = knows.fates_are; free_are = knows.free_are };
+    knows = record { requests_within = knows.requests_within; messages_are = knows.messages_are; fates_are = knows.fates_are; free_are = knows.free_are; came_within = knows.came_within };
     held_is = omega (arith, held_more h e, weighs_one, at.state.held_is, keeps.held_is);
     owed_is =
         let now : k.owed + needs - 1 ≡ owed (start_of m) (h ++ e ∷ []) = omega (arith, owes, is, keeps.owed_is) in

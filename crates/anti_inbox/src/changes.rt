@@ -15,7 +15,8 @@ impl Inbox {
 
     // Adds a message, with a delivery that is free. All of it is added or nothing.
     pub(crate) fn post(&mut self, message: Handle<Message>) -> Result<(), NoMemory>
-        requires { length self.old.messages.items + 1 < 2 ^ 32 }
+        requires messages { length self.old.messages.items + 1 < 2 ^ 32 }
+        requires deliveries { self.old.free.next < 2 ^ 32 - 1 }
         ensures ok { OnOk result (Turns self.old self.new (self.old.messages.items ++ message ∷ []) (self.old.fates.items ++ untouched ∷ [])
             (self.old.free.items ++ (length self.old.messages.items + 1) ∷ [])) }
         ensures err { OnErr result (Turns self.old self.new self.old.messages.items self.old.fates.items self.old.free.items) }
@@ -46,17 +47,18 @@ impl Inbox {
             (slice_set self.old.fates.items (number - 1) (taken (slice_index_or self.old.fates.items (number - 1) d)))
             (filter (λ n. not (n == number)) self.old.free.items) }
     {
-        let number = self.free.remove(nth as usize - 1);
+        let number = self.free.remove(nth - 1);
         let fate = &mut self.fates[number as usize - 1];
         fate.taken = true;
         // Only a message that was delivered again has further deliveries.
         if fate.reposted {
-            self.free.retain(|delivery| *delivery != number);
+            self.free.remove_all(number);
         }
     }
 
     // Adds a free delivery of a message, unless the message was taken.
     fn deliver(&mut self, number: u32) -> Result<(), NoMemory>
+        requires { self.old.free.next < 2 ^ 32 - 1 }
         ensures ok { (h : List Entry) → At self.old h → OnOk result (Turns self.old self.new self.old.messages.items self.old.fates.items
             (self.old.free.items ++ filter (λ n. not (is_taken h n)) (number ∷ []))) }
         ensures err { (h : List Entry) → At self.old h → OnErr result (Turns self.old self.new self.old.messages.items self.old.fates.items self.old.free.items) }

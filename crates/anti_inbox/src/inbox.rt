@@ -1,11 +1,13 @@
-ghost use Rattle.std.specs.Prelude.{◌≡◌, ◌<◌, ◌^◌, List, [], map, IfOk, IfNone, IfSome, MatchOption, None, Some, slice_get};
+ghost use Rattle.std.specs.Prelude.{◌≡◌, ◌-◌, ◌<◌, ◌^◌, List, [], map, IfOk, IfNone, IfSome, MatchOption, None, Some, slice_get};
 ghost use Rattle.std.specs.List.{range_with_len};
 ghost use Rattle.anti_kind.specs.declared.entry.Entry.{Entry};
 ghost use Rattle.anti_kind.specs.Inbox.{messages, numbered, is_call_message, is_taken, replies, has_reply, reply_is_taken, post_ready};
 ghost use Rattle.anti_kind.specs.Objects.{inbox};
 ghost use Rattle.anti_kind.specs.Starts.{IsStart};
 ghost use Rattle.anti_inbox.specs.inner.Fates.{fate_of, untouched};
+ghost use Rattle.anti_flight.specs.Queued.{queued};
 
+use crate::deliveries::Deliveries;
 use anti_ids::NoMemory;
 use anti_kind::{Handle, Message, MessageKind, Messages};
 use std::alloc::Global;
@@ -20,14 +22,14 @@ pub(crate) struct Fate {
     pub(crate) heard: bool,
 }
 
-/// The messages of a service, of which the first are its requests, what became of each, and the numbers of the free deliveries in
-/// their order. The message numbered n stands at the index n - 1.
+/// The messages of a service, of which the first are its requests, what became of each, and the free deliveries in their order. The
+/// message numbered n stands at the index n - 1.
 #[derive(Drop)]
 pub struct Inbox {
     pub(crate) requests: usize,
     pub(crate) messages: Messages,
     pub(crate) fates: Vec<Fate>,
-    pub(crate) free: Vec<u32>,
+    pub(crate) free: Deliveries,
     pub(crate) held: u32,
     pub(crate) owed: u32,
     pub(crate) alloc: Global,
@@ -44,7 +46,7 @@ impl Inbox {
     {
         let count = requests.len();
         let fates = fates(alloc, count)?;
-        let free = numbers(alloc, count)?;
+        let free = deliveries(alloc, count)?;
         Ok(Inbox {
             requests: count,
             messages: requests,
@@ -150,14 +152,14 @@ fn fates(alloc: Global, count: usize) -> Result<Vec<Fate>, NoMemory>
     Ok(fates)
 }
 
-// The numbers from 1 to a count.
-fn numbers(alloc: Global, count: usize) -> Result<Vec<u32>, NoMemory>
-    requires { count < 2 ^ 32 }
-    ensures { IfOk result (λ v. v.items ≡ range_with_len 1 count) }
+// The deliveries of so many messages, one of each.
+fn deliveries(alloc: Global, count: usize) -> Result<Deliveries, NoMemory>
+    requires { count < 2 ^ 32 - 1 }
+    ensures { IfOk result (λ d. d ≡ queued (range_with_len 1 count) count) }
 {
-    let mut numbers = Vec::new(alloc);
+    let mut deliveries = Deliveries::new(alloc);
     for before in 0..count {
-        numbers.push(before as u32 + 1)?;
+        deliveries.push(before as u32 + 1)?;
     }
-    Ok(numbers)
+    Ok(deliveries)
 }

@@ -2,6 +2,7 @@
 #![tactic(auto)]
 
 mod changes;
+mod deliveries;
 mod inbox;
 mod laws;
 mod machine;

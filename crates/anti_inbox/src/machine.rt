@@ -30,7 +30,7 @@ impl Inbox {
         ensures { (h : List Entry) → At self.now h
             → IfOk result (λ r. r ≡ handed (messages (requests_of self.now) h) (numbered (free (requests_of self.now) h) nth)) }
     {
-        let number = self.free[nth as usize - 1];
+        let number = self.free.at(nth - 1);
         let message = self.messages.at(number as usize - 1).share()?;
         Ok(Reply::Got { number, message })
     }
@@ -101,7 +101,7 @@ impl Machine for Inbox {
     fn ready(&self, c: &Call) -> bool {
         match c {
             Call::Post { message } => self.can_post(message.get()),
-            Call::Take { nth } => *nth >= 1 && *nth as usize <= self.free.len(),
+            Call::Take { nth } => *nth >= 1 && *nth <= self.free.len(),
             Call::Repost { number } => *number >= 1 && *number as usize <= self.messages.len(),
             Call::TakeReply { number } => self.has_reply(*number) && !self.is_heard(*number),
             _ => false,

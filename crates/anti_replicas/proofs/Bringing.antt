@@ -3,7 +3,7 @@ use Rattle.std.proofs.Common.{◌≡◌, ℕ, ◌+◌, ◌-◌, ◌<◌, ◌≤�
 use Rattle.std.specs.Prelude.{bytes_eq, slice_get, flat_map}
 use Rattle.std.specs.List.{Any, list_all, range_with_len}
 use Rattle.std.specs.Option.{option_map}
-use Rattle.std.proofs.lemmas.Bool.{and_parts, and_from, and_left, and_right, or_left, or_right, or_from, false_from_ne_true, cases_lt, le-leb, lt-leb}
+use Rattle.std.proofs.lemmas.Bool.{both_ways, and_parts, and_from, and_left, and_right, or_left, or_right, or_from, false_from_ne_true, cases_lt, le-leb, lt-leb}
 use Rattle.std.proofs.lemmas.List.Folds.{Any-from_list_any, list_all_at}
 use Rattle.std.proofs.lemmas.List.Sums.{prefix_len-le-length, prefix_len_passes, prefix_len_stops, AllPass-from_list_all, list_all-from_AllPass}
 use Rattle.std.proofs.lemmas.Option.{slice_get_within, slice_get-get_or, get_or_from_slice_get}
@@ -39,7 +39,7 @@ replica_below m s h at g is =
     let below : found.1 < 8 = omega (arith, at.sane.below found.0 found.1 found.2, found.3) in
     omega arith
 
-part_of_some : (kind : StoreKind) (r : Row) (p : ℕ) → has_part kind (Some r) p ≡ true → (1 ≤ p) × (p ≤ parts_of kind r.value)
+pub part_of_some : (kind : StoreKind) (r : Row) (p : ℕ) → has_part kind (Some r) p ≡ true → (1 ≤ p) × (p ≤ parts_of kind r.value)
 part_of_some kind r p has =
     let both = and_parts (leb 1 p) _ has in
     (leb-true 1 p both.0, leb-true p (parts_of kind r.value) both.1)
@@ -107,15 +107,23 @@ module _ (m : Replicas) (s : Store) (h : List Entry) (at : At m s h) where
   pub part_absent : (v p : ℕ) → (v ≡ 0) ⊎ (length m.kept.items < v) → false ≡ has_part s.kind (row_of h v) p
   part_absent v p out = sym (ap (λ (o : Option Row). has_part s.kind o p) (row_absent m s h at v out))
 
-  -- a region that is none shows nothing, and has nothing
-  nothing_whole : (g : ℕ) → 8 ≤ g → (r : Row) → is_whole s.kind h g r ≡ false
-  nothing_whole g above r = whole_none s.kind h g r (λ p. no_region g r.version p above)
+  -- a region without a replica shows nothing, and has nothing
+  nothing_whole : (g : ℕ) → is_replica s g ≡ false → (r : Row) → is_whole s.kind h g r ≡ false
+  nothing_whole g off r =
+      whole_none s.kind h g r (λ p. false_from_ne_true (is_shipped h g r.version p) (λ was.
+      both_ways (is_replica s g) off (shipped_sound s h at.legal g r.version p was).replica))
+
+  none_beyond : (g : ℕ) → 8 ≤ g → is_replica s g ≡ false
+  none_beyond g above = false_from_ne_true (is_replica s g) (λ on. omega (arith, replica_below m s h at g on))
 
   pub shows_nothing : (g : ℕ) (k : List ℕ) → 8 ≤ g → 0 ≡ shows_of s.kind h g k
-  shows_nothing g k above = sym (greatest_none (is_whole s.kind h g) k (rows h) (nothing_whole g above))
+  shows_nothing g k above = sym (greatest_none (is_whole s.kind h g) k (rows h) (nothing_whole g (none_beyond g above)))
 
-  pub upto_nothing : (g : ℕ) → 8 ≤ g → 0 ≡ upto_of s.kind h g
-  upto_nothing g above = sym (prefix_none (is_whole s.kind h g) (rows h) (nothing_whole g above))
+  pub upto_nothing : (g : ℕ) → is_replica s g ≡ false → 0 ≡ upto_of s.kind h g
+  upto_nothing g off = sym (prefix_none (is_whole s.kind h g) (rows h) (nothing_whole g off))
+
+  pub upto_beyond : (g : ℕ) → 8 ≤ g → 0 ≡ upto_of s.kind h g
+  upto_beyond g above = upto_nothing g (none_beyond g above)
 
   pub upto_within : (g : ℕ) → upto_of s.kind h g ≤ length m.kept.items
   upto_within g = omega (arith, prefix_len-le-length (is_whole s.kind h g) (rows h), count_is m s h at.state)

@@ -3,6 +3,8 @@ pub mod Places
 pub mod Shows
 pub mod Reading
 pub mod Bringing
+pub mod Backlogs
+pub mod Behind
 pub mod Standing
 pub mod Scanning
 pub mod Keys

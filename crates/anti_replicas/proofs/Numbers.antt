@@ -1,5 +1,5 @@
 -- Tests that agree on the elements of a list, and how many elements from the first on pass one.
-use Rattle.std.proofs.Common.{◌≡◌, ℕ, zero, suc, ◌+◌, ◌<◌, ◌≤◌, Bool, true, false, cond, not, ◌&&◌, List, [], ◌∷◌, ◌++◌, length, map, get_or, drop, Option, Some, None, find, refl, ap, ◌∙◌, arith}
+use Rattle.std.proofs.Common.{◌≡◌, ℕ, zero, suc, ◌+◌, ◌<◌, ◌≤◌, Bool, true, false, cond, not, ◌&&◌, List, [], ◌∷◌, length, map, get_or, Option, Some, None, find, refl, ap, ◌∙◌, arith}
 use Rattle.std.specs.List.{list_all, range_with_len, prefix_len, flat_map}
 use Rattle.std.specs.Option.{option_map, option_or}
 use Rattle.std.proofs.lemmas.List.Folds.{find-append}
@@ -48,21 +48,6 @@ module _ (p q : ℕ → Bool) (n : ℕ) (same : (k : ℕ) → 1 ≤ k → k ≤ 
 pub prefix_none : {X : Type 0} (p : X → Bool) (xs : List X) → ((x : X) → p x ≡ false) → prefix_len p xs ≡ 0
 prefix_none p [] none = refl
 prefix_none p (x ∷ xs) none = rw (none x) refl
-
--- an element at the end that fails changes nothing
-pub prefix_push : {X : Type 0} (p : X → Bool) (xs : List X) (x : X) → p x ≡ false → prefix_len p (xs ++ x ∷ []) ≡ prefix_len p xs
-prefix_push p [] x off = rw off refl
-prefix_push p (y ∷ xs) x off = let rest : prefix_len p (xs ++ x ∷ []) ≡ prefix_len p xs = prefix_push p xs x off in rw rest refl
-
--- counted on from a place before which all pass
-pub prefix_on : {X : Type 0} (p : X → Bool) (n : ℕ) (xs : List X) → n ≤ length xs → ((i : ℕ) (d : X) → i < n → p (get_or xs i d) ≡ true)
-    → n + prefix_len p (drop n xs) ≡ prefix_len p xs
-prefix_on p zero xs short all = omega arith
-prefix_on p (suc n) [] short all = absurd (omega arith)
-prefix_on p (suc n) (x ∷ xs) short all =
-    let rest : n + prefix_len p (drop n xs) ≡ prefix_len p xs = prefix_on p n xs (omega arith) (λ i d less. all (suc i) d (omega arith)) in
-    let first : p x ≡ true = all 0 x (omega arith) in
-    rw first (omega arith)
 
 -- no element fails exactly where all pass
 pub none_fails : {X : Type 0} (p : X → Bool) (xs : List X) → list_all p xs ≡ true → find (λ x. not (p x)) xs ≡ None

@@ -1,9 +1,7 @@
 -- What a region shows after one entry more: only a shipment changes it, and it raises the version of one key.
 use Rattle.std.proofs.Common.{◌≡◌, ℕ, zero, suc, ◌+◌, ◌<◌, ◌≤◌, Bool, true, false, cond, ◌||◌, ◌&&◌, max, List, [], ◌∷◌, ◌++◌, length, get_or, refl, sym, ap, ◌∙◌, ⊎_elim, ◌==◌, eq-eqb, ne_eqb, arith}
 use Rattle.std.specs.Prelude.{bytes_eq}
-use Rattle.std.specs.List.{prefix_len}
 use Rattle.std.proofs.lemmas.Bool.{or_left, and_left, and_right, cases_eq}
-use Rattle.std.proofs.lemmas.List.{get_or_default}
 use Rattle.std.proofs.lemmas.List.Elements.{All-weaker}
 use Rattle.std.proofs.lemmas.List.Folds.{list_all_at}
 use Rattle.std.proofs.lemmas.List.FromFn.{length-range_with_len}
@@ -15,12 +13,11 @@ use Rattle.anti_kind.specs.declared.row.Row.{Row}
 use Rattle.anti_kind.specs.declared.store_kind.StoreKind.{StoreKind}
 use Rattle.anti_kind.proofs.FactLaws.{has_parts}
 use Rattle.anti_kind.specs.Stored.{rows, is_shipped, parts_of, parts, is_whole, greatest, shows_of}
-use Rattle.anti_kind.specs.Shipments.{upto_of}
 use Rattle.anti_kind.specs.Store.{Store}
 use Rattle.anti_kind.specs.Objects.{store, Follows, IsLegal}
 use Rattle.anti_kind.proofs.Rows.{is_write, is_shipping, new_row, rows_write, rows_other, shipped_other, shipped_ship, version_at, or_false}
 use Rattle.anti_kind.proofs.Shipped.{never_shipped}
-use Rattle.anti_replicas.proofs.Numbers.{all_numbers, prefix_alike, prefix_push}
+use Rattle.anti_replicas.proofs.Numbers.{all_numbers}
 use Rattle.anti_replicas.proofs.Places.{and_false, max_zero}
 
 -- The greatest version among rows that pass.
@@ -88,12 +85,6 @@ module _ (s : Store) (h : List Entry) (e : Entry) (l : IsLegal (store s) h) (f :
       ap (greatest (is_whole s.kind (h ++ e ∷ []) g) k) (rows_other h e writes)
       ∙ greatest_same (is_whole s.kind h g) (is_whole s.kind (h ++ e ∷ []) g) k (rows h) (λ i d short. whole_other ships (get_or (rows h) i d))
 
-  pub upto_other : is_write e.call ≡ false → is_shipping e.call ≡ false → upto_of s.kind (h ++ e ∷ []) g ≡ upto_of s.kind h g
-  upto_other writes ships =
-      ap (prefix_len (is_whole s.kind (h ++ e ∷ []) g)) (rows_other h e writes)
-      ∙ prefix_alike (is_whole s.kind (h ++ e ∷ []) g) (is_whole s.kind h g) (rows h) (rows h) refl
-      (λ i d x short. whole_other ships (get_or (rows h) i d) ∙ ap (is_whole s.kind h g) (get_or_default (rows h) i d x short))
-
   module _ (key value : List ℕ) (lineage : List WriteId) (is : e.call ≡ Write key value lineage) where
     new_not_whole : is_whole s.kind h g (new_row s h key value lineage) ≡ false
     new_not_whole = whole_none s.kind h g (new_row s h key value lineage) (λ p. never_shipped s h l g (length (rows h) + 1) p (omega arith))
@@ -103,13 +94,6 @@ module _ (s : Store) (h : List Entry) (e : Entry) (l : IsLegal (store s) h) (f :
         greatest_same (is_whole s.kind h g) (is_whole s.kind (h ++ e ∷ []) g) k (rows (h ++ e ∷ [])) (λ i d short. whole_other (ap is_shipping is) (get_or (rows (h ++ e ∷ [])) i d))
         ∙ ap (greatest (is_whole s.kind h g) k) (rows_write s h e key value lineage f is)
         ∙ greatest_push (is_whole s.kind h g) k (rows h) (new_row s h key value lineage) new_not_whole
-
-    pub upto_write : upto_of s.kind (h ++ e ∷ []) g ≡ upto_of s.kind h g
-    upto_write =
-        prefix_alike (is_whole s.kind (h ++ e ∷ []) g) (is_whole s.kind h g) (rows (h ++ e ∷ [])) (rows (h ++ e ∷ [])) refl
-        (λ i d x short. whole_other (ap is_shipping is) (get_or (rows (h ++ e ∷ [])) i d) ∙ ap (is_whole s.kind h g) (get_or_default (rows (h ++ e ∷ [])) i d x short))
-        ∙ ap (prefix_len (is_whole s.kind h g)) (rows_write s h e key value lineage f is)
-        ∙ prefix_push (is_whole s.kind h g) (rows h) (new_row s h key value lineage) new_not_whole
 
   module _ (region version part : ℕ) (is : e.call ≡ Ship region version part) where
     -- what was shipped stays
@@ -135,12 +119,6 @@ module _ (s : Store) (h : List Entry) (e : Entry) (l : IsLegal (store s) h) (f :
 
     whole_elsewhere : (region ≡ g → ⊥) → (r : Row) → is_whole s.kind (h ++ e ∷ []) g r ≡ is_whole s.kind h g r
     whole_elsewhere other r = whole_as s.kind h (h ++ e ∷ []) g r (elsewhere other r.version)
-
-    pub upto_elsewhere : (region ≡ g → ⊥) → upto_of s.kind (h ++ e ∷ []) g ≡ upto_of s.kind h g
-    upto_elsewhere other =
-        ap (prefix_len (is_whole s.kind (h ++ e ∷ []) g)) (rows_other h e (ap is_write is))
-        ∙ prefix_alike (is_whole s.kind (h ++ e ∷ []) g) (is_whole s.kind h g) (rows h) (rows h) refl
-        (λ i d x short. whole_elsewhere other (get_or (rows h) i d) ∙ ap (is_whole s.kind h g) (get_or_default (rows h) i d x short))
 
     module _ (i : ℕ) (d : Row) (place : version ≡ i + 1) (short : i < length (rows h)) where
       abbrev the_row : Row

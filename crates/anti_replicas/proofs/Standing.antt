@@ -1,10 +1,13 @@
 -- A base that made one call more stands for the history with that call.
-use Rattle.std.proofs.Common.{◌≡◌, ◌≢◌, ℕ, ◌+◌, ◌-◌, ◌*◌, ◌<◌, ◌≤◌, max, min, Bool, true, false, cond, ◌&&◌, List, [], ◌∷◌, ◌++◌, length, map, get_or, set, drop, replicate, refl, sym, ap, subst, ◌∙◌, inr, ⊎_elim, ◌==◌, eq-eqb, leb-true, arith}
+use Rattle.std.proofs.Common.{◌≡◌, ◌≢◌, ℕ, ◌+◌, ◌-◌, ◌*◌, ◌<◌, ◌≤◌, max, min, Bool, true, false, cond, ◌&&◌, List, [], ◌∷◌, ◌++◌, length, map, get_or, set, replicate, Option, refl, sym, ap, subst, ◌∙◌, inr, ⊎_elim, ◌==◌, eq-eqb, leb-true, arith}
 use Rattle.std.specs.Prelude.{bytes_eq, ◌^◌}
-use Rattle.std.specs.List.{prefix_len}
-use Rattle.std.proofs.lemmas.Bool.{cases_lt, cases_eq}
-use Rattle.std.proofs.lemmas.List.{map_push, length_push, length-map, get_or-map, get_or_append_left, get_or_push, get_or-replicate, map-set, set-get_or, get_or-set_same, get_or-set_other, length-set}
-use Rattle.std.proofs.lemmas.List.Sums.{prefix_len_passes}
+use Rattle.std.specs.List.{range_with_len}
+use Rattle.anti_flight.specs.Queued.{Queued, queued}
+use Rattle.std.proofs.lemmas.Bool.{cases_lt, cases_eq, both_ways}
+use Rattle.std.proofs.lemmas.List.{map_push, length_push, get_or_append_left, get_or_push, get_or-replicate, map-set, set-get_or, get_or-set_same, get_or-set_other, length-set}
+use Rattle.std.proofs.lemmas.List.Folds.{list_all_at}
+use Rattle.std.proofs.lemmas.List.FromFn.{get_or-range_with_len, length-range_with_len}
+use Rattle.std.proofs.lemmas.Option.{slice_get-get_or}
 use Rattle.anti_ids.specs.declared.limits.TheConstants.{MOST_UNITS}
 use Rattle.anti_ids.specs.declared.id.WriteId.{WriteId}
 use Rattle.anti_kind.specs.Kinds.{facts_of}
@@ -14,26 +17,27 @@ use Rattle.anti_kind.specs.declared.entry.Entry.{Entry}
 use Rattle.anti_kind.specs.declared.row.Row.{Row}
 use Rattle.anti_kind.specs.declared.store_kind.StoreKind.{StoreKind}
 use Rattle.anti_kind.specs.Stored.{rows, is_shipped, parts_of, is_whole, shows_of}
-use Rattle.anti_kind.specs.Shipments.{upto_of}
-use Rattle.anti_kind.specs.Store.{Store, absent, key_for, store_due, owed_shipments, outs}
+use Rattle.anti_kind.specs.Store.{Store, is_replica, has_part, absent, key_for, store_due, owed_shipments, outs}
 use Rattle.anti_kind.specs.Objects.{store, Follows, IsLegal, weight, held}
 use Rattle.anti_kind.proofs.Histories.{held_more, legal_more}
 use Rattle.anti_kind.proofs.Bounds.{held_within}
-use Rattle.anti_kind.proofs.Rows.{is_write, is_shipping, new_row, rows_write, rows_other, shipped_other, shipped_ship, version_at}
+use Rattle.anti_kind.proofs.Rows.{rows_held, is_write, is_shipping, new_row, rows_write, rows_other, shipped_other, shipped_ship, version_at}
 use Rattle.anti_kind.proofs.Shipped.{IsReadyShipment, ready_ship, ready_shipment}
 use Rattle.anti_kind.proofs.Units.{owed_write, owed_ship, owed_other, ship_owed}
 use Rattle.anti_replicas.specs.declared.replicas.Replicas.{Replicas}
 use Rattle.anti_replicas.specs.declared.kept_write.KeptWrite.{KeptWrite}
 use Rattle.anti_replicas.specs.declared.newest.Newest.{Newest}
+use Rattle.anti_replicas.specs.inner.Backlogs.{without, IsBehind, AreBehind, AreBelow}
 use Rattle.anti_replicas.specs.inner.Marks.{mark_at, came, has_all, marked}
 use Rattle.anti_replicas.specs.inner.Newest.{newest_at, HasPlace, MakesPlace}
-use Rattle.anti_replicas.specs.inner.Standing.{IsKept, AreKept, Stands, Keeps, BringsIf, Marks, Shippable}
+use Rattle.anti_replicas.specs.inner.Standing.{IsKept, AreKept, Stands, Keeps, BringsIf, Marks, Shippable, Writable, LeavesIf}
 use Rattle.anti_replicas.specs.Stores.{At, MayShip, MayWrite, IsOther, IsPassing}
-use Rattle.anti_replicas.proofs.Numbers.{prefix_alike, prefix_on}
+use Rattle.anti_replicas.proofs.Numbers.{all_numbers}
 use Rattle.anti_replicas.proofs.Places.{and_true, and_false, or_true, max_zero}
-use Rattle.anti_replicas.proofs.Reading.{row_is, count_is}
-use Rattle.anti_replicas.proofs.Bringing.{replica_below, whole_of, its_part, no_version, upto_within}
-use Rattle.anti_replicas.proofs.Shows.{shows_write, upto_write, shows_ship, shows_other, upto_other, whole_stays, elsewhere, of_another, another_part, upto_elsewhere}
+use Rattle.anti_replicas.proofs.Reading.{row_is, count_is, row_there}
+use Rattle.anti_replicas.proofs.Behind.{fresh_elsewhere, behind_kept, behind_same, behind_left}
+use Rattle.anti_replicas.proofs.Bringing.{part_of_some, replica_below, whole_of, its_part, no_version}
+use Rattle.anti_replicas.proofs.Shows.{shows_write, shows_ship, shows_other, elsewhere, of_another, another_part}
 
 -- What is kept of a write stays, where nothing of its version is shipped and no key loses its place.
 kept_later : (s : Store) (h k : List Entry) (old new : Newest) (v : ℕ) (x : KeptWrite) → ((g p : ℕ) → is_shipped k g v p ≡ is_shipped h g v p)
@@ -46,20 +50,6 @@ kept_later s h k old new v x same places kept = record {
   few = kept.few;
   place = places x.row.key kept.place;
 }
-
--- How far a region has everything, by the marks.
-module _ (s : Store) (h : List Entry) (newest : Newest) (ks : List KeptWrite) (legal : IsLegal (store s) h) (rows_are : map (λ (k : KeptWrite). k.row) ks ≡ rows h) (kept : AreKept s h newest ks) (g : ℕ) (low : g < 8) where
-  kept_whole : (i : ℕ) (d : KeptWrite) (e : Row) → i < length ks → has_all g (get_or ks i d) ≡ is_whole s.kind h g (get_or (rows h) i e)
-  kept_whole i d e short =
-      let row : (get_or ks i d).row ≡ get_or (rows h) i e = sym (get_or-map (λ (k : KeptWrite). k.row) ks i d e short) ∙ ap (λ (rs : List Row). get_or rs i e) rows_are in
-      let within : i < length (rows h) = omega (arith, length-map ks (λ (k : KeptWrite). k.row), ap (λ (rs : List Row). length rs) rows_are) in
-      whole_of s h newest (i + 1) (get_or ks i d) (kept i d short) (ap (λ (r : Row). r.version) row ∙ version_at s h legal i e within) g low
-      ∙ ap (is_whole s.kind h g) row
-
-  upto_by : prefix_len (has_all g) ks ≡ upto_of s.kind h g
-  upto_by =
-      prefix_alike (has_all g) (is_whole s.kind h g) ks (rows h) (sym (length-map ks (λ (k : KeptWrite). k.row)) ∙ ap (λ (rs : List Row). length rs) rows_are)
-      (λ i d e short. kept_whole i d e short)
 
 -- what an entry weighs, from the reply that it is due
 weighs_due : (s : Store) (h : List Entry) (e : Entry) (c : Call) → Follows (store s) h e → e.call ≡ c → weight (store_due s h c) ≡ 1 → held (h ++ e ∷ []) ≡ held h + 1
@@ -127,6 +117,13 @@ module _ (m n : Replicas) (s : Store) (h : List Entry) (e : Entry) (name key val
       ∙ ap (λ (kind : StoreKind). owed_shipments s h + length s.regions * parts_of kind value) at.state.kind_is
       ∙ sym (owed_write s h e name value lineage at.legal f is)
 
+  wrote_behind : AreBehind s.regions n.kept.items n.backlogs.items
+  wrote_behind =
+      subst (λ (regions : List ℕ). AreBehind regions n.kept.items n.backlogs.items) at.state.regions_are
+      (subst (λ (ks : List KeptWrite). AreBehind m.regions.items ks n.backlogs.items) (sym keeps.kept_is)
+      (behind_kept m.regions.items m.kept.items one_kept n.backlogs.items (λ g low among. fresh_elsewhere the_row (parts_of m.kind value) g keeps.some low)
+      keeps.behind keeps.have_next))
+
   pub stands_write : Stands n s (h ++ e ∷ [])
   stands_write = record {
     kind_is = keeps.kind_is ∙ at.state.kind_is;
@@ -135,8 +132,7 @@ module _ (m n : Replicas) (s : Store) (h : List Entry) (e : Entry) (name key val
     replicas_are = keeps.replicas_are ∙ at.state.replicas_are;
     rows_are = wrote_rows;
     kept_are = subst (AreKept s (h ++ e ∷ []) n.newest) (sym keeps.kept_is) wrote_kept;
-    marks = ap (λ (us : List ℕ). length us) keeps.upto_is ∙ at.state.marks;
-    upto_is = λ g low. ap (λ (us : List ℕ). get_or us g 0) keeps.upto_is ∙ at.state.upto_is g low ∙ sym (upto_write s h e at.legal f g name value lineage is);
+    behind = wrote_behind;
     shows = λ g k low. keeps.makes.same g k ∙ at.state.shows g k low ∙ sym (shows_write s h e at.legal f g name value lineage is k);
     held_is = omega (arith, keeps.held_is, at.state.held_is, weighs_due s h e (Write name value lineage) f is refl);
     owed_is = wrote_owed;
@@ -260,35 +256,82 @@ module _ (m n : Replicas) (s : Store) (h : List Entry) (e : Entry) (region versi
   kept_now : AreKept s (h ++ e ∷ []) n.newest n.kept.items
   kept_now = subst (AreKept s (h ++ e ∷ []) n.newest) (sym (marks.kept_is no_kept)) shipped_kept
 
-  -- how far the region has everything moves on
-  count_now : length n.kept.items ≡ length m.kept.items
-  count_now = ap (λ (ks : List KeptWrite). length ks) (marks.kept_is no_kept) ∙ length-set m.kept.items (version - 1) new_one
+  -- The region did not have the version yet, and other regions have of it what they had.
 
-  stay_whole : (i : ℕ) (d : KeptWrite) → i < upto_of s.kind h region → has_all region (get_or n.kept.items i d) ≡ true
-  stay_whole i d less =
-      let short : i < length n.kept.items = omega (arith, count_now, upto_within m s h at region) in
-      kept_whole s (h ++ e ∷ []) n.newest n.kept.items legal shipped_rows kept_now region low i d (absent []) short
-      ∙ ap (λ (rs : List Row). is_whole s.kind (h ++ e ∷ []) region (get_or rs i (absent []))) (rows_other h e (ap is_write is))
-      ∙ whole_stays s h e at.legal f region region version part is (get_or (rows h) i (absent [])) (prefix_len_passes (is_whole s.kind h region) (rows h) i (absent []) less)
+  was_short : has_all region (was no_kept) ≡ false
+  was_short =
+      let k : KeptWrite = was no_kept in
+      let row = part_of_some s.kind k.row part (ap (λ (o : Option Row). has_part s.kind o part) (sym (row_there m s h at version k there.0 (slice_get-get_or m.kept.items (version - 1) no_kept here))) ∙ ready_part.shipment.part) in
+      let last : part ≤ k.parts = omega (arith, row.1, was_kept.parts) in
+      let at_part : get_or (range_with_len 1 k.parts) (part - 1) 0 ≡ 1 + (part - 1) = get_or-range_with_len 1 k.parts (part - 1) 0 (omega (arith, last, there.2)) in
+      let it : 1 + (part - 1) ≡ part = omega (arith, there.2) in
+      list_all_at (came k region) (range_with_len 1 k.parts) (part - 1) 0 (omega (arith, last, there.2, length-range_with_len 1 k.parts))
+      (ap (came k region) (at_part ∙ it) ∙ was_kept.marks region part low there.2 there.3 ∙ ready_part.new)
 
-  moved_on : get_or m.upto region 0 + prefix_len (has_all region) (drop (get_or m.upto region 0) n.kept.items) ≡ upto_of s.kind (h ++ e ∷ []) region
-  moved_on =
-      ap (λ (u : ℕ). u + prefix_len (has_all region) (drop u n.kept.items)) (at.state.upto_is region low)
-      ∙ prefix_on (has_all region) (upto_of s.kind h region) n.kept.items (omega (arith, count_now, upto_within m s h at region)) stay_whole
-      ∙ upto_by s (h ++ e ∷ []) n.newest n.kept.items legal shipped_rows kept_now region low
+  alike : (g : ℕ) → (region ≡ g → ⊥) → has_all g new_one ≡ has_all g (was no_kept)
+  alike g other =
+      let k : KeptWrite = was no_kept in
+      all_numbers (came new_one g) (came k g) k.parts (λ p first last.
+      get_or-set_other k.marks (mark_at region part) (mark_at g p) true false
+      (λ same. other (sym (marks_apart g p region part first (omega (arith, last, was_kept.few)) there.2 there.3 same).0)))
 
-  shipped_upto : (g : ℕ) → g < 8 → get_or n.upto g 0 ≡ upto_of s.kind (h ++ e ∷ []) g
-  shipped_upto g low' =
-      let next : ℕ = get_or m.upto region 0 + prefix_len (has_all region) (drop (get_or m.upto region 0) n.kept.items) in
-      ap (λ (us : List ℕ). get_or us g 0) marks.upto_is
-      ∙ ⊎_elim (λ (same : g ≡ region).
-      ap (λ (x : ℕ). get_or (set m.upto region next) x 0) same
-      ∙ get_or-set_same m.upto region next 0 (omega (arith, low, at.state.marks))
-      ∙ moved_on ∙ ap (upto_of s.kind (h ++ e ∷ [])) (sym same))
-      (λ (other : g ≢ region).
-      get_or-set_other m.upto region g next 0 other ∙ at.state.upto_is g low'
-      ∙ sym (upto_elsewhere s h e at.legal f g region version part is (λ eq. other (sym eq))))
-      (cases_eq g region)
+  abbrev backlog : Queued ℕ → Queued ℕ
+  backlog d = get_or m.backlogs.items region d
+
+  was_behind : (d : Queued ℕ) → IsBehind region m.kept.items (backlog d)
+  was_behind d = at.state.behind.behind region d low ready_part.shipment.replica
+
+  region_within : region < length m.backlogs.items
+  region_within = omega (arith, low, at.state.behind.count)
+
+  -- the backlog of the region, by whether it has the version now
+  left_by : (b : Bool) → full ≡ b → LeavesIf b m n region version → (d : Queued ℕ)
+      → (get_or n.backlogs.items region d ≡ cond b (without version (backlog d)) (backlog d)) × IsBehind region (set m.kept.items (version - 1) new_one) (cond b (without version (backlog d)) (backlog d))
+  left_by true on leaves d =
+      let one : version - 1 + 1 ≡ version = omega (arith, there.0) in (
+        ap (λ (bs : List (Queued ℕ)). get_or bs region d) (leaves d) ∙ get_or-set_same m.backlogs.items region (without version (backlog d)) d region_within,
+        subst (λ (v : ℕ). IsBehind region (set m.kept.items (version - 1) new_one) (without v (backlog d))) one
+            (behind_left region (version - 1) m.kept.items new_one no_kept here (backlog d) (was_behind d) on was_short),
+      )
+  left_by false off leaves d = (
+    ap (λ (bs : List (Queued ℕ)). get_or bs region d) leaves,
+    behind_same region (version - 1) m.kept.items new_one no_kept here (backlog d) (was_behind d) (off ∙ sym was_short),
+  )
+
+  others_by : (b : Bool) → LeavesIf b m n region version → (g : ℕ) (d : Queued ℕ) → (region ≡ g → ⊥) → get_or n.backlogs.items g d ≡ get_or m.backlogs.items g d
+  others_by true leaves g d other =
+      ap (λ (bs : List (Queued ℕ)). get_or bs g d) (leaves d) ∙ get_or-set_other m.backlogs.items region g (without version (backlog d)) d (λ same. other (sym same))
+  others_by false leaves g d other = ap (λ (bs : List (Queued ℕ)). get_or bs g d) leaves
+
+  count_by : (b : Bool) → LeavesIf b m n region version → length n.backlogs.items ≡ length m.backlogs.items
+  count_by true leaves =
+      let d : Queued ℕ = queued [] 0 in
+      ap (λ (bs : List (Queued ℕ)). length bs) (leaves d) ∙ length-set m.backlogs.items region (without version (backlog d))
+  count_by false leaves = ap (λ (bs : List (Queued ℕ)). length bs) leaves
+
+  leaves : LeavesIf full m n region version
+  leaves = marks.leaves no_kept
+
+  -- the backlogs of the regions now
+  behind_now : (g : ℕ) (d : Queued ℕ) → g < 8 → is_replica s g ≡ true → IsBehind g (set m.kept.items (version - 1) new_one) (get_or n.backlogs.items g d)
+  behind_now g d low' replica =
+      ⊎_elim (λ (same : region ≡ g).
+      let at_region = left_by full refl leaves d in
+      subst (λ (x : ℕ). IsBehind x (set m.kept.items (version - 1) new_one) (get_or n.backlogs.items x d)) same
+      (subst (IsBehind region (set m.kept.items (version - 1) new_one)) (sym at_region.0) at_region.1))
+      (λ (other : region ≡ g → ⊥).
+      subst (IsBehind g (set m.kept.items (version - 1) new_one)) (sym (others_by full leaves g d other))
+      (behind_same g (version - 1) m.kept.items new_one no_kept here (get_or m.backlogs.items g d) (at.state.behind.behind g d low' replica) (alike g other)))
+      (cases_eq region g)
+
+  shipped_behind : AreBehind s.regions n.kept.items n.backlogs.items
+  shipped_behind = subst (λ (ks : List KeptWrite). AreBehind s.regions ks n.backlogs.items) (sym (marks.kept_is no_kept)) (record {
+    count = count_by full leaves ∙ at.state.behind.count;
+    behind = behind_now;
+    none = λ g d below off.
+        let other : region ≡ g → ⊥ = λ same. both_ways (is_replica s g) off (ap (is_replica s) (sym same) ∙ ready_part.shipment.replica) in
+        others_by full leaves g d other ∙ at.state.behind.none g d below off;
+  })
 
   -- the version now stands beside its key, if it is whole
   shipped_shows : (g : ℕ) (k : List ℕ) → g < 8 → newest_at n.newest g k ≡ shows_of s.kind (h ++ e ∷ []) g k
@@ -312,8 +355,7 @@ module _ (m n : Replicas) (s : Store) (h : List Entry) (e : Entry) (region versi
     replicas_are = marks.replicas_are ∙ at.state.replicas_are;
     rows_are = shipped_rows;
     kept_are = kept_now;
-    marks = ap (λ (us : List ℕ). length us) marks.upto_is ∙ length-set m.upto region _ ∙ at.state.marks;
-    upto_is = shipped_upto;
+    behind = shipped_behind;
     shows = shipped_shows;
     held_is = omega (arith, marks.held_is, at.state.held_is, weighs_due s h e (Ship region version part) f is refl);
     owed_is =
@@ -348,8 +390,7 @@ module _ (m n : Replicas) (s : Store) (h : List Entry) (e : Entry) (units : ℕ)
     rows_are = at.state.rows_are ∙ sym (rows_other h e writes);
     kept_are = λ i d short.
         kept_later s h (h ++ e ∷ []) m.newest m.newest (i + 1) (get_or m.kept.items i d) (λ g p. shipped_other h e g (i + 1) p ships) (λ k has. has) (at.state.kept_are i d short);
-    marks = at.state.marks;
-    upto_is = λ g low. at.state.upto_is g low ∙ sym (upto_other s h e at.legal f g writes ships);
+    behind = at.state.behind;
     shows = λ g k low. at.state.shows g k low ∙ sym (shows_other s h e at.legal f g writes ships k);
     held_is =
         let within : held (h ++ e ∷ []) ≤ MOST_UNITS = held_within (store s) (h ++ e ∷ []) at.sane (legal_more (store s) h e at.legal f) in
@@ -357,11 +398,11 @@ module _ (m n : Replicas) (s : Store) (h : List Entry) (e : Entry) (units : ℕ)
     owed_is = at.state.owed_is ∙ sym (owed_other s h e writes ships);
   })
 
--- A write that found no memory: the key may have got its place.
+-- A write that found no memory: the key may have got its place, and some backlogs the next version.
 
 pub stands_with_place : (m n : Replicas) (s : Store) (h : List Entry) → Stands m s h → MakesPlace m.newest n.newest → n.kept.items ≡ m.kept.items
-    → n ≡ record m { newest = n.newest; kept = n.kept } → Stands n s h
-stands_with_place m n s h state makes kept is = subst (λ (x : Replicas). Stands x s h) (sym is) (record {
+    → AreBehind m.regions.items m.kept.items n.backlogs.items → n ≡ record m { newest = n.newest; kept = n.kept; backlogs = n.backlogs } → Stands n s h
+stands_with_place m n s h state makes kept behind is = subst (λ (x : Replicas). Stands x s h) (sym is) (record {
   kind_is = state.kind_is;
   number_is = state.number_is;
   regions_are = state.regions_are;
@@ -369,8 +410,9 @@ stands_with_place m n s h state makes kept is = subst (λ (x : Replicas). Stands
   rows_are = ap (map (λ (k : KeptWrite). k.row)) kept ∙ state.rows_are;
   kept_are = subst (AreKept s h n.newest) (sym kept) (λ i d short.
       kept_later s h h m.newest n.newest (i + 1) (get_or m.kept.items i d) (λ g p. refl) makes.places (state.kept_are i d short));
-  marks = state.marks;
-  upto_is = state.upto_is;
+  behind =
+      subst (λ (ks : List KeptWrite). AreBehind s.regions ks n.backlogs.items) (sym kept)
+      (subst (λ (regions : List ℕ). AreBehind regions m.kept.items n.backlogs.items) state.regions_are behind);
   shows = λ g k low. makes.same g k ∙ state.shows g k low;
   held_is = state.held_is;
   owed_is = state.owed_is;
@@ -393,15 +435,14 @@ shippable m g v p may =
       first = there.0;
       kept = there.1;
       part = there.3;
-      marks = at.state.marks;
-      upto = omega (arith, at.state.upto_is g low, upto_within m s h at g);
+      backlogs = at.state.behind.count;
       size = λ d. (at.state.kept_are (v - 1) d (omega (arith, there.0, there.1))).size;
       place = λ d. (at.state.kept_are (v - 1) d (omega (arith, there.0, there.1))).place;
       owed = omega (arith, at.state.owed_is);
       held = omega (arith, at.state.held_is);
     }
 
-pub writable : (m : Replicas) (value : List ℕ) (lineage : List WriteId) → MayWrite m value lineage → m.held + m.owed + m.replicas * parts_of m.kind value < MOST_UNITS
+pub writable : (m : Replicas) (value : List ℕ) (lineage : List WriteId) → MayWrite m value lineage → Writable m (parts_of m.kind value)
 writable m value lineage may =
     let s : Store = may.0 in
     let h : List Entry = may.2.history in
@@ -409,7 +450,12 @@ writable m value lineage may =
     let units : held h + (owed_shipments s h + cond (facts_of s.kind).tried (outs h) 0) + (1 + length s.regions * parts_of s.kind value) ≤ MOST_UNITS = leb-true _ _ may.2.fits in
     let same : m.replicas * parts_of m.kind value ≡ length s.regions * parts_of s.kind value =
     ap (λ (x : ℕ). x * parts_of m.kind value) at.state.replicas_are ∙ ap (λ (kind : StoreKind). length s.regions * parts_of kind value) at.state.kind_is in
-    omega (arith, at.state.held_is, at.state.owed_is)
+    record {
+      units = omega (arith, at.state.held_is, at.state.owed_is);
+      regions = subst AreBelow (sym at.state.regions_are) at.sane.below;
+      behind = subst (λ (regions : List ℕ). AreBehind regions m.kept.items m.backlogs.items) (sym at.state.regions_are) at.state.behind;
+      few = omega (arith, count_is m s h at.state, rows_held h);
+    }
 
 -- A call that writes nothing and is no shipment.
 pub passing_other : (c : Call) → IsPassing c → ((g v p : ℕ) → c ≡ Ship g v p → ⊥) → IsOther c

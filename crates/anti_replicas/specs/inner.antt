@@ -1,3 +1,4 @@
+pub mod Backlogs
 pub mod Marks
 pub mod Newest
 pub mod Scans

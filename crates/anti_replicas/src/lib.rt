@@ -3,6 +3,7 @@
 //! and topics share besides: how many writes each channel has, and the keys of its cells.
 #![tactic(auto)]
 
+mod backlog;
 mod cells;
 mod channels;
 mod kept_write;

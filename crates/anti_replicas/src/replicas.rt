@@ -1,7 +1,9 @@
-ghost use Rattle.std.specs.Prelude.{◌≡◌, ◌≤◌, List, [], length, IfOk};
+ghost use Rattle.std.specs.Prelude.{◌≡◌, ◌≤◌, List, [], length, replicate, IfOk};
+ghost use Rattle.anti_flight.specs.Queued.{queued};
 ghost use Rattle.anti_kind.specs.declared.entry.Entry.{Entry};
 ghost use Rattle.anti_kind.specs.Store.{Store, is_replica};
 
+use crate::backlog::Backlog;
 use crate::kept_write::KeptWrite;
 use crate::newest::Newest;
 use anti_ids::{MOST_REGIONS, NoMemory};
@@ -17,12 +19,25 @@ pub struct Replicas {
     pub(crate) regions: Vec<u32>,
     // the write of version v at the index v - 1
     pub(crate) kept: Vec<KeptWrite>,
-    // for each region how many versions, from the first on, are whole there
-    pub(crate) upto: [u64; MOST_REGIONS],
+    // for each region the versions that are not whole there
+    pub(crate) backlogs: Vec<Backlog>,
     pub(crate) newest: Newest,
     pub(crate) held: u32,
     pub(crate) owed: u32,
     pub(crate) alloc: Global,
+}
+
+// The backlogs of all regions, with no versions.
+fn no_backlogs(alloc: Global) -> Result<Vec<Backlog>, NoMemory>
+    ensures { IfOk result (λ backlogs. backlogs.items ≡ replicate MOST_REGIONS (queued [] 0)) }
+{
+    let mut backlogs = Vec::new(alloc);
+    for _ in 0..MOST_REGIONS {
+        if backlogs.push(Backlog::new(alloc)).is_err() {
+            return Err(NoMemory);
+        }
+    }
+    Ok(backlogs)
 }
 
 impl Replicas {
@@ -43,6 +58,7 @@ impl Replicas {
         ensures regions { IfOk result (λ m. regions_of m ≡ regions.now) }
         ensures stands { (s : Store) → IsOf s kind store regions.now → IfOk result (λ m. Stands m s []) }
     {
+        let backlogs = no_backlogs(alloc)?;
         match Vec::from_slice(alloc, regions) {
             Ok(regions) => Ok(Replicas {
                 store,
@@ -50,7 +66,7 @@ impl Replicas {
                 replicas: regions.len() as u8,
                 regions,
                 kept: Vec::new(alloc),
-                upto: [0; MOST_REGIONS],
+                backlogs,
                 newest: Newest::new(alloc),
                 held: 0,
                 owed: 0,

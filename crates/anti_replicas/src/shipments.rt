@@ -1,5 +1,4 @@
 ghost use Rattle.std.specs.Prelude.{◌≡◌, ◌+◌, ◌<◌, ◌≤◌, not, ◌||◌, List, [], ◌∷◌, ◌++◌, drop, length};
-ghost use Rattle.std.specs.List.{prefix_len};
 ghost use Rattle.anti_kind.specs.Kinds.{facts_of};
 ghost use Rattle.anti_kind.specs.declared.call.Call.TheVariants.{Ship};
 ghost use Rattle.anti_kind.specs.declared.entry.Entry.{Entry};
@@ -7,18 +6,10 @@ ghost use Rattle.anti_kind.specs.Stored.{rows, row_of, is_shipped};
 ghost use Rattle.anti_kind.specs.Shipments.{upto_of, next_shipment};
 ghost use Rattle.anti_kind.specs.Store.{Store, has_part, is_next, can_ship};
 ghost use Rattle.anti_kind.specs.Objects.{store, Follows};
-ghost use Rattle.anti_replicas.specs.inner.Marks.{has_all};
 
-use crate::kept_write::{KeptWrite, MOST_PARTS};
+use crate::kept_write::MOST_PARTS;
 use crate::replicas::Replicas;
 use anti_ids::MOST_REGIONS;
-
-// How many of these writes, from the first on, are whole at the region.
-fn whole_from(kept: &[KeptWrite], region: u32) -> u64
-    ensures { result ≡ prefix_len (has_all region) kept.now }
-{
-    kept.iter().take_while(|kept| kept.is_whole(region)).count() as u64
-}
 
 impl Replicas {
     ghost use Rattle.anti_replicas.specs.inner.Standing.{Stands, Shippable, Marks};
@@ -92,25 +83,22 @@ impl Replicas {
         ensures { (s : Store) (h : List Entry) → At self.now s h
             → result ≡ upto_of s.kind h region }
     {
-        match self.upto.get(region as usize) {
-            Some(upto) => *upto,
+        match self.backlogs.as_slice().get(region as usize) {
+            Some(backlog) => backlog.passed(),
             None => 0,
         }
     }
 
-    /// The next shipment to the region, its version and its part: the first part that is missing of the first version that is not
-    /// whole there.
+    /// The next shipment to the region, its version and its part: the first part that is missing of the first version in the region's
+    /// backlog.
     pub fn next_ship(&self, region: u32) -> Option<(u64, u32)>
         ensures { (s : Store) (h : List Entry) → At self.now s h
             → result ≡ next_shipment s h region }
     {
-        if !self.is_replica(region) {
-            return None;
-        }
-        let upto = self.upto(region);
-        let kept = self.kept.as_slice().get(upto as usize)?;
-        let part = kept.first_missing(region)?;
-        Some((kept.row.version, part))
+        let backlog = self.backlogs.as_slice().get(region as usize)?;
+        let version = backlog.first()?;
+        let part = self.kept_at(version)?.first_missing(region)?;
+        Some((version, part))
     }
 
     /// Brings the part of the version to the region. It takes no memory.
@@ -126,8 +114,8 @@ impl Replicas {
         self.mark(region, version, part);
     }
 
-    // Marks the part at the region, which shows the version once it is whole there, unless it shows a later one. Its shipment is
-    // owed no more.
+    // Marks the part at the region. Once the version is whole there it leaves the backlog, and the region shows it, unless it shows a
+    // later one. Its shipment is owed no more.
     fn mark(&mut self, region: u32, version: u64, part: u32)
         requires { Shippable self.old region version part }
         ensures { Marks self.old self.new region version part }
@@ -136,10 +124,8 @@ impl Replicas {
         kept.mark(region, part);
         if kept.is_whole(region) {
             self.newest.bring(region, &kept.row.key, version);
+            self.backlogs[region as usize].remove(version);
         }
-        let upto = self.upto[region as usize];
-        let further = whole_from(self.kept.as_slice().split_at(upto as usize).1, region);
-        self.upto[region as usize] = upto + further;
         self.held += 1;
         self.owed -= 1;
     }

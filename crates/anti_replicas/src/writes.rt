@@ -14,7 +14,8 @@ use anti_kind::Row;
 
 impl Replicas {
     ghost use Rattle.anti_replicas.specs.declared.kept_write.KeptWrite.{KeptWrite};
-    ghost use Rattle.anti_replicas.specs.inner.Standing.{Stands, Keeps};
+    ghost use Rattle.anti_replicas.specs.inner.Backlogs.{AreBelow, AreBehind, HaveNext};
+    ghost use Rattle.anti_replicas.specs.inner.Standing.{Stands, Keeps, Writable};
     ghost use Rattle.anti_replicas.specs.Stores.{At, MayWrite, kind_of, number_of, regions_of};
 
     /// The version of the next write.
@@ -75,9 +76,29 @@ impl Replicas {
         self.keep(key, value, lineage)
     }
 
+    // Puts the next version into the backlog of each replica. Where a write found no memory some have it already, and keep it.
+    fn await_next(&mut self) -> Result<(), NoMemory>
+        requires regions { AreBelow self.old.regions.items }
+        requires behind { AreBehind self.old.regions.items self.old.kept.items self.old.backlogs.items }
+        requires few { length self.old.kept.items ≤ MOST_UNITS }
+        ensures only { self.new ≡ record self.old { backlogs = self.new.backlogs } }
+        ensures behind { AreBehind self.old.regions.items self.old.kept.items self.new.backlogs.items }
+        ensures ok { OnOk result (HaveNext self.old.regions.items self.old.kept.items self.new.backlogs.items) }
+    {
+        let kept = self.kept.len() as u64;
+        for at in 0..self.regions.len() {
+            let region = self.regions[at];
+            let backlog = &mut self.backlogs[region as usize];
+            if backlog.last_put() == kept {
+                backlog.push()?;
+            }
+        }
+        Ok(())
+    }
+
     // Keeps one more write.
     fn keep(&mut self, key: Name, value: &Value, lineage: &Lineage) -> Result<(), NoMemory>
-        requires { self.old.held + self.old.owed + self.old.replicas * parts_of self.old.kind value.now < MOST_UNITS }
+        requires { Writable self.old (parts_of self.old.kind value.now) }
         ensures ok { OnOk result (Keeps self.old self.new
             (record { key = key; version = length self.old.kept.items + 1; value = value.now; lineage = lineage.now })) }
         ensures err { (s : Store) (h : List Entry) → Stands self.old s h → OnErr result (Stands self.new s h) }
@@ -93,6 +114,7 @@ impl Replicas {
             lineage: lineage.copy(self.alloc)?,
         };
         self.newest.make_place(key)?;
+        self.await_next()?;
         let kept = KeptWrite {
             row,
             marks: [false; MARKS],

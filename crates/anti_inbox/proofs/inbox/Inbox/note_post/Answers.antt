@@ -3,7 +3,7 @@ use Rattle.anti_kind.specs.declared.message.Message.{Message}
 use Rattle.anti_inbox.specs.inner.Fates.{answered, untouched}
 use Rattle.anti_inbox.specs.inner.Inboxes.{Turns}
 use Rattle.anti_inbox.proofs.Outcomes.{on_ok, on_err, both_ways}
-use Rattle.anti_inbox.proofs.Reading.{answering_within, its_few}
+use Rattle.anti_inbox.proofs.Reading.{answering_within, its_few, few_came}
 use Rattle.anti_inbox.proofs.Noting.{keeps, keeps_more, knows_same, knows_answered, knows_posted}
 use Rattle.anti_inbox.proofs.inbox.Inbox.note_post.Goals as goal
 
@@ -12,7 +12,9 @@ answer-requires-clause-within c =
     (answering_within c.args.self.now c.requires.may.history c.args.message.now c.requires.may.stands_for c.requires.may.is_ready c.in-Reply.is).1
 
 pub post-requires : goal.post-requires
-post-requires c = omega (arith, its_few c.args.self.now c.requires.may.history c.requires.may.stands_for)
+post-requires c =
+    let m = c.args.self.now in let h = c.requires.may.history in let at = c.requires.may.stands_for in
+    omega (arith, its_few m h at, few_came m h at)
 
 pub returns-in-Reply-clause-ok : goal.returns-in-Reply-clause-ok
 returns-in-Reply-clause-ok c = λ h e at f is.

@@ -1,7 +1,10 @@
 use Rattle.std.proofs.lemmas.Grind.{common_steps}
 use Rattle.std.proofs.Common.{ap, length, arith}
-use Rattle.anti_inbox.proofs.Reading.{reposting_within}
+use Rattle.anti_inbox.proofs.Reading.{reposting_within, few_came}
 use Rattle.anti_inbox.proofs.inbox.Inbox.repost.Goals as goal
+
+pub deliver-requires : goal.deliver-requires
+deliver-requires c = omega (arith, few_came c.args.self.now c.requires.history c.requires.stands_for)
 
 pub index_mut-requires : goal.index_mut-requires
 index_mut-requires c =

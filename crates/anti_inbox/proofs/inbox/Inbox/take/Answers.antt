@@ -1,10 +1,10 @@
-use Rattle.std.proofs.Common.{◌≡◌, ◌==◌, ◌-◌, ◌∙◌, ◌<◌, ◌≤◌, ℕ, List, false, not, ap, sym, refl, get_or, length, set, subst, rules, eq-eqb, arith}
+use Rattle.std.proofs.Common.{◌≡◌, ◌==◌, ◌-◌, ◌∙◌, ◌<◌, ◌≤◌, ℕ, List, false, not, ap, sym, refl, get_or, length, set, subst, eq-eqb, arith}
 use Rattle.std.specs.List.{filter}
-use Rattle.std.proofs.lemmas.Fn.{filter_same}
 use Rattle.std.proofs.lemmas.List.{get_or_default}
 use Rattle.anti_inbox.specs.declared.inbox.Fate.{Fate}
 use Rattle.anti_inbox.specs.inner.Fates.{is_reposted, taken}
 use Rattle.anti_inbox.specs.inner.Inboxes.{requests_of}
+use Rattle.anti_flight.specs.Queued.{Queued}
 use Rattle.anti_inbox.proofs.Lists.{filter-remove, remove_once}
 use Rattle.anti_inbox.proofs.Delivered.{free_once}
 use Rattle.anti_inbox.proofs.Reading.{IsHanding, taking_within, handing, count_fates, fate_at}
@@ -59,10 +59,11 @@ returns-then-fate c = λ d.
       messages_are = refl;
       fates_are = fates_are at c.index_mut-fate.result.now d c.index_mut-fate.ensures.value;
       free_are =
-          filter_same _ _ _ (λ x b f' k. search rules) _ _ c.retain.ensures.filtered
-          ∙ ap (filter (λ k. not (k == n))) c.remove-number.ensures.items
+          ap (λ (w : Queued ℕ). w.items) c.remove_all.ensures
+          ∙ ap (λ (w : Queued ℕ). filter (λ k. not (k == n)) w.items) c.remove-number.ensures.left
           ∙ filter-remove (λ k. not (k == n)) free (c.args.nth - 1) 0 (omega (arith, there at)) (off at)
           ∙ ap (λ (j : ℕ). filter (λ k. not (k == j)) free) (sym (number at 0));
+      came_within = omega (arith, ap (λ (w : Queued ℕ). w.next) c.remove_all.ensures, ap (λ (w : Queued ℕ). w.next) c.remove-number.ensures.left);
       held_is = refl;
       owed_is = refl;
     }
@@ -86,9 +87,10 @@ returns-else-fate c = λ d.
       messages_are = refl;
       fates_are = fates_are at c.index_mut-fate.result.now d fate;
       free_are =
-          c.remove-number.ensures.items
+          ap (λ (w : Queued ℕ). w.items) c.remove-number.ensures.left
           ∙ remove_once m.free.items (c.args.nth - 1) n 0 (omega (arith, there at)) (number at 0) once
           ∙ ap (λ (j : ℕ). filter (λ k. not (k == j)) m.free.items) (sym (number at 0));
+      came_within = omega (arith, ap (λ (w : Queued ℕ). w.next) c.remove-number.ensures.left);
       held_is = refl;
       owed_is = refl;
     }
