@@ -6,6 +6,7 @@ use Rattle.anti_kind.specs.declared.entry.Entry.{Entry}
 use Rattle.anti_kind.specs.declared.port.Answer.{Answer}
 use Rattle.anti_kind.specs.declared.port.Answer.TheVariants.{Made, NotYet, Full, Spent, NoMemory}
 use Rattle.anti_kind.specs.Objects.{Start, ready, IsLegal}
+use Rattle.anti_kind.specs.Shipments.{upto}
 use Rattle.anti_kind.specs.Ports.{View, IsRefused, Answers, Answered}
 use Rattle.anti_kind.specs.Entries.{entry_of}
 use Rattle.anti_kind.specs.Records.{Gives, Goes}
@@ -14,6 +15,7 @@ use Rattle.anti_turn.proofs.Fronts.{entries_of_others}
 use Rattle.anti_shared.specs.Passes.{GoesFrom, seat_of, calls_of}
 use Rattle.anti_shared.specs.inner.Seating.{ended_in}
 use Rattle.anti_shared.specs.inner.Offers.{answer_of}
+use Rattle.anti_shared.specs.inner.Reaching.{upto_rises}
 use Rattle.anti_shared.proofs.Numbered.{times_first, times_later, ended_same, calls_more}
 
 -- what a pass of the number n has seen and made
@@ -41,6 +43,12 @@ module _ (start : Start) (q : Asking) (n : ℕ) (found left : List Entry) where
   pub adds : (r : Result Answer Asking) → IsOffered r → Adds seat_of n found left
   adds (Ok a) offered = adds_given a offered.0
   adds (Err back) offered = adds_none offered.1
+
+  -- what the history had reached it has reached still
+  pub reached_still : (r : Result Answer Asking) → IsOffered r → (region most : ℕ) → most ≤ upto start found region → most ≤ upto start left region
+  reached_still r offered region most there =
+      let more = adds r offered in
+      subst (λ (h : List Entry). most ≤ upto start h region) (sym more.whole) (let rises = upto_rises start region found more.more in omega arith)
 
   wants : (a : Answer) → Gives start found n q left a → a ≡ NoMemory → Goes start left q
   wants (Made place stamp reply) gives is = absurd (cc)

@@ -1,5 +1,6 @@
 mod Numbered
 mod Seated
+mod Regions
 mod Answering
 mod Waiting
 pub mod Crossing

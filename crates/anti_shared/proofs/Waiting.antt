@@ -16,7 +16,7 @@ use Rattle.anti_shared.specs.Passes.{Identity, PassView, start_of, view_of, afte
 -- it has seen more, and made no call
 pub record Waits {M : Type 0} (old now : PassView M) : Type 0 where
   pub front : IsFront old.seen now.seen
-  pub now_is : now ≡ after_calls old now.seen old.mine now.visits
+  pub now_is : now ≡ after_calls old now.seen old.mine now.raised now.visits
   pub visits : old.visits ≤ now.visits
 
 -- the same of what a port over it has seen and made
@@ -81,14 +81,14 @@ module _ {M : Type 0} (start : M → Start) where
   waits_first pass = record { front = front_self pass.seen; now_is = refl; visits = omega arith }
 
   pub waits_on : (q : Asking) (old now new : PassView M) → Waits old now → Answered (start_of start now.id) q (view_of now) (view_of new) NotYet
-      → new ≡ after_call now new.seen new.mine → Waits old new
+      → new ≡ after_call now new.seen new.mine new.raised → Waits old new
   waits_on q old now new w answered is =
       let s = still_front (start_of start now.id) q (view_of now) (view_of new) answered in
       let mine : new.mine ≡ old.mine = s.1 ∙ ap (λ (p : PassView M). p.mine) w.now_is in
       let visits : new.visits ≡ now.visits + 1 = ap (λ (p : PassView M). p.visits) is in
       record {
         front = front_trans old.seen now.seen new.seen w.front s.0;
-        now_is = is ∙ ap (λ (p : PassView M). after_call p new.seen new.mine) w.now_is ∙ (λ i. after_calls old new.seen (mine i) (sym visits i));
+        now_is = is ∙ ap (λ (p : PassView M). after_call p new.seen new.mine new.raised) w.now_is ∙ (λ i. after_calls old new.seen (mine i) new.raised (sym visits i));
         visits = omega (arith, w.visits);
       }
 
@@ -99,10 +99,10 @@ module _ {M : Type 0} (start : M → Start) where
       (answered_since (start_of start now.id) q (view_of old) (view_of now) (view_of new) a (since old now w) waits answered)
 
 module _ {M : Type 0} where
-  pub since_pass : (old now new : PassView M) → Waits old now → new ≡ after_call now new.seen new.mine → new ≡ after_calls old new.seen new.mine new.visits
+  pub since_pass : (old now new : PassView M) → Waits old now → new ≡ after_call now new.seen new.mine new.raised → new ≡ after_calls old new.seen new.mine new.raised new.visits
   since_pass old now new w is =
       let visits : new.visits ≡ now.visits + 1 = ap (λ (p : PassView M). p.visits) is in
-      is ∙ (λ i. after_calls (w.now_is i) new.seen new.mine (sym visits i))
+      is ∙ (λ i. after_calls (w.now_is i) new.seen new.mine new.raised (sym visits i))
 
   pub since_own : (old now new : PassView M) → Waits old now → All (λ e. e.seat ≡ now.number) new.mine → All (λ e. e.seat ≡ old.number) new.mine
   since_own old now new w own = subst (λ (n : ℕ). All (λ e. e.seat ≡ n) new.mine) (ap (λ (p : PassView M). p.number) w.now_is) own

@@ -3,9 +3,10 @@ use Rattle.std.specs.Prelude.{◌≡◌, ℕ, ◌+◌, ◌-◌, ◌/◌, ◌<◌
 use Rattle.anti_kind.specs.declared.asking.Asking.{Asking}
 use Rattle.anti_kind.specs.declared.entry.Entry.{Entry}
 use Rattle.anti_kind.specs.Objects.{Start, IsLegal}
+use Rattle.anti_kind.specs.Shipments.{upto}
 use Rattle.anti_kind.specs.Ports.{View}
 use Rattle.anti_kind.specs.Records.{Goes}
-use Rattle.anti_turn.specs.Lists.{times, longer_of, entries_of, IsFront}
+use Rattle.anti_turn.specs.Lists.{times, top, longer_of, entries_of, IsFront}
 use Rattle.anti_turn.specs.Places.{TableId}
 
 -- Which shared object it is: the turn round it, its number, and the state that it began with. There always is one.
@@ -38,6 +39,11 @@ pub record PassView (M : Type 0) : Type 0 where
   -- how often it asked how many passes are out, and the last answer
   pub asked : ℕ
   pub out : ℕ
+  -- to what it raised the marks of regions, and what it loaded of them: each region, and the number beside it
+  pub raised : List (ℕ × ℕ)
+  pub loaded : List (ℕ × ℕ)
+  -- the regions whose marks it loaded, each as often as it did
+  pub loads : List ℕ
 
 -- What is left of a shared object at its end: its number, the state that it began with, the state, and the calls that were made.
 pub record KeptView (M : Type 0) : Type 0 where
@@ -67,6 +73,11 @@ abbrev pub GoesFrom : Option Start → List Entry → Asking → Type 0
 GoesFrom None h q = ⊥
 GoesFrom (Some start) h q = Goes start h q
 
+-- how many versions, from the first on, are whole at a region, from the start that there is
+abbrev pub upto_from : Option Start → List Entry → ℕ → ℕ
+upto_from None h region = 0
+upto_from (Some start) h region = upto start h region
+
 -- what the object started as
 abbrev pub start_of : {M : Type 0} → (M → Start) → Identity M → Option Start
 start_of start id = option_map start id.first
@@ -86,16 +97,21 @@ port_start start pass o = cond (o == pass.id.object) (start_of start pass.id) No
 abbrev pub port_view : {M : Type 0} → PassView M → ℕ → View
 port_view pass o = cond (o == pass.id.object) (view_of pass) (record { seen = []; made = []; visits = 0 })
 
+-- The history has got as far as each mark that the pass loaded: of the versions up to that number all are whole at the mark's region.
+abbrev pub HasLoaded : {M : Type 0} → (M → Start) → PassView M → List Entry → Type 0
+HasLoaded start pass h = (region : ℕ) → top region pass.loaded ≤ upto_from (start_of start pass.id) h region
+
 -- What is true of every pass: it has seen a legal history of the object. Its own entries, and those of the passes that were joined into it,
--- are all that the history has of their numbers, which differ.
+-- are all that the history has of their numbers, which differ. It has raised each mark as far as what it has seen has got.
 pub record IsPass {M : Type 0} (start : M → Start) (pass : PassView M) : Type 0 where
   pub legal : LegalFrom (start_of start pass.id) pass.seen
   pub positive : 0 < pass.number
   pub mine_is : pass.mine ≡ calls_of pass.number pass.seen
   pub ended_are : All (λ pair. pair.1 ≡ calls_of pair.0 pass.seen) pass.ended
   pub distinct : (n : ℕ) → times n (numbers_of pass) ≤ 1
+  pub told : (region : ℕ) → region < 8 → upto_from (start_of start pass.id) pass.seen region ≤ top region pass.raised
 
--- a pass that has made no call
+-- a pass that has done nothing
 abbrev pub fresh_pass : {M : Type 0} → Identity M → ℕ → ℕ → List Entry → PassView M
 fresh_pass id number room seen = record {
   id = id;
@@ -108,7 +124,14 @@ fresh_pass id number room seen = record {
   visits = 0;
   asked = 0;
   out = 0;
+  raised = [];
+  loaded = [];
+  loads = [];
 }
+
+-- a pass that is made from another, with what that one has seen, raised and loaded
+abbrev pub made_pass : {M : Type 0} → PassView M → ℕ → ℕ → PassView M
+made_pass old number room = record (fresh_pass old.id number room old.seen) { raised = old.raised; loaded = old.loaded }
 
 -- the first pass, of which all others are made
 abbrev pub first_pass : {M : Type 0} → Identity M → PassView M
@@ -122,38 +145,47 @@ with_count pass count = record pass { asked = pass.asked + 1; out = count; alone
 abbrev pub with_room : {M : Type 0} → PassView M → ℕ → PassView M
 with_room pass room = record pass { room = room; alone = false }
 
+-- the pass with what it loaded of the mark of a region
+abbrev pub with_load : {M : Type 0} → PassView M → ℕ → ℕ → PassView M
+with_load pass region n = record pass { loaded = (region, n) ∷ pass.loaded; loads = region ∷ pass.loads }
+
 -- the pass after calls: all else stays
-abbrev pub after_calls : {M : Type 0} → PassView M → List Entry → List Entry → ℕ → PassView M
-after_calls pass seen mine visits = record pass { seen = seen; mine = mine; visits = visits }
+abbrev pub after_calls : {M : Type 0} → PassView M → List Entry → List Entry → List (ℕ × ℕ) → ℕ → PassView M
+after_calls pass seen mine raised visits = record pass { seen = seen; mine = mine; raised = raised; visits = visits }
 
 -- the pass after one call: it has given the turn back once more
-abbrev pub after_call : {M : Type 0} → PassView M → List Entry → List Entry → PassView M
-after_call pass seen mine = after_calls pass seen mine (pass.visits + 1)
+abbrev pub after_call : {M : Type 0} → PassView M → List Entry → List Entry → List (ℕ × ℕ) → PassView M
+after_call pass seen mine raised = after_calls pass seen mine raised (pass.visits + 1)
 
--- One pass becomes two. One of its room is used up, and the new one gets half of what is left. The new one has seen the same, and has made no
--- call. Its number is none that the other knew.
+-- One pass becomes two. One of its room is used up, and the new one gets half of what is left. The new one has seen, raised and loaded the
+-- same, and has made no call. Its number is none that the other knew.
 pub record IsSplit {M : Type 0} (old rest new : PassView M) : Type 0 where
   pub rest_is : rest ≡ with_room old ((old.room - 1) - (old.room - 1) / 2)
-  pub new_is : new ≡ fresh_pass old.id new.number ((old.room - 1) / 2) old.seen
+  pub new_is : new ≡ made_pass old new.number ((old.room - 1) / 2)
   pub positive : 0 < new.number
   pub apart : times new.number (numbers_of old) ≡ 0
 
--- Two passes become one, which has seen all that one of the two had. The calls of the one that is given up stand behind those that had ended.
+-- Two passes become one, which has seen all that one of the two had, and notes of marks what either did. The calls of the one that is given
+-- up stand behind those that had ended.
 pub record IsJoined {M : Type 0} (into from new : PassView M) : Type 0 where
   pub new_is : new ≡ record into {
     room = into.room + from.room;
     seen = longer_of into.seen from.seen;
     ended = into.ended ++ (from.number, from.mine) ∷ from.ended;
     alone = false;
+    raised = into.raised ++ from.raised;
+    loaded = into.loaded ++ from.loaded;
   }
   pub into_seen : IsFront into.seen new.seen
   pub from_seen : IsFront from.seen new.seen
   pub distinct : (n : ℕ) → times n (numbers_of new) ≤ 1
 
--- What is left at the end: its history is what the pass had seen, and each entry is of the pass's numbers.
+-- What is left at the end: its history is what the pass had seen, each entry is of the pass's numbers, and it has got as far as each mark
+-- that the pass loaded.
 pub record IsClosed {M : Type 0} (start : M → Start) (pass : PassView M) (kept : KeptView M) : Type 0 where
   pub object_is : kept.object ≡ pass.id.object
   pub first_is : pass.id.first ≡ Some kept.first
   pub history_is : kept.history ≡ pass.seen
   pub own : All (λ e. 0 < times e.seat (numbers_of pass)) kept.history
+  pub loaded : HasLoaded start pass kept.history
   pub knows : IsPass start pass

@@ -1,3 +1,5 @@
 pub mod Keeping
+pub mod Marks
 pub mod Seating
 pub mod Offers
+pub mod Reaching

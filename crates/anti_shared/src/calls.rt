@@ -1,9 +1,10 @@
 ghost use Rattle.std.specs.Prelude.{◌≡◌, All, IfOk, IfErr};
 ghost use Rattle.anti_kind.specs.Shipments.{IsShip};
 ghost use Rattle.anti_kind.specs.Ports.{Answered};
-ghost use Rattle.anti_shared.specs.Passes.{GoesFrom, after_call, after_calls, start_of, view_of};
+ghost use Rattle.anti_shared.specs.Passes.{GoesFrom, HasLoaded, after_call, after_calls, start_of, view_of};
 ghost use Rattle.anti_shared.specs.inner.Offers.{answer_of};
 
+use crate::marking::tell;
 use crate::pass::Pass;
 use crate::shared::Shared;
 use anti_kind::{Actor, Answer, Asking, Call, Machine};
@@ -11,22 +12,25 @@ use std::sync::Wait;
 use std::thread;
 
 impl<M: Machine> Shared<M> {
-    // Takes the turn, offers what is asked, and gives the turn back. What is not ready comes back.
+    // Takes the turn, offers what is asked, and gives the turn back. Then it raises the marks that grew. What is not ready comes back.
     fn visit<R: Wait>(&self, rt: &R, pass: &mut Pass<M>, asking: Asking) -> Result<Answer, Asking>
         requires of { pass.old.id ≡ self.now.id }
         requires object { asking.object ≡ self.now.id.object }
         ensures answered { Answered (start_of M.start pass.old.id) asking (view_of pass.old) (view_of pass.new) (answer_of result) }
         ensures waits { IfOk result (λ answer. answer ≡ Answer.NotYet → ⊥) }
         ensures back { IfErr result (λ back. back ≡ asking) }
-        ensures pass { pass.new ≡ after_call pass.old pass.new.seen pass.new.mine }
+        ensures pass { pass.new ≡ after_call pass.old pass.new.seen pass.new.mine pass.new.raised }
         ensures own { All (λ e. e.seat ≡ pass.old.number) pass.new.mine }
+        ensures loaded { HasLoaded M.start pass.old pass.new.seen }
         ensures memory { IfOk result (λ answer. answer ≡ Answer.NoMemory → GoesFrom (start_of M.start pass.old.id) pass.new.seen asking) }
         ensures ship { IsShip asking.call → IfOk result (λ answer. answer ≡ Answer.NoMemory → ⊥) }
     {
         let number = pass.seat.number();
         let mut held = self.turn.enter(rt, &mut pass.seat);
         let answer = held.value.offer(number, asking);
+        let risen = held.value.risen(&pass.raised);
         self.turn.leave(&mut pass.seat, held);
+        tell(&self.turn, &mut pass.seat, &mut pass.raised, risen);
         answer
     }
 
@@ -43,8 +47,9 @@ impl<M: Machine> Shared<M> {
     ) -> Answer
         requires { pass.old.id ≡ self.now.id }
         ensures answer { Answered (start_of M.start pass.old.id) (record { object = pass.old.id.object; actor = actor; span = span; clock = clock; call = c }) (view_of pass.old) (view_of pass.new) result }
-        ensures pass { pass.new ≡ after_call pass.old pass.new.seen pass.new.mine }
+        ensures pass { pass.new ≡ after_call pass.old pass.new.seen pass.new.mine pass.new.raised }
         ensures own { All (λ e. e.seat ≡ pass.old.number) pass.new.mine }
+        ensures loaded { HasLoaded M.start pass.old pass.new.seen }
         ensures memory { result ≡ Answer.NoMemory → GoesFrom (start_of M.start pass.old.id) pass.new.seen (record { object = pass.old.id.object; actor = actor; span = span; clock = clock; call = c }) }
         ensures ship { IsShip c → result ≡ Answer.NoMemory → ⊥ }
     {
@@ -75,8 +80,9 @@ impl<M: Machine> Shared<M> {
         requires { pass.old.id ≡ self.now.id }
         ensures answer { Answered (start_of M.start pass.old.id) (record { object = pass.old.id.object; actor = actor; span = span; clock = clock; call = c }) (view_of pass.old) (view_of pass.new) result }
         ensures waits { result ≡ Answer.NotYet → ⊥ }
-        ensures pass { pass.new ≡ after_calls pass.old pass.new.seen pass.new.mine pass.new.visits }
+        ensures pass { pass.new ≡ after_calls pass.old pass.new.seen pass.new.mine pass.new.raised pass.new.visits }
         ensures own { All (λ e. e.seat ≡ pass.old.number) pass.new.mine }
+        ensures loaded { HasLoaded M.start pass.old pass.new.seen }
         ensures memory { result ≡ Answer.NoMemory → GoesFrom (start_of M.start pass.old.id) pass.new.seen (record { object = pass.old.id.object; actor = actor; span = span; clock = clock; call = c }) }
         ensures ship { IsShip c → result ≡ Answer.NoMemory → ⊥ }
     {

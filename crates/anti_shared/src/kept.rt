@@ -1,15 +1,16 @@
-ghost use Rattle.std.specs.Prelude.{◌≡◌, [], false, IfOk, IfErr, OnErr};
+ghost use Rattle.std.specs.Prelude.{◌≡◌, [], ◌<◌, false, IfOk, IfErr, OnErr};
 ghost use Rattle.anti_kind.specs.Objects.{IsLegal, ready};
-ghost use Rattle.anti_kind.specs.Shipments.{IsShip};
+ghost use Rattle.anti_kind.specs.Shipments.{IsShip, upto};
 ghost use Rattle.anti_kind.specs.Machines.{StandsFor};
 ghost use Rattle.anti_kind.specs.Lones.{IsNumbered};
 ghost use Rattle.anti_kind.specs.Records.{Gives};
 ghost use Rattle.anti_shared.specs.inner.Keeping.{AreOf};
+ghost use Rattle.anti_shared.specs.inner.Marks.{AreOver, AreRisen, AreUpto};
 
-use anti_ids::NoMemory;
+use anti_ids::{MOST_REGIONS, NoMemory};
 use anti_kind::{Answer, Asking, Entry, History, Machine, Recorded};
 use anti_turn::Listed;
-use std::alloc::Global;
+use std::alloc::{AllocFailed, Global};
 use std::marker::Model;
 use std::snapshot::Snapshot;
 
@@ -17,7 +18,8 @@ use std::snapshot::Snapshot;
 #[derive(Drop)]
 pub struct Kept<M: Machine> {
     object: u32,
-    recorded: Recorded<M>,
+    // in a box, so that it stays where it is while it is handed to and fro with the turn
+    recorded: Box<Recorded<M>>,
     first: Snapshot<M>,
 }
 
@@ -30,14 +32,17 @@ impl<M: Machine> Model for Kept<M> {
     ghost view = { λ k. record {
       object = k.object;
       first = k.first.value;
-      state = k.recorded.machine;
-      history = k.recorded.history;
+      state = k.recorded.value.machine;
+      history = k.recorded.value.history;
     } };
 
-    ghost invariant = { λ k. IsKept (M.start k.recorded.machine) (M.start k.first.value) k.object k.recorded.history };
+    ghost invariant = { λ k. IsKept (M.start k.recorded.value.machine) (M.start k.first.value) k.object k.recorded.value.history };
 }
 
 impl<M: Machine> Listed for Kept<M> {
+    ghost use Rattle.anti_kind.specs.Shipments.{upto};
+    ghost use Rattle.anti_shared.specs.inner.Reaching.{upto_rises};
+
     type Entry = Entry;
 
     type Fixed = (u32, M);
@@ -47,6 +52,11 @@ impl<M: Machine> Listed for Kept<M> {
     ghost by = { λ entry. entry.seat };
 
     ghost fixed = { λ kept. (kept.object, kept.first) };
+
+    // Each mark is how many versions, from the first on, are whole at a region.
+    ghost mark = { λ part region history. upto (M.start part.1) history region };
+
+    ghost rises = { λ part region history more. upto_rises (M.start part.1) region history more };
 }
 
 impl<M: Machine> Kept<M> {
@@ -58,13 +68,20 @@ impl<M: Machine> Kept<M> {
         ensures err { IfErr result (λ e. e.0 ≡ start) }
     {
         let first = Snapshot::of(&start);
-        match Recorded::new(alloc, start) {
+        let recorded = match Recorded::new(alloc, start) {
+            Ok(recorded) => recorded,
+            Err(refused) => return Err(refused),
+        };
+        match Box::new(alloc, recorded) {
             Ok(recorded) => Ok(Kept {
                 object,
                 recorded,
                 first,
             }),
-            Err(refused) => Err(refused),
+            Err(AllocFailed { value }) => {
+                let (start, _history) = value.into_parts();
+                Err((start, NoMemory))
+            }
         }
     }
 
@@ -92,7 +109,7 @@ impl<M: Machine> Kept<M> {
         ensures state { result.0 ≡ self.state }
         ensures history { result.1.items ≡ self.history }
     {
-        self.recorded.into_parts()
+        Box::into_inner(self.recorded).into_parts()
     }
 
     // Makes what is asked of the object, under the number of the pass that asks, or says why it does not. What is not ready is given back.
@@ -110,5 +127,47 @@ impl<M: Machine> Kept<M> {
         ensures ship { IsShip asking.call → IfOk result (λ answer. answer ≡ Answer.NoMemory → ⊥) }
     {
         self.recorded.offer(seat, asking)
+    }
+
+    // How many versions, from the first on, are whole at a region.
+    fn whole_at(&self, region: usize) -> u64
+        requires { region < MOST_REGIONS }
+        ensures { result ≡ upto (M.start self.now.first) self.now.history region }
+    {
+        self.state().upto(region as u32)
+    }
+
+    // Whether a region has more than is known.
+    fn has_risen(&self, known: &[u64; MOST_REGIONS]) -> bool
+        ensures { result ≡ false → AreOver (M.start self.now.first) self.now.history known.now }
+    {
+        for region in 0..MOST_REGIONS {
+            if self.whole_at(region) > known[region] {
+                return true;
+            }
+        }
+        false
+    }
+
+    // How many versions, from the first on, are whole at each region.
+    fn reached(&self) -> [u64; MOST_REGIONS]
+        ensures { AreUpto (M.start self.now.first) self.now.history result }
+    {
+        let mut reached = [0; MOST_REGIONS];
+        for region in 0..MOST_REGIONS {
+            reached[region] = self.whole_at(region);
+        }
+        reached
+    }
+
+    // How many versions, from the first on, are whole at each region, or `None` where no region has more than is known. The numbers are
+    // compared where they stand, since that is done under the turn and mostly none has risen.
+    pub(crate) fn risen(&self, known: &[u64; MOST_REGIONS]) -> Option<[u64; MOST_REGIONS]>
+        ensures { AreRisen (M.start self.now.first) self.now.history known.now result }
+    {
+        if self.has_risen(known) {
+            return Some(self.reached());
+        }
+        None
     }
 }

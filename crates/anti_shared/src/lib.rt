@@ -7,11 +7,14 @@
 
 mod calls;
 mod kept;
+mod laws;
+mod marking;
 mod pass;
 mod port;
 mod shared;
 
 pub use kept::Kept;
+pub use laws::{answers_never_fall, upto_is_whole, upto_never_falls};
 pub use pass::Pass;
 pub use port::SharedPort;
 pub use shared::Shared;

@@ -2,6 +2,7 @@ ghost use Rattle.std.specs.Prelude.{◌≡◌, ◌<◌, ◌≤◌};
 ghost use Rattle.anti_shared.specs.Passes.{IsPass};
 
 use crate::kept::Kept;
+use anti_ids::MOST_REGIONS;
 use anti_kind::Machine;
 use anti_turn::Seat;
 use std::marker::Model;
@@ -10,6 +11,8 @@ use std::marker::Model;
 #[derive(Drop)]
 pub struct Pass<M: Machine> {
     pub(crate) seat: Seat<Kept<M>>,
+    // to what it raised the mark of each region
+    pub(crate) raised: [u64; MOST_REGIONS],
 }
 
 impl<M: Machine> Model for Pass<M> {
@@ -20,7 +23,7 @@ impl<M: Machine> Model for Pass<M> {
 
     ghost view = { λ p. pass_of p.seat };
 
-    ghost invariant = { λ p. IsSeated M.start p.seat };
+    ghost invariant = { λ p. IsSeated M.start p.seat p.raised };
 }
 
 impl<M: Machine> Pass<M> {

@@ -4,8 +4,9 @@ ghost use Rattle.anti_kind.specs.Lones.{IsNumbered};
 ghost use Rattle.anti_shared.specs.Passes.{IsClosed, IsJoined, IsSplit, first_pass, with_count, with_room};
 
 use crate::kept::Kept;
+use crate::marking::raise_to;
 use crate::pass::Pass;
-use anti_ids::NoMemory;
+use anti_ids::{MOST_REGIONS, NoMemory};
 use anti_kind::Machine;
 use anti_turn::Turn;
 use std::alloc::Global;
@@ -46,7 +47,10 @@ impl<M: Machine> Shared<M> {
             Err(refused) => return Err(refused),
         };
         match Turn::new(alloc, kept) {
-            Ok((turn, seat)) => Ok((Shared { turn, object }, Pass { seat })),
+            Ok((turn, seat)) => {
+                let raised = [0; MOST_REGIONS];
+                Ok((Shared { turn, object }, Pass { seat, raised }))
+            }
             Err((kept, fault)) => {
                 let (start, _history) = kept.into_parts();
                 Err((start, fault))
@@ -64,7 +68,8 @@ impl<M: Machine> Shared<M> {
         ensures never_err { IsOk result }
     {
         let seat = self.turn.split(&mut pass.seat)?;
-        Ok(Pass { seat })
+        let raised = pass.raised;
+        Ok(Pass { seat, raised })
     }
 
     /// Gives up the pass `from`. What it had seen, its calls and its room go to `into`. It takes no memory.
@@ -73,8 +78,9 @@ impl<M: Machine> Shared<M> {
         requires from_of { from.id ≡ self.now.id }
         ensures { IsJoined into.old from into.new }
     {
-        let Pass { seat } = from;
+        let Pass { seat, raised } = from;
         self.turn.join(&mut into.seat, seat);
+        raise_to(&mut into.raised, &raised);
     }
 
     /// Whether no other pass is out at this step. A pass is out from the step of its split that counts it in to the step of its join that
@@ -101,10 +107,10 @@ impl<M: Machine> Shared<M> {
         ensures alone { pass.alone ≡ true → IsOk result }
     {
         let Shared { turn, object } = self;
-        let Pass { seat } = pass;
+        let Pass { seat, raised } = pass;
         match turn.close(seat) {
             Ok(kept) => Ok(kept),
-            Err((turn, seat)) => Err((Shared { turn, object }, Pass { seat })),
+            Err((turn, seat)) => Err((Shared { turn, object }, Pass { seat, raised })),
         }
     }
 }

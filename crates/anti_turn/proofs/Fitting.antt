@@ -8,7 +8,7 @@ use Rattle.anti_turn.specs.declared.view.View.{View}
 use Rattle.anti_turn.specs.Lists.{times, IsFront, longer_of, entries_of, GoesOn, Adds}
 use Rattle.anti_turn.specs.inner.Views.{total, blank_recall, first_view, spent_view, view_numbers, times_owned, drawn_of, times_claimed, weight, IsAtRest}
 use Rattle.anti_turn.specs.inner.Rules.{IsAlone, Knows, IsCounted, Fits}
-use Rattle.anti_turn.specs.inner.Steps.{taken_view, freed_view, raised_view, rest_view, split_view, joined_view, lowered_view, asked_view}
+use Rattle.anti_turn.specs.inner.Steps.{taken_view, freed_view, raised_view, rest_view, split_view, joined_view, lowered_view, asked_view, noted_view}
 use Rattle.anti_turn.proofs.Totals.{total_only, two_le, at_here, each_set}
 use Rattle.anti_turn.proofs.Times.{times_itself, times_other, times_is}
 use Rattle.anti_turn.proofs.Fronts.{front_trans, longer_front, front_of_longer, also_front_of_longer, longer_all, also_longer_all, none_in_front, entries_of_others, front_of_added, goes_self, goes_nothing, goes_between}
@@ -320,6 +320,29 @@ module _ {T E F : Type 0} (list : T → List E) (by : E → ℕ) (fixed : T → 
           counts = counts_stay by made out all views id v w at (λ n. refl) (λ n. refl) refl refl f.counts;
         }
 
+    -- the seat notes something of the marks
+    pub note : (raised loaded : List (ℕ × ℕ)) (loads : List ℕ) → Fits list by fixed part turn holder made out slot all (set views id (noted_view v raised loaded loads))
+    note raised loaded loads =
+        let w = noted_view v raised loaded loads in
+        let after = set views id w in
+        record {
+          complete = complete_set all views id v w at live (λ e. e) f.complete;
+          free = f.free;
+          taken = λ t. holder_set holder views id v w at (λ h. h) (f.taken t);
+          knows = each_set (λ (k : ℕ) (u : View E F). Knows by part turn holder all after k u) views id w
+              (record {
+                spent_is = λ dead. absurd (cc);
+                part_is = mine.part_is;
+                seen = mine.seen;
+                holds = mine.holds;
+                alone = λ a. alone_set views id w (mine.alone a);
+                host = mine.host;
+                guest = mine.guest;
+              })
+              (λ k u apart there. others_stay by part turn holder all views after id v k u at live apart (f.knows k u there));
+          counts = counts_stay by made out all views id v w at (λ n. refl) (λ n. refl) refl refl f.counts;
+        }
+
     -- what views that are not live weigh, where this seat is alone
     others_are_spent : IsAlone id views → (k : ℕ) (u : View E F) → get_elem? views k ≡ home.some u → k ≢ id → u ≡ spent_view
     others_are_spent alone k u there apart = (f.knows k u there).spent_is (alone k u there apart)
@@ -345,7 +368,7 @@ module _ {T E F : Type 0} (list : T → List E) (by : E → ℕ) (fixed : T → 
         (cases_eq holder id))
         (cases_eq turn 0)
 
-    lone_has_seen_all : v.alone ≡ true → v.seen ≡ all
+    pub lone_has_seen_all : v.alone ≡ true → v.seen ≡ all
     lone_has_seen_all a =
         let c = f.complete in
         ⊎_elim (λ (same : c.0 ≡ id).

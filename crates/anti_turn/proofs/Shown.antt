@@ -2,7 +2,7 @@
 use Rattle.std.proofs.Common.{◌≡◌, ℕ, ◌<◌, ◌≤◌, true, List, [], ◌∷◌, Option, Some, All, sym, refl, ap, ◌∙◌, subst}
 use mathlib.Core.Option as home
 use Rattle.anti_turn.specs.declared.view.View.{View}
-use Rattle.anti_turn.specs.Lists.{times, longer_of, GoesOn}
+use Rattle.anti_turn.specs.Lists.{times, top, longer_of, GoesOn}
 use Rattle.anti_turn.specs.Places.{TableId, Place, numbers_of, with_count, IsJoined, IsClosed}
 use Rattle.anti_turn.specs.inner.Views.{view_numbers, place_of}
 use Rattle.atomic_table.specs.Table.{rest, step}
@@ -42,9 +42,16 @@ module _ {T E F : Type 0} (list : T → List E) (by : E → ℕ) (fixed : T → 
     own = subst (λ (z : Place E F × T). All (λ e. 0 < times (by e) (numbers_of z.0)) (list z.1)) (λ i. (shown i, same i)) own;
   }
 
+  -- the list at the end has reached what the seat had loaded
+  pub closed_marks : (mark : F → ℕ → List E → ℕ) (id : TableId) (v : View E F) (seat : Place E F) (count : ℕ) (x value : T) → place_of id v ≡ with_count seat count → x ≡ value
+      → ((word : ℕ) → top word v.loaded ≤ mark (fixed x) word (list x)) → (word : ℕ) → top word seat.loaded ≤ mark (fixed value) word (list value)
+  closed_marks mark id v seat count x value shown same reached word =
+      let loaded = ap (λ (p : Place E F). p.loaded) shown in
+      subst (λ (z : List (ℕ × ℕ) × T). top word z.0 ≤ mark (fixed z.1) word (list z.1)) (λ i. (loaded i, same i)) (reached word)
+
   -- a seat that has taken the turn has the slot
-  pub taken_slot : (m m' : Hand T E F) → Takes list by fixed m m' → (y : Option T) × (m'.1 ≡ (0, y) ∷ rest m'.1)
-  taken_slot m m' (x, same, goes, part) =
+  pub taken_slot : (mark : F → ℕ → List E → ℕ) (m m' : Hand T E F) → Takes list by fixed mark m m' → (y : Option T) × (m'.1 ≡ (0, y) ∷ rest m'.1)
+  taken_slot mark m m' (x, same, goes, part, reached) =
       let slot : m'.1 ≡ (0, Some x) ∷ m.1 = ap (λ (z : Hand T E F). z.1) same in
       (Some x, slot ∙ ap (λ (ys : List (ℕ × Option T)). (0, Some x) ∷ ys) (sym (ap rest slot)))
 

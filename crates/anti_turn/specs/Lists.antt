@@ -1,10 +1,15 @@
 -- Fronts of lists, and the entries that have one number.
-use Rattle.std.specs.Prelude.{◌≡◌, ℕ, ◌+◌, ◌<◌, ◌==◌, if◌then◌else◌, nat_lt, List, [], ◌∷◌, ◌++◌, length, filter, All}
+use Rattle.std.specs.Prelude.{◌≡◌, ℕ, ◌+◌, ◌<◌, max, ◌==◌, if◌then◌else◌, nat_lt, List, [], ◌∷◌, ◌++◌, length, filter, All}
 
 -- how often a number stands in a list
 abbrev pub times : ℕ → List ℕ → ℕ
 times n [] = 0
 times n (m ∷ ms) = (if m == n then 1 else 0) + times n ms
+
+-- the greatest number that is noted beside a mark, or 0
+abbrev pub top : ℕ → List (ℕ × ℕ) → ℕ
+top word [] = 0
+top word (note ∷ notes) = max (if note.0 == word then note.1 else 0) (top word notes)
 
 module _ {E : Type 0} where
   -- the first list is the front of the second

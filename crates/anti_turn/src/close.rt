@@ -1,4 +1,5 @@
-ghost use Rattle.std.specs.Prelude.{◌≡◌, ◌<◌, ◌↔◌, true, false, IfOk, IfErr, IsOk, IsTrue};
+ghost use Rattle.std.specs.Prelude.{◌≡◌, ℕ, ◌<◌, ◌≤◌, ◌↔◌, true, false, IfOk, IfErr, IsOk, IsTrue};
+ghost use Rattle.anti_turn.specs.Lists.{top};
 ghost use Rattle.anti_turn.specs.Places.{IsClosed, with_count};
 
 use crate::listed::Listed;
@@ -39,6 +40,7 @@ impl<T: Listed> Turn<T> {
         requires turn { seat.id ≡ self.id }
         requires free { seat.holds ≡ false }
         ensures ok { IfOk result (λ value. IsClosed T.list T.by T.fixed seat value) }
+        ensures loaded { IfOk result (λ value. (word : ℕ) → top word seat.loaded ≤ T.mark (T.fixed value) word (T.list value)) }
         ensures turn { IfErr result (λ back. back.0 ≡ self) }
         ensures seat { IfErr result (λ back. back.1 ≡ with_count seat back.1.out) }
         ensures refused { IfErr result (λ back. 1 < back.1.out) }

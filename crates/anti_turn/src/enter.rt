@@ -1,5 +1,5 @@
-ghost use Rattle.std.specs.Prelude.{◌≡◌, true, false, Some};
-ghost use Rattle.anti_turn.specs.Lists.{Adds, GoesOn};
+ghost use Rattle.std.specs.Prelude.{◌≡◌, ℕ, ◌≤◌, true, false, Some};
+ghost use Rattle.anti_turn.specs.Lists.{Adds, GoesOn, top};
 ghost use Rattle.anti_turn.specs.Places.{numbers_of, with_turn, without_turn};
 ghost use Rattle.anti_turn.specs.inner.Views.{IsAtRest};
 ghost use Rattle.anti_turn.specs.inner.Steps.{Takes};
@@ -13,13 +13,14 @@ use std::sync::Wait;
 
 impl<T: Listed> Turn<T> {
     /// Waits for the turn, and takes it with the value. The list of the value goes on from what the seat had seen, with no further entry
-    /// of the seat's own. It takes no memory.
+    /// of the seat's own, and has got as far as each mark that the seat loaded. It takes no memory.
     pub fn enter<R: Wait>(&self, rt: &R, seat: &mut Seat<T>) -> Held<T>
         requires turn { seat.old.id ≡ self.now.id }
         requires free { seat.old.holds ≡ false }
         ensures seat { seat.new ≡ with_turn seat.old (T.list result.value) }
         ensures list { GoesOn T.by (numbers_of seat.old) seat.old.seen (T.list result.value) }
         ensures fixed { seat.old.fixed ≡ Some (T.fixed result.value) }
+        ensures loaded { (word : ℕ) → top word seat.old.loaded ≤ T.mark (T.fixed result.value) word (T.list result.value) }
     {
         self.take(rt, &mut seat.seat);
         let slot = self.table.shared.exchange(&mut seat.seat, VALUE, None);
@@ -37,7 +38,7 @@ impl<T: Listed> Turn<T> {
         requires turn { seat.old.table_id ≡ self.now.id }
         requires rest { IsAtRest seat.old.me.0 }
         ensures turn { seat.new.table_id ≡ seat.old.table_id }
-        ensures taken { Takes T.list T.by T.fixed seat.old.me seat.new.me }
+        ensures taken { Takes T.list T.by T.fixed T.mark seat.old.me seat.new.me }
     {
         let shared = &self.table.shared;
         for _ in rt.forever() {

@@ -1,4 +1,4 @@
-ghost use Rattle.std.specs.Prelude.{ℕ, List};
+ghost use Rattle.std.specs.Prelude.{ℕ, ◌≤◌, List, ◌++◌};
 
 /// A value that stands for a list of entries, each of which has the number of the seat that added it. It has no method: proofs alone read
 /// the list.
@@ -16,4 +16,10 @@ pub trait Listed {
 
     // What stays as it was when the turn was made.
     ghost fixed: { Self → Self.Fixed };
+
+    // How far the list has got, for each mark.
+    ghost mark: { Self.Fixed → ℕ → List Self.Entry → ℕ };
+
+    // It never falls as the list grows.
+    ghost rises: { (part : Self.Fixed) (word : ℕ) (xs ys : List Self.Entry) → mark part word xs ≤ mark part word (xs ++ ys) };
 }

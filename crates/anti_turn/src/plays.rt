@@ -1,6 +1,6 @@
 // The kinds of step. Beside these a seat moves the value out of the slot and back into it, which changes no view.
 ghost use Rattle.anti_turn.specs.inner.Views.{spent_view};
-ghost use Rattle.anti_turn.specs.inner.Steps.{Tries, Frees, Raises, rest_view, split_view, joined_view, Lowers, Counts};
+ghost use Rattle.anti_turn.specs.inner.Steps.{Tries, Frees, Raises, rest_view, split_view, joined_view, Lowers, Counts, MarksUp, LooksUp};
 
 use crate::listed::Listed;
 use crate::view::View;
@@ -13,7 +13,7 @@ pub struct Take<T> {
 }
 
 impl<T: Listed> Play<Option<T>, View<T::Entry, T::Fixed>> for Take<T> {
-    ghost then = { Tries T.list T.by T.fixed };
+    ghost then = { Tries T.list T.by T.fixed T.mark };
 }
 
 // The word of the turn is set free.
@@ -72,4 +72,22 @@ pub struct Count<T> {
 
 impl<T: Listed> Play<Option<T>, View<T::Entry, T::Fixed>> for Count<T> {
     ghost then = { Counts };
+}
+
+// A mark is raised.
+pub struct MarkUp<T> {
+    marker: PhantomData<T>,
+}
+
+impl<T: Listed> Play<Option<T>, View<T::Entry, T::Fixed>> for MarkUp<T> {
+    ghost then = { MarksUp };
+}
+
+// A mark is loaded.
+pub struct LookUp<T> {
+    marker: PhantomData<T>,
+}
+
+impl<T: Listed> Play<Option<T>, View<T::Entry, T::Fixed>> for LookUp<T> {
+    ghost then = { LooksUp T.by T.mark };
 }

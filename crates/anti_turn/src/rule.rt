@@ -13,7 +13,7 @@ impl<T: Listed> TableRule<Option<T>, View<T::Entry, T::Fixed>, Snapshot<T>> for 
     ghost use Rattle.anti_turn.specs.inner.Rules.{IsKept};
     ghost use Rattle.anti_turn.specs.inner.Views.{first_view};
 
-    ghost holds = { λ key. IsKept T.list T.by T.fixed (T.fixed key.value) };
+    ghost holds = { λ key. IsKept T.list T.by T.fixed T.mark (T.fixed key.value) };
 
     ghost first = { λ key. first_view (T.fixed key.value) };
 }

@@ -1,7 +1,7 @@
 // The least value that a turn can go round: its entries are the numbers of the seats that added them. `add` shows what a caller can say of
 // its own entries, and edits which must be refused change how it is used.
-ghost use Rattle.std.specs.Prelude.{◌≡◌, ◌+◌, false, [], ◌∷◌, ◌++◌, OnOk, OnErr};
-ghost use Rattle.anti_turn.specs.inner.Tallies.{own_entries};
+ghost use Rattle.std.specs.Prelude.{◌≡◌, ◌+◌, false, length, [], ◌∷◌, ◌++◌, OnOk, OnErr};
+ghost use Rattle.anti_turn.specs.inner.Tallies.{longer, own_entries};
 
 use crate::listed::Listed;
 use crate::seat::Seat;
@@ -27,6 +27,11 @@ impl Listed for Tally {
     ghost by = { λ number. number };
 
     ghost fixed = { λ tally. tally.name };
+
+    // Each mark is how many entries there are.
+    ghost mark = { λ _ _ entries. length entries };
+
+    ghost rises = { λ part word xs ys. longer xs ys };
 }
 
 impl Tally {

@@ -11,10 +11,12 @@ use std::alloc::Global;
 use std::marker::Model;
 use std::snapshot::Snapshot;
 
-// The words: the turn, and the count of seats.
+// The words: the turn, the count of seats, and the marks from the third on.
 pub(crate) const TURN: usize = 0;
 
 pub(crate) const SEATS: usize = 1;
+
+pub(crate) const MARKS: usize = 2;
 
 // The slot of the value.
 pub(crate) const VALUE: usize = 0;
@@ -50,7 +52,7 @@ impl<T: Listed> Model for Turn<T> {
     } };
 
     ghost invariant = { λ t.
-        (t.table.shared.table_id.words ≡ 2) × (t.table.shared.table_id.slots ≡ 1) };
+        (t.table.shared.table_id.words ≡ 10) × (t.table.shared.table_id.slots ≡ 1) };
 }
 
 /// The value, in the hands of the seat that has the turn. Who has it may change it, and gives it back by `Turn::leave`.
@@ -75,7 +77,12 @@ impl<T: Listed> Turn<T> {
             return Err((value, NoMemory));
         }
         slots.push_reserved(Some(value));
-        match Table::new(alloc, &[FREE, ONE_MORE], slots, &key) {
+        match Table::new(
+            alloc,
+            &[FREE, ONE_MORE, 0, 0, 0, 0, 0, 0, 0, 0],
+            slots,
+            &key,
+        ) {
             Ok((table, seat)) => {
                 let first = Seat {
                     seat,

@@ -36,6 +36,12 @@ pub struct View<E, F> {
     pub asked: u64,
     /// The count that was loaded last.
     pub out: u64,
+    /// To what it raised marks: each mark, and the number.
+    pub raised: LinkedList<(u64, u64)>,
+    /// What it loaded of marks: each mark, and the number.
+    pub loaded: LinkedList<(u64, u64)>,
+    /// The marks that it loaded, each as often as it did.
+    pub loads: LinkedList<u64>,
     /// Of a join that is not yet counted out: the seat that took the other in.
     pub host: Recall<E>,
     /// Of the same join: the seat that was taken in.

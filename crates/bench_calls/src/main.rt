@@ -1,5 +1,6 @@
 //! Makes calls on shared key-value stores, by so many threads: a benchmark. `bench_calls 4 100` has four threads make 4,000 calls together
-//! on one store, a hundred times, each time on a new store. It tells how many calls were made.
+//! on one store, a hundred times, each time on a new store. It tells how many calls were made. `bench_calls 4 100 50` asks besides, after
+//! every fourth call, fifty times how far the region has everything, which takes no turn.
 #![tactic(auto)]
 
 ghost use Rattle.std.specs.Prelude.{◌≡◌, IfSome};
@@ -29,13 +30,24 @@ fn version_of(answer: &Answer) -> u64 {
     }
 }
 
-// Writes, ships what was written, and reads twice, so often.
+// Asks so often how far the region has everything.
+fn ask<M: Machine>(shared: &Shared<M>, pass: &mut Pass<M>, questions: u32)
+    requires { pass.old.id ≡ shared.now.id }
+    ensures { pass.new.id ≡ shared.now.id }
+{
+    for _ in 0..questions {
+        let _ = shared.upto(pass, 0);
+    }
+}
+
+// Writes, ships what was written, reads twice, and asks questions, so often.
 fn work<M: Machine, R: Wait + AllocGlobal>(
     rt: &R,
     shared: &Shared<M>,
     mut pass: Pass<M>,
     key: Name,
     turns: u32,
+    questions: u32,
 ) -> Pass<M>
     requires { pass.id ≡ shared.now.id }
     ensures { result.id ≡ pass.id }
@@ -55,6 +67,7 @@ fn work<M: Machine, R: Wait + AllocGlobal>(
             let read = Call::Read { region: 0, key };
             let _ = shared.call(rt, &mut pass, Actor::Carrier(0), turn, 0, read);
         }
+        ask(shared, &mut pass, questions);
     }
     pass
 }
@@ -90,6 +103,7 @@ fn work_two<M: Machine + Send, R: Threads + Wait + Sync + AllocGlobal>(
     mut first: Pass<M>,
     key: Name,
     turns: u32,
+    questions: u32,
 ) -> Option<Pass<M>>
     requires { first.id ≡ shared.now.id }
     ensures { IfSome result (λ pass. pass.id ≡ shared.now.id) }
@@ -97,8 +111,8 @@ fn work_two<M: Machine + Send, R: Threads + Wait + Sync + AllocGlobal>(
     let second = split(shared, &mut first)?;
     let (mut first, second) = join(
         rt,
-        || work(rt, shared, first, key, turns),
-        || work(rt, shared, second, key, turns),
+        || work(rt, shared, first, key, turns, questions),
+        || work(rt, shared, second, key, turns, questions),
     );
     shared.join(&mut first, second);
     Some(first)
@@ -111,6 +125,7 @@ fn work_four<M: Machine + Send, R: Threads + Wait + Sync + AllocGlobal>(
     mut first: Pass<M>,
     key: Name,
     turns: u32,
+    questions: u32,
 ) -> Option<Pass<M>>
     requires { first.id ≡ shared.now.id }
     ensures { IfSome result (λ pass. pass.id ≡ shared.now.id) }
@@ -120,10 +135,10 @@ fn work_four<M: Machine + Send, R: Threads + Wait + Sync + AllocGlobal>(
         rt,
         ||
             requires { first.id ≡ shared.now.id }
-        { work_two(rt, shared, first, key, turns) },
+        { work_two(rt, shared, first, key, turns, questions) },
         ||
             requires { second.id ≡ shared.now.id }
-        { work_two(rt, shared, second, key, turns) },
+        { work_two(rt, shared, second, key, turns, questions) },
     );
     let mut first = first?;
     shared.join(&mut first, second?);
@@ -135,56 +150,70 @@ fn work_all<M: Machine + Send, R: Threads + Wait + Sync + AllocGlobal>(
     rt: &R,
     shared: &Shared<M>,
     first: Pass<M>,
-    threads: u32,
+    words: Words,
     key: Name,
 ) -> Option<Pass<M>>
     requires { first.id ≡ shared.now.id }
     ensures { IfSome result (λ pass. pass.id ≡ shared.now.id) }
 {
+    let Words {
+        threads,
+        questions,
+        rounds: _,
+    } = words;
     match threads {
-        1 => Some(work(rt, shared, first, key, CALLS / 4)),
-        2 => work_two(rt, shared, first, key, CALLS / 8),
-        _ => work_four(rt, shared, first, key, CALLS / 16),
+        1 => Some(work(rt, shared, first, key, CALLS / 4, questions)),
+        2 => work_two(rt, shared, first, key, CALLS / 8, questions),
+        _ => work_four(rt, shared, first, key, CALLS / 16, questions),
     }
 }
 
 // So many threads, which are one, two or four, make all calls on a new store. It gives how many were made.
-fn round<R: Threads + Wait + Sync + AllocGlobal>(rt: &R, threads: u32, key: Name) -> Option<usize> {
+fn round<R: Threads + Wait + Sync + AllocGlobal>(rt: &R, words: Words, key: Name) -> Option<usize> {
     let store = Kv::new(rt.alloc(), 0, &[0]).ok()?;
     let (shared, first) = Shared::new(rt.alloc(), 0, store).ok()?;
-    let pass = work_all(rt, &shared, first, threads, key)?;
+    let pass = work_all(rt, &shared, first, words, key)?;
     let kept = shared.close(pass).ok()?;
     Some(kept.history().len())
 }
 
-// The number of threads and that of rounds, each 1 where it is not told.
-fn words_of<R: Env + AllocGlobal>(rt: &R) -> Option<(u32, u32)> {
-    let mut words = (1, 1);
+// The words that the program is given.
+#[derive(Clone, Copy)]
+struct Words {
+    threads: u32,
+    rounds: u32,
+    questions: u32,
+}
+
+// The number of threads and that of rounds, each 1 where it is not told, and that of questions, 0 where it is not told.
+fn words_of<R: Env + AllocGlobal>(rt: &R) -> Option<Words> {
+    let mut words = [1, 1, 0];
     for (place, argument) in env::args(rt).ok()?.skip(1).enumerate() {
         let number = str::from_utf8(argument.as_bytes())
             .ok()?
             .parse::<u32>()
             .ok()?;
-        match place {
-            0 => words.0 = number,
-            1 => words.1 = number,
-            _ => return None,
-        }
+        *words.get_mut(place)? = number;
     }
-    matches!(words.0, 1 | 2 | 4).then_some(words)
+    let [threads, rounds, questions] = words;
+    matches!(threads, 1 | 2 | 4).then_some(Words {
+        threads,
+        rounds,
+        questions,
+    })
 }
 
 fn main(rt: HostRuntime) -> ExitCode {
-    let Some((threads, rounds)) = words_of(&rt) else {
-        let _ = eprintln!(rt; "bench_calls THREADS ROUNDS: the threads are 1, 2 or 4");
+    let Some(words) = words_of(&rt) else {
+        let _ = eprintln!(rt; "bench_calls THREADS ROUNDS QUESTIONS: the threads are 1, 2 or 4");
         return ExitCode::FAILURE;
     };
     let Ok(key) = Name::new(b"k") else {
         return ExitCode::FAILURE;
     };
     let mut made: usize = 0;
-    for _ in 0..rounds {
-        match round(&rt, threads, key) {
+    for _ in 0..words.rounds {
+        match round(&rt, words, key) {
             Some(calls) => made = made.wrapping_add(calls),
             None => return ExitCode::FAILURE,
         }

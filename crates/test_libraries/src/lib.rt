@@ -29,6 +29,8 @@ mod queue;
 #[cfg(test)]
 mod shared;
 #[cfg(test)]
+mod shared_upto;
+#[cfg(test)]
 mod shim;
 #[cfg(test)]
 mod steps;

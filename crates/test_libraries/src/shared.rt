@@ -103,7 +103,7 @@ fn is_told(answer: &Answer, told: Told) -> bool {
 }
 
 // The store 0, of which the only replica is in region 0, shared, and its first pass. `None` where memory runs out.
-fn shared_store(alloc: Global) -> Option<(Shared<Kv>, Pass<Kv>)>
+pub(crate) fn shared_store(alloc: Global) -> Option<(Shared<Kv>, Pass<Kv>)>
     ensures of { IfSome result (λ made. made.1.id ≡ made.0.id) }
     ensures room { IfSome result (λ made. 0 < made.1.room) }
     ensures start { IfSome result (λ made. port_start its_start (first_pass made.0.id) 0 ≡ Some (kv_start 0 (0 ∷ []))) }
@@ -516,7 +516,7 @@ fn all_go_at<M: Machine, R: Wait + AllocGlobal>(
 }
 
 // A further pass, where there is room for one.
-fn split<M: Machine>(shared: &Shared<M>, pass: &mut Pass<M>) -> Option<Pass<M>>
+pub(crate) fn split<M: Machine>(shared: &Shared<M>, pass: &mut Pass<M>) -> Option<Pass<M>>
     requires { pass.old.id ≡ shared.now.id }
     ensures rest { pass.new.id ≡ pass.old.id }
     ensures new { IfSome result (λ new. new.id ≡ pass.old.id) }

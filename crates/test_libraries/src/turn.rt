@@ -1,5 +1,6 @@
-ghost use Rattle.std.specs.Prelude.{◌≡◌, ◌<◌, false, IfSome};
+ghost use Rattle.std.specs.Prelude.{◌≡◌, ◌<◌, false, length, IfSome};
 ghost use Rattle.anti_turn.specs.Lists.{Adds};
+ghost use Rattle.anti_turn.specs.inner.Tallies.{longer};
 
 use anti_turn::{Listed, Seat, Turn};
 use std::alloc::Global;
@@ -27,6 +28,11 @@ impl Listed for Numbers {
     ghost by = { λ number. number };
 
     ghost fixed = { λ numbers. numbers.name };
+
+    // Each mark is how many entries there are.
+    ghost mark = { λ part word entries. length entries };
+
+    ghost rises = { λ part word entries more. longer entries more };
 }
 
 // A value that a thread may add an entry to.
@@ -91,6 +97,50 @@ fn is_alone_but_while_a_second_is_out(alloc: Global) -> bool {
 #[test]
 fn a_seat_is_alone_but_while_a_second_is_out(rt: HostRuntime) {
     assert!(rt; is_alone_but_while_a_second_is_out(rt.alloc()));
+}
+
+// Which mark the seats raise and load, and another.
+const MARK: u32 = 3;
+
+const OTHER: u32 = 4;
+
+// Adds two entries in one turn, and tells how many there are then.
+fn add_two<R: Wait>(rt: &R, turn: &Turn<Numbers>, seat: &mut Seat<Numbers>) -> usize
+    requires turn { seat.old.id ≡ turn.now.id }
+    requires free { seat.old.holds ≡ false }
+    ensures id { seat.new.id ≡ seat.old.id }
+    ensures seen { result ≡ length seat.new.seen }
+{
+    let number = seat.number();
+    let mut held = turn.enter(rt, seat);
+    held.value.grow(number);
+    held.value.grow(number);
+    let count = held.value.entries.len();
+    turn.leave(seat, held);
+    count
+}
+
+// What a seat that never enters loads of a mark: before another seat raises it, after that, and after it is raised to less. Then what it
+// loads of another mark.
+fn loaded_without_the_turn<R: Wait + AllocGlobal>(rt: &R) -> Option<[u64; 4]> {
+    let (turn, mut first) = first_seat(rt.alloc())?;
+    let Ok(mut second) = turn.split(&mut first) else {
+        // by `never_err` of `split`
+        unreachable!()
+    };
+    let before = turn.load(&mut second, MARK);
+    let count = add_two(rt, &turn, &mut first);
+    turn.raise(&mut first, MARK, count as u64);
+    let raised = turn.load(&mut second, MARK);
+    turn.raise(&mut first, MARK, 0);
+    let still = turn.load(&mut second, MARK);
+    let other = turn.load(&mut second, OTHER);
+    Some([before, raised, still, other])
+}
+
+#[test]
+fn a_mark_is_seen_without_the_turn(rt: HostRuntime) {
+    assert!(rt; loaded_without_the_turn(&rt) == Some([0, 2, 2, 0]));
 }
 
 // Takes the turn and gives it back, then adds entries, each in a turn of its own.

@@ -6,6 +6,7 @@ use Rattle.anti_turn.specs.Lists.{times}
 use Rattle.anti_turn.specs.Places as turn
 use Rattle.anti_turn.specs.Places.{Place, Round, TableId}
 use Rattle.anti_shared.specs.Passes.{Identity, SharedView, PassView, calls_of}
+use Rattle.anti_shared.specs.inner.Marks.{AreNoted, AreTold}
 
 -- an ended pass, with its entries in what is seen
 abbrev pub ended_in : List Entry → ℕ → ℕ × List Entry
@@ -36,13 +37,19 @@ module _ {M : Type 0} where
     visits = seat.visits;
     asked = seat.asked;
     out = seat.out;
+    raised = seat.raised;
+    loaded = seat.loaded;
+    loads = seat.loads;
   }
 
--- The seat knows the object, has not the turn, and has seen a legal history. Its numbers differ.
-pub record IsSeated {M : Type 0} (start : M → Start) (seat : Place Entry (ℕ × M)) : Type 0 where
+-- The seat knows the object, has not the turn, and has seen a legal history. Its numbers differ. It has raised the mark of each region as far
+-- as the history has got, and that is kept beside it.
+pub record IsSeated {M : Type 0} (start : M → Start) (seat : Place Entry (ℕ × M)) (kept : List ℕ) : Type 0 where
   pub part : ℕ × M
   pub part_is : seat.fixed ≡ Some part
   pub free : seat.holds ≡ false
   pub legal : IsLegal (start part.1) seat.seen
   pub positive : 0 < seat.number
   pub distinct : (n : ℕ) → times n (turn.numbers_of seat) ≤ 1
+  pub told : AreTold (start part.1) seat.seen seat.raised
+  pub noted : AreNoted kept seat.raised

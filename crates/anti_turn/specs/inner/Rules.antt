@@ -1,13 +1,14 @@
 -- What is true of a turn between any two steps.
 --
--- A turn has two words and a slot. The first word is 0 where the turn is free, and 1 where a seat has it. The second is the number of seats
--- that were ever made times 2 ^ 32, plus the number of those that are out. The slot holds the value, unless a seat took it out with the turn.
-use Rattle.std.specs.Prelude.{◌≡◌, ◌≢◌, ℕ, ◌+◌, ◌*◌, ◌<◌, ◌≤◌, true, false, List, [], ◌∷◌, Option, Some}
+-- A turn has ten words and a slot. The first word is 0 where the turn is free, and 1 where a seat has it. The second is the number of seats
+-- that were ever made times 2 ^ 32, plus the number of those that are out.
+-- Behind these come eight marks. The slot holds the value, unless a seat took it out with the turn.
+use Rattle.std.specs.Prelude.{◌≡◌, ◌≢◌, ℕ, ◌+◌, ◌*◌, ◌<◌, ◌≤◌, true, false, List, [], ◌∷◌, length, get_or, Option, Some}
 use mathlib.Core.Option as home
 use lib.ListN.{get_elem?}
 use Rattle.atomic_table.specs.Table.{State}
 use Rattle.anti_turn.specs.declared.view.View.{View}
-use Rattle.anti_turn.specs.Lists.{entries_of, GoesOn}
+use Rattle.anti_turn.specs.Lists.{top, entries_of, GoesOn}
 use Rattle.anti_turn.specs.inner.Views.{total, spent_view, view_numbers, times_claimed, times_owned, weight, room_of}
 
 module _ {E F : Type 0} where
@@ -47,6 +48,20 @@ pub record IsCounted {E F : Type 0} (by : E → ℕ) (made out : ℕ) (all : Lis
   -- so many seats can still be made that neither half of the word overflows
   pub rooms : made + total room_of views < 4294967296
 
+-- What is true of the notes of a seat, where the marks are these, and `all` is the list.
+pub record IsNoted {E F : Type 0} (mark : F → ℕ → List E → ℕ) (part : F) (marks : List ℕ) (all : List E) (v : View E F) : Type 0 where
+  -- no mark is below what the seat raised it to
+  pub raised : (word : ℕ) → top word v.raised ≤ get_or marks word 0
+  -- the list has reached what it loaded
+  pub loaded : (word : ℕ) → top word v.loaded ≤ mark part word all
+
+-- What is true of the marks.
+pub record IsMarked {E F : Type 0} (mark : F → ℕ → List E → ℕ) (part : F) (marks : List ℕ) (all : List E) (views : List (View E F)) : Type 0 where
+  pub eight : length marks ≡ 8
+  -- the list has reached each
+  pub under : (word : ℕ) → get_or marks word 0 ≤ mark part word all
+  pub noted : (id : ℕ) (v : View E F) → get_elem? views id ≡ home.some v → IsNoted mark part marks all v
+
 module _ {T E F : Type 0} (list : T → List E) (by : E → ℕ) (fixed : T → F) (part : F) where
   -- the slot has the value of the list, of which the fixed part is that of the first value
   abbrev pub IsHome : home.Option (Option T) → List E → Type 0
@@ -59,6 +74,7 @@ module _ {T E F : Type 0} (list : T → List E) (by : E → ℕ) (fixed : T → 
     pub knows : (id : ℕ) (v : View E F) → get_elem? views id ≡ home.some v → Knows by part turn holder all views id v
     pub counts : IsCounted by made out all views
 
+module _ {T E F : Type 0} (list : T → List E) (by : E → ℕ) (fixed : T → F) (mark : F → ℕ → List E → ℕ) (part : F) where
   pub record IsKept (s : State (Option T) (View E F)) : Type 0 where
     pub turn : ℕ
     pub holder : ℕ
@@ -66,6 +82,8 @@ module _ {T E F : Type 0} (list : T → List E) (by : E → ℕ) (fixed : T → 
     pub out : ℕ
     pub slot : home.Option (Option T)
     pub all : List E
-    pub words : s.words ≡ turn ∷ (made * 4294967296 + out) ∷ []
+    pub marks : List ℕ
+    pub words : s.words ≡ turn ∷ (made * 4294967296 + out) ∷ marks
     pub homes : s.homes ≡ slot ∷ []
-    pub fits : Fits turn holder made out slot all s.views
+    pub fits : Fits list by fixed part turn holder made out slot all s.views
+    pub marked : IsMarked mark part marks all s.views

@@ -3,7 +3,7 @@ use Rattle.std.specs.Prelude.{◌≡◌, ◌≢◌, ℕ, ◌+◌, ◌-◌, ◌/�
 use Rattle.atomic_table.specs.Table.{Me, Step}
 use Rattle.anti_turn.specs.declared.view.Recall.{Recall}
 use Rattle.anti_turn.specs.declared.view.View.{View}
-use Rattle.anti_turn.specs.Lists.{times, longer_of, entries_of, GoesOn}
+use Rattle.anti_turn.specs.Lists.{times, top, longer_of, entries_of, GoesOn}
 use Rattle.anti_turn.specs.inner.Views.{blank_recall, new_view, view_numbers, weight}
 
 -- a seat's view, and the slot, where it has taken that out
@@ -28,7 +28,7 @@ module _ {E F : Type 0} where
   rest_view v = record v { drawn = None; room = v.room - v.room / 2; alone = false }
 
   abbrev pub split_view : View E F → View E F
-  split_view v = new_view (unwrap_or v.drawn 0) (v.room / 2) v.seen v.fixed
+  split_view v = record (new_view (unwrap_or v.drawn 0) (v.room / 2) v.seen v.fixed) { raised = v.raised; loaded = v.loaded }
 
   abbrev pub recall_of : View E F → Recall E
   recall_of v = record { seen = v.seen; numbers = v.number ∷ v.ended }
@@ -41,6 +41,8 @@ module _ {E F : Type 0} where
     room = v.room + u.room;
     owed = v.owed + 1;
     alone = false;
+    raised = v.raised ++ u.raised;
+    loaded = v.loaded ++ u.loaded;
     host = recall_of v;
     guest = recall_of u;
   }
@@ -53,14 +55,27 @@ module _ {E F : Type 0} where
   abbrev pub asked_view : View E F → ℕ → View E F
   asked_view v count = record v { asked = v.asked + 1; out = count; alone = count == 1 }
 
+  -- what is noted of marks
+  abbrev pub noted_view : View E F → List (ℕ × ℕ) → List (ℕ × ℕ) → List ℕ → View E F
+  noted_view v raised loaded loads = record v { raised = raised; loaded = loaded; loads = loads }
+
+  -- a mark is raised
+  abbrev pub marked_view : View E F → ℕ → ℕ → View E F
+  marked_view v word n = noted_view v ((word, n) ∷ v.raised) v.loaded v.loads
+
+  -- a mark is loaded
+  abbrev pub looked_view : View E F → ℕ → ℕ → View E F
+  looked_view v word n = noted_view v v.raised ((word, n) ∷ v.loaded) (word ∷ v.loads)
+
 module _ {T E F : Type 0} where
-  module _ (list : T → List E) (by : E → ℕ) (fixed : T → F) where
+  module _ (list : T → List E) (by : E → ℕ) (fixed : T → F) (mark : F → ℕ → List E → ℕ) where
     -- The turn was free: it is taken, and the value with it.
     abbrev pub Takes : Hand T E F → Hand T E F → Type 0
     Takes m m' = (x : T)
         × (m' ≡ (taken_view m.0 (list x), (0, Some x) ∷ m.1))
         × GoesOn by (view_numbers m.0) m.0.seen (list x)
         × (m.0.fixed ≡ Some (fixed x))
+        × ((word : ℕ) → top word m.0.loaded ≤ mark (fixed x) word (list x))
 
     abbrev pub Tries : Step (Option T) → Hand T E F → ℕ → Hand T E F → Type 0
     Tries st m n m' = (n ≡ 0 → Takes m m') × (n ≢ 0 → m' ≡ m)
@@ -92,3 +107,14 @@ module _ {T E F : Type 0} where
       (m' ≡ (asked_view m.0 (n % 4294967296), m.1))
       × (0 < n % 4294967296)
       × (m.0.alone ≡ true → weight m.0 ≡ 1 → n % 4294967296 ≡ 1)
+
+  -- A mark is raised, and the seat notes it. Before the marks stand two words.
+  abbrev pub MarksUp : Step (Option T) → Hand T E F → ℕ → Hand T E F → Type 0
+  MarksUp st m n m' = m' ≡ (marked_view m.0 (st.word - 2) st.first, m.1)
+
+  -- A mark is loaded, and the seat notes it. It is at least what the seat raised it to, and the list that stands has reached it.
+  abbrev pub LooksUp : (E → ℕ) → (F → ℕ → List E → ℕ) → Step (Option T) → Hand T E F → ℕ → Hand T E F → Type 0
+  LooksUp by mark st m n m' =
+      (m' ≡ (looked_view m.0 (st.word - 2) n, m.1))
+      × (top (st.word - 2) m.0.raised ≤ n)
+      × ((part : F) × (all : List E) × (m.0.fixed ≡ Some part) × GoesOn by (view_numbers m.0) m.0.seen all × (n ≤ mark part (st.word - 2) all))

@@ -35,6 +35,9 @@ module _ {E F : Type 0} where
     visits = 0;
     asked = 0;
     out = 0;
+    raised = [];
+    loaded = [];
+    loads = [];
     host = blank_recall;
     guest = blank_recall;
   }
@@ -58,6 +61,9 @@ module _ {E F : Type 0} where
     visits = 0;
     asked = 0;
     out = 0;
+    raised = [];
+    loaded = [];
+    loads = [];
     host = blank_recall;
     guest = blank_recall;
   }
@@ -97,6 +103,9 @@ module _ {E F : Type 0} where
     visits = v.visits;
     asked = v.asked;
     out = v.out;
+    raised = v.raised;
+    loaded = v.loaded;
+    loads = v.loads;
   }
 
 -- Nothing is under way: no number is drawn, and each seat that was joined is counted out.

@@ -16,13 +16,13 @@ join_seat-requires g c =
       ap (λ (p : Place g.row.T-Entry.Denot g.row.T-Fixed.Denot). p.id) (sym shown) ∙ (c.requires.from_turn ∙ ap (λ (r : Round g.row.T-Fixed.Denot). r.id) (sym c.self.view_is)),
       sits.slots ∙ ap held_slots also_free,
       search rules,
-      joins l.list l.by l.fixed _ _ _ _ _ c.into.invariant.rest.live free sits.rest also_free,
+      joins l.list l.by l.fixed l.mark _ _ _ _ _ c.into.invariant.rest.live free sits.rest also_free,
     )
 
 pub fetch_sub-requires : goal.fetch_sub-requires
 fetch_sub-requires g c =
     let l = g.T.Listed in
-    (search rules, search rules, lowers l.list l.by l.fixed _ _ _ _ c.into.inside.seat.me.0 c.into_parts-seat.result.0.me.0 _ c.join_seat.ensures.2 c.into.invariant.rest.live)
+    (search rules, search rules, lowers l.list l.by l.fixed l.mark _ _ _ _ c.into.inside.seat.me.0 c.into_parts-seat.result.0.me.0 _ c.join_seat.ensures.2 c.into.invariant.rest.live)
 
 pub returns : goal.returns
 returns g c =

@@ -16,7 +16,7 @@ store-requires g c =
     let fixed : me.0.fixed ≡ Some (l.fixed value) = ap (λ (p : Place g.row.T-Entry.Denot g.row.T-Fixed.Denot). p.fixed) c.seat.view_is ∙ c.requires.fixed in (
       search rules,
       search rules,
-      frees_turn l.list l.by l.fixed _ _ _ me.0 value c.seat.invariant.rest holds adds fixed _
+      frees_turn l.list l.by l.fixed l.mark _ _ _ me.0 value c.seat.invariant.rest holds adds fixed l.rises _
           (filled_slot me c.exchange-nothing.new.seat.me value c.seat.invariant.slots holds c.exchange-nothing.ensures.3),
     )
 

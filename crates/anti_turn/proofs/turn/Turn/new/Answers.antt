@@ -11,5 +11,5 @@ new-requires g c =
     let l = g.T.Listed in
     let part = l.fixed c.of-key.result.value in
     let items : c.push_reserved.new.self.items ≡ Some c.args.value ∷ [] = grind (arith, common_steps) in
-    subst (λ (xs : List (Option g.row.T.Denot)). IsKept l.list l.by l.fixed part (opening (0 ∷ 4294967297 ∷ []) xs (first_view part))) (sym items)
-    (opens l.list l.by l.fixed part c.args.value c.requires (ap l.fixed (sym c.of-key.ensures)))
+    subst (λ (xs : List (Option g.row.T.Denot)). IsKept l.list l.by l.fixed l.mark part (opening (0 ∷ 4294967297 ∷ 0 ∷ 0 ∷ 0 ∷ 0 ∷ 0 ∷ 0 ∷ 0 ∷ 0 ∷ []) xs (first_view part))) (sym items)
+    (opens l.list l.by l.fixed l.mark part c.args.value c.requires (ap l.fixed (sym c.of-key.ensures)))

@@ -8,4 +8,4 @@ pub compare_exchange-found-requires : goal.compare_exchange-found-requires
 compare_exchange-found-requires g c =
     let l = g.T.Listed in
     let rest = subst (λ (m : Hand g.row.T.Denot g.row.T-Entry.Denot g.row.T-Fixed.Denot). IsAtRest m.0) (sym c.loop.invariant.me) c.requires.rest in
-    (search rules, search rules, takes_turn l.list l.by l.fixed _ _ _ _ rest)
+    (search rules, search rules, takes_turn l.list l.by l.fixed l.mark _ _ _ _ rest)
