@@ -8,15 +8,16 @@ use Rattle.std.proofs.lemmas.Nat.{pow_pos}
 use Rattle.std.proofs.lemmas.Option.{same_Some, slice_get-get_or, slice_get_cases, slice_get_within}
 use Rattle.anti_kind.specs.declared.entry.Entry.{Entry}
 use Rattle.anti_kind.specs.Objects.{Start as Origin}
-use Rattle.anti_turn.specs.Lists.{IsFront}
+use Rattle.anti_turn.specs.Lists.{IsFront, top}
 use Rattle.anti_app.specs.declared.app.App.{App}
 use Rattle.anti_app.specs.Objects.{object_count}
 use Rattle.anti_object.specs.declared.object.Object.{Object}
 use Rattle.anti_object.specs.Standing.{object_start}
 use Rattle.anti_object.specs.Starts.{start_of}
 use Rattle.anti_object.proofs.Starts.{start_there}
-use Rattle.anti_shared.specs.Passes.{Identity, IsPass, IsSplit, LegalFrom, PassView, SharedView, calls_of, fresh_pass}
+use Rattle.anti_shared.specs.Passes.{Identity, IsPass, IsSplit, LegalFrom, PassView, SharedView, calls_of, upto_from}
 use Rattle.anti_shared.specs.Passes as passes
+use Rattle.anti_shared.specs.inner.Reaching.{upto_none}
 use Rattle.anti_trace.specs.Traces.{entries_on}
 use Rattle.anti_trace.proofs.PutLegal.{legal_none}
 use Rattle.anti_work.specs.declared.start.Start.{Start}
@@ -75,6 +76,8 @@ fresh_is pass new after start start_is none split =
       mine_is = ap (calls_of new.number) (sym none);
       ended_are = All-nil (λ (pair : ℕ × List Entry). pair.1 ≡ calls_of pair.0 pass.seen);
       distinct = λ n. at_most_one (new.number == n);
+      told = λ region small. subst (λ (z : Option Origin × List Entry). upto_from z.0 z.1 region ≤ top region pass.raised) (λ i. (sym start_is i, sym none i))
+          (let nothing = upto_none start region in omega arith);
     })
 
 -- ---- a pass of each object is split

@@ -23,6 +23,7 @@ mod Ran
 mod Routes
 mod Seats
 mod Times
+mod Told
 mod Tried
 mod Went
 mod WorkersRun

@@ -37,7 +37,7 @@ front_answered (Some start) q old new answer both = front_of start q old new ans
 
 -- one call, by the pass of the object that it is at
 pub asked_by : (shared : List (SharedView Object)) (old : List (PassView Object)) (q : Asking) (pass after : PassView Object) (answer : Answer) → AreOf shared old
-    → slice_get old q.object ≡ Some pass → after ≡ after_call pass after.seen after.mine
+    → slice_get old q.object ≡ Some pass → after ≡ after_call pass after.seen after.mine after.raised
     → Answered (passes.start_of object_start pass.id)
     (record { object = pass.id.object; actor = q.actor; span = q.span; clock = q.clock; call = q.call }) (view_of pass) (view_of after) answer
     → IsPass object_start after → IsAskedBy old (slice_set old q.object after) q answer
@@ -46,7 +46,9 @@ asked_by shared old q pass after answer of was after_is answered knows = record 
   after = after;
   was = was;
   is = refl;
-  after_is = after_is;
+  id_is = ap (λ (p : PassView Object). p.id) after_is;
+  number_is = ap (λ (p : PassView Object). p.number) after_is;
+  ended_is = ap (λ (p : PassView Object). p.ended) after_is;
   answered = subst
       (λ (o : ℕ). Answered (passes.start_of object_start pass.id)
       (record { object = o; actor = q.actor; span = q.span; clock = q.clock; call = q.call }) (view_of pass) (view_of after) answer)
@@ -56,7 +58,7 @@ asked_by shared old q pass after answer of was after_is answered knows = record 
 
 -- memory was wanted for what goes
 pub goes_then : (shared : List (SharedView Object)) (old : List (PassView Object)) (q : Asking) (pass after : PassView Object) → AreOf shared old
-    → slice_get old q.object ≡ Some pass → after ≡ after_call pass after.seen after.mine
+    → slice_get old q.object ≡ Some pass → after ≡ after_call pass after.seen after.mine after.raised
     → GoesFrom (passes.start_of object_start pass.id) after.seen
     (record { object = pass.id.object; actor = q.actor; span = q.span; clock = q.clock; call = q.call })
     → (its : PassView Object) → slice_get (slice_set old q.object after) q.object ≡ Some its → GoesFrom (passes.start_of object_start its.id) its.seen q
@@ -78,9 +80,6 @@ module _ (old new : List (PassView Object)) (q : Asking) (answer : Answer) (aske
 
   here : slice_get new q.object ≡ Some asked.after
   here = subst (λ (all : List (PassView Object)). slice_get all q.object ≡ Some asked.after) (sym asked.is) (set_here old q.object asked.after within)
-
-  pub id_is : asked.after.id ≡ asked.pass.id
-  id_is = ap (λ (p : PassView Object). p.id) asked.after_is
 
   pub seen_here : seen_at new q.object ≡ asked.after.seen
   seen_here = ap seen_by here
@@ -113,7 +112,7 @@ module _ (old new : List (PassView Object)) (q : Asking) (answer : Answer) (aske
   numbers o =
       elim (decide q.object o) as (λ _. number_at new o ≡ number_at old o) [
         | inl same ↦ subst (λ (k : ℕ). number_at new k ≡ number_at old k) same
-            (number_here ∙ ap (λ (p : PassView Object). p.number) asked.after_is ∙ sym (ap number_of asked.was))
+            (number_here ∙ asked.number_is ∙ sym (ap number_of asked.was))
         | inr other ↦ ap number_of (others o other)
       ]
 
@@ -147,8 +146,8 @@ module _ (old new : List (PassView Object)) (q : Asking) (answer : Answer) (aske
     count = many ∙ of.count;
     each = λ o s pass is at.
         each_of (λ k p. (x : SharedView Object) → slice_get shared k ≡ Some x → p.id ≡ x.id) (λ k p was x stands. of.each k x p stands was)
-        (λ x stands. id_is ∙ of.each q.object x asked.pass stands asked.was) o pass at s is;
-    numbered = each_of (λ k p. p.id.object ≡ k) of.numbered (ap (λ (id : Identity Object). id.object) id_is ∙ of.numbered q.object asked.pass asked.was);
+        (λ x stands. asked.id_is ∙ of.each q.object x asked.pass stands asked.was) o pass at s is;
+    numbered = each_of (λ k p. p.id.object ≡ k) of.numbered (ap (λ (id : Identity Object). id.object) asked.id_is ∙ of.numbered q.object asked.pass asked.was);
   }
 
   -- ---- of an application
@@ -161,9 +160,9 @@ module _ (old new : List (PassView Object)) (q : Asking) (answer : Answer) (aske
     passes_are = record {
       count = many ∙ are.count;
       each = each_of (IsPassAt app) are.each (record {
-        object = ap (λ (id : Identity Object). id.object) id_is ∙ its.object;
-        start = ap (passes.start_of object_start) id_is ∙ its.start;
-        single = ap (λ (p : PassView Object). p.ended) asked.after_is ∙ its.single;
+        object = ap (λ (id : Identity Object). id.object) asked.id_is ∙ its.object;
+        start = ap (passes.start_of object_start) asked.id_is ∙ its.start;
+        single = asked.ended_is ∙ its.single;
         knows = asked.knows;
       });
     }

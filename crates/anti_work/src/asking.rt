@@ -2,7 +2,7 @@ ghost use Rattle.std.specs.Prelude.{◌≡◌, ◌<◌, length, slice_get, Some}
 ghost use Rattle.anti_kind.specs.Shipments.{IsShip};
 ghost use Rattle.anti_object.specs.Standing.{object_start};
 ghost use Rattle.anti_shared.specs.Passes.{GoesFrom, PassView, start_of};
-ghost use Rattle.anti_work.specs.inner.Knowing.{AreOf, IsAskedBy};
+ghost use Rattle.anti_work.specs.inner.Knowing.{AreOf, IsAskedBy, IsToldBy};
 
 use anti_kind::{Answer, Asking};
 use anti_object::Object;
@@ -37,4 +37,25 @@ pub(crate) fn ask<R: Wait>(
     // it tells what is true of each pass
     let _number = pass.number();
     answer
+}
+
+// How many versions, from the first on, are whole at a region of the shared object at a place, as the pass of that object is told. It does
+// not take the turn.
+pub(crate) fn upto(
+    shared: &[Shared<Object>],
+    passes: &mut Vec<Pass<Object>>,
+    object: u32,
+    region: u32,
+) -> u64
+    requires there { object < length shared.now }
+    requires of { AreOf shared.now passes.old.items }
+    requires region { region < 8 }
+    ensures { IsToldBy passes.old.items passes.new.items object }
+{
+    let at = object as usize;
+    let pass = &mut passes[at];
+    let upto = shared[at].upto(pass, region);
+    // it tells what is true of each pass
+    let _number = pass.number();
+    upto
 }

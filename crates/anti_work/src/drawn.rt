@@ -1,14 +1,17 @@
-ghost use Rattle.std.specs.Prelude.{◌≡◌, ◌<◌, IsTrue, length, true};
+ghost use Rattle.std.specs.Prelude.{◌≡◌, ◌<◌, IsTrue, Ok, false, length, true};
+ghost use Rattle.anti_app.specs.declared.app.App.{App};
 ghost use Rattle.anti_app.specs.Sound.{is_sound};
 ghost use Rattle.anti_work.specs.inner.Knowing.{AreOf};
 ghost use Rattle.anti_work.specs.inner.Rounds.{Anything, Comes};
 ghost use Rattle.anti_work.specs.inner.Tries.{IsWorkerOf};
 
+use crate::asking::upto;
 use crate::dealt::{is_dealt, service_count, sub_count};
 use crate::draw::Draw;
 use crate::goes::either;
 use crate::worker::{Awake, Stop, Worker};
 use anti_app::{App, inbox_number, object_count, position_on};
+use anti_ids::MOST_REGIONS;
 use anti_kind::Call;
 use anti_object::Object;
 use anti_shared::Shared;
@@ -218,8 +221,27 @@ impl Worker {
         Ok(made)
     }
 
-    // Asks for a shipment on a route of a part of its next version or of one behind it, or of what was shipped once more, where that is drawn.
-    // It tells whether the call was made.
+    // How many versions, from the first on, are whole where a route leads, as the worker is told without the store's turn. At what is not
+    // there none is.
+    fn whole_on(&mut self, shared: &[Shared<Object>], at: usize) -> u64
+        requires of { AreOf shared.now self.old.passes.items }
+        requires at { at < length self.old.routes.items }
+        ensures { (app : App) → Comes app shared.now self.old self.new Anything (Ok false) }
+    {
+        let route = &self.routes[at];
+        let store = route.store;
+        let region = route.region;
+        if store as usize >= shared.len() {
+            return 0;
+        }
+        if region as usize >= MOST_REGIONS {
+            return 0;
+        }
+        upto(shared, &mut self.passes, store, region)
+    }
+
+    // Asks for a shipment on a route of a part of a version above those that are whole there, or of what was shipped once more, where that is
+    // drawn. It tells whether the call was made.
     fn draw_ship<R: Wait>(
         &mut self,
         rt: &R,
@@ -227,6 +249,7 @@ impl Worker {
         shared: &[Shared<Object>],
         draw: &mut Draw,
         at: usize,
+        whole: u64,
     ) -> Result<bool, Stop>
         requires sound { IsTrue (is_sound app.now) }
         requires of { AreOf shared.now self.old.passes.items }
@@ -250,7 +273,7 @@ impl Worker {
             };
             return self.carry(rt, shared, store, again);
         }
-        let version = route.next.saturating_add(behind);
+        let version = whole.saturating_add(behind);
         let ship = Call::Ship {
             region,
             version,
@@ -259,7 +282,8 @@ impl Worker {
         self.carry(rt, shared, store, ship)
     }
 
-    // Asks for a shipment on a route: what is drawn, or else the first part of its next version. It tells whether a call was made.
+    // Asks for a shipment on a route: what is drawn, or else the first part of its next version. What is whole there it asks first, without the
+    // turn. It tells whether a call was made.
     fn ship_one<R: Wait>(
         &mut self,
         rt: &R,
@@ -274,7 +298,8 @@ impl Worker {
         requires at { at < length self.old.routes.items }
         ensures { Comes app.now shared.now self.old self.new Anything result }
     {
-        match self.draw_ship(rt, app, shared, draw, at) {
+        let whole = self.whole_on(shared, at);
+        match self.draw_ship(rt, app, shared, draw, at, whole) {
             Ok(made) => {
                 if made {
                     return Ok(true);

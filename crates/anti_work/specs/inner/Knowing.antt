@@ -10,7 +10,7 @@ use Rattle.anti_app.specs.Objects.{object_count}
 use Rattle.anti_object.specs.Starts.{start_of}
 use Rattle.anti_object.specs.Standing.{object_start}
 use Rattle.anti_object.specs.declared.object.Object.{Object}
-use Rattle.anti_shared.specs.Passes.{IsPass, PassView, SharedView, after_call, calls_of, view_of}
+use Rattle.anti_shared.specs.Passes.{IsPass, PassView, SharedView, calls_of, view_of}
 use Rattle.anti_shared.specs.Passes as passes
 use Rattle.anti_trace.specs.Traces.{entries_on}
 use Rattle.anti_work.specs.inner.Works.{IsWork}
@@ -62,8 +62,19 @@ pub record IsAskedBy (old new : List (PassView Object)) (q : Asking) (answer : A
   pub after : PassView Object
   pub was : slice_get old q.object ≡ Some pass
   pub is : new ≡ slice_set old q.object after
-  pub after_is : after ≡ after_call pass after.seen after.mine
+  pub id_is : after.id ≡ pass.id
+  pub number_is : after.number ≡ pass.number
+  pub ended_is : after.ended ≡ pass.ended
   pub answered : Answered (passes.start_of object_start pass.id) q (view_of pass) (view_of after) answer
+  pub knows : IsPass object_start after
+
+-- The pass of an object was told of a region. It notes that, and all else is as it was.
+pub record IsToldBy (old new : List (PassView Object)) (object : ℕ) : Type 0 where
+  pub pass : PassView Object
+  pub after : PassView Object
+  pub was : slice_get old object ≡ Some pass
+  pub is : new ≡ slice_set old object after
+  pub after_is : after ≡ record pass { loaded = after.loaded; loads = after.loads }
   pub knows : IsPass object_start after
 
 -- ---- what all of them know
