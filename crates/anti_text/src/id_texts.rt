@@ -142,8 +142,12 @@ impl IdTexts {
             (out.new ≡ out.old ++ flat_map (kept_text self.now.stores.items) lineage.now) }
     {
         let mut run = PieceRun { from: 0, to: 0 };
-        for id in lineage.iter() {
-            run = self.go_on(out, run, &id)?;
+        // an id stays where it was put, from where a `for` over the ids would copy it
+        let mut ids = lineage.iter();
+        let mut next = ids.next();
+        while let Some(id) = &next {
+            run = self.go_on(out, run, id)?;
+            next = ids.next();
         }
         self.pieces.write(out, run)
     }
