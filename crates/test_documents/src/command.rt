@@ -4,8 +4,13 @@ use crate::call_rows::{
     CallRow, NOTHING_AS_JSON, NOTHING_HAPPENED, STEP, STORE_ALONE, assert_rows, comes_to, is_so,
     served, step,
 };
-use anti_ids::{Bytes, LONGEST_DOCUMENT};
+use crate::past::WHOLE;
+use anti_command::antipode_plain;
+use anti_edge::{MemorySink, RealSource, SureSink, SureSource};
+use anti_ids::{Bytes, LONGEST_DOCUMENT, Value};
 use std::alloc::Global;
+use std::io;
+use std::io::Read;
 use std::process::Abort;
 
 // A process that writes, and reads what it wrote once that is shipped; and the record.
@@ -248,7 +253,7 @@ fn assert_reads(rt: &impl Abort, alloc: Global, document: &[u8]) {
     }
 }
 
-// Asserts that a failing write of a byte of the record is told, whichever it is.
+// Asserts that a failing write of a byte of the record is told, whichever it is, and that no line that can't be told changes that.
 fn assert_writes<'a>(rt: &impl Abort, alloc: Global, document: &'a [u8], record: &'a [u8]) {
     let mut write: u32 = 0;
     for taken in 0..record.len() {
@@ -258,7 +263,15 @@ fn assert_writes<'a>(rt: &impl Abort, alloc: Global, document: &'a [u8], record:
             write_fails: write,
             ..step(document, 4, &record[..taken], b"write fault\n")
         };
-        assert!(rt; is_so(alloc, &row), "write {write}");
+        let untold = CallRow {
+            line_fails: 1,
+            err: b"",
+            ..row
+        };
+        assert!(rt;
+            is_so(alloc, &row) && is_so(alloc, &untold),
+            "write {write}"
+        );
     }
 }
 
@@ -269,4 +282,104 @@ fn each_failing_read_and_write_is_told(rt: HostRuntime) {
     assert_writes(&rt, alloc, STORE_ALONE, NOTHING_HAPPENED);
     assert_reads(&rt, alloc, WRITE_AND_READ.as_bytes());
     assert_writes(&rt, alloc, WRITE_AND_READ.as_bytes(), WRITTEN_AND_READ);
+}
+
+// Fronts of the whole application: none of it, and its first line.
+static FRONTS: [CallRow; 2] = [
+    CallRow {
+        status: 5,
+        err: b"app 2 top 0 0\n",
+        ..STEP
+    },
+    CallRow {
+        document: b"regions = ['us', 'eu', 'ap']\n",
+        out: NOTHING_HAPPENED,
+        ..STEP
+    },
+];
+
+// The status of `step` on some bytes. `None` where memory runs out before the call.
+fn status_on(alloc: Global, document: &[u8]) -> Option<u8> {
+    let Ok(word) = Value::new(alloc, b"step") else {
+        return None;
+    };
+    let Ok(mut src) = SureSource::new(alloc, document) else {
+        return None;
+    };
+    let mut out = SureSink::new();
+    let mut err = SureSink::new();
+    Some(antipode_plain(alloc, &[word], &mut src, &mut out, &mut err).status)
+}
+
+#[test]
+fn a_document_that_is_cut_is_read_so_far(rt: HostRuntime) {
+    assert_rows(&rt, rt.alloc(), &FRONTS);
+}
+
+// Asserts that every second front of the whole application, from the one of so many bytes on, is played or refused.
+fn assert_fronts(rt: &impl Abort, alloc: Global, first: usize) {
+    let document = WHOLE.as_bytes();
+    for length in 0..document.len() {
+        if length % 2 != first {
+            continue;
+        }
+        let status = status_on(alloc, &document[..length]);
+        assert!(rt; status == Some(0) || status == Some(5), "{length} bytes");
+    }
+}
+
+#[test]
+fn each_front_of_even_length_is_played_or_refused(rt: HostRuntime) {
+    assert_fronts(&rt, rt.alloc(), 0);
+}
+
+#[test]
+fn each_front_of_odd_length_is_played_or_refused(rt: HostRuntime) {
+    assert_fronts(&rt, rt.alloc(), 1);
+}
+
+// A stream of the system that never ends, which gives so many bytes at most in one call, and counts them.
+#[derive(Drop)]
+struct Endless {
+    most: usize,
+    given: usize,
+}
+
+impl Read for Endless {
+    fn read(&mut self, buf: &mut [u8]) -> io::Result<usize> {
+        let count = self.most.min(buf.len());
+        self.given = self.given.saturating_add(count);
+        Ok(count)
+    }
+}
+
+// How many bytes it gives at most in one call, and how many it has given when no more are wanted.
+static ENDLESS: [(usize, usize); 3] = [
+    (1, LONGEST_DOCUMENT as usize + 1),
+    (4096, LONGEST_DOCUMENT as usize + 4096),
+    (usize::MAX, LONGEST_DOCUMENT as usize + 4096),
+];
+
+// Whether `step` on such a stream is told to be too long, and no more bytes were taken. `false` where memory runs out, too.
+fn is_cut_off(alloc: Global, most: usize, given: usize) -> bool {
+    let Ok(word) = Value::new(alloc, b"step") else {
+        return false;
+    };
+    let Ok(mut err) = MemorySink::new(alloc, 100, 10, &[]) else {
+        return false;
+    };
+    let mut stream = Endless { most, given: 0 };
+    let mut src = RealSource::new(&mut stream);
+    let status = antipode_plain(alloc, &[word], &mut src, &mut SureSink::new(), &mut err).status;
+    status == 5 && err.bytes() == b"too long\n".as_slice() && stream.given == given
+}
+
+#[test]
+fn an_endless_document_is_cut_off(rt: HostRuntime) {
+    for (most, given) in &ENDLESS {
+        assert!(rt;
+            is_cut_off(rt.alloc(), *most, *given),
+            "{most} bytes a call"
+        );
+    }
 }

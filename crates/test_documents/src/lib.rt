@@ -7,6 +7,10 @@ mod call_rows;
 #[cfg(test)]
 mod command;
 #[cfg(test)]
+mod finishes;
+#[cfg(test)]
+mod hostile;
+#[cfg(test)]
 mod loads;
 #[cfg(test)]
 mod orders;

@@ -192,8 +192,8 @@ span w.2/1 lossy s.3
 end 4088
 ";
 
-// Texts, and how often each stands in a document before the next.
-type Texts<'a> = &'a [(&'a str, u32)];
+/// Texts, and how often each stands in a document before the next.
+pub type Texts<'a> = &'a [(&'a str, u32)];
 
 // The choices by which eight processes make 57 calls each.
 static CALLS: [(&str, u32); 10] = [
@@ -265,8 +265,8 @@ fn add_times(document: &mut Bytes, text: &str, times: u32) -> bool {
     true
 }
 
-// Adds the texts. `false` where memory runs out.
-fn add_texts(document: &mut Bytes, texts: Texts) -> bool {
+/// Adds the texts. `false` where memory runs out.
+pub fn add_texts(document: &mut Bytes, texts: Texts) -> bool {
     for (text, times) in texts {
         if !add_times(document, text, *times) {
             return false;

@@ -354,3 +354,51 @@ fn a_foreign_message_starts_no_process(rt: HostRuntime) {
         assert!(rt; is_fault(rt.alloc(), *stated, *fault), "{stated:?}");
     }
 }
+
+// What the message of a reply might state, and why the process that asked then does not take it. `None` where it takes it.
+static REPLIES: [(Stated, Option<ProcFault>); 5] = [
+    (("tell", 1, "1;"), None),
+    (("tell", 1, ""), Some(ProcFault::Foreign)),
+    (("tell", 1, "1;s/k"), Some(ProcFault::Foreign)),
+    (("tell", 1, "1;s/k@1"), Some(ProcFault::Foreign)),
+    (("tell", 1, "1;s/k@1,"), Some(ProcFault::Foreign)),
+];
+
+// Why a process that an entry starts does not take a reply. `None` where it takes it.
+#[tactic(auto, using(anti_app::proofs::Runnable::can_run))]
+fn refusal_of(alloc: Global, app: &App, entry: &Entry, reply: &Reply) -> Option<ProcFault>
+    requires { IsTrue (is_sound app.now) }
+{
+    match Process::born(alloc, app, entry) {
+        Ok(mut process) => process.feed(app, 9, reply).err(),
+        Err(_) => Some(ProcFault::NoMemory),
+    }
+}
+
+// Whether this refusal comes where the reply to the first process of a run states this. `false` where memory runs out, too.
+fn is_refusal_in(alloc: Global, run: &PlayedRun, stated: Stated, fault: Option<ProcFault>) -> bool
+    requires { IsTrue (is_sound run.now.app) }
+{
+    let [first, .., last] = run.trace.as_slice() else {
+        return false;
+    };
+    match taken(alloc, last, stated) {
+        Some(entry) => refusal_of(alloc, &run.app, first, &entry.reply) == fault,
+        None => false,
+    }
+}
+
+// The same of the run of the repeated call, whose document has no store, and whose last entry takes the reply.
+fn is_refusal(alloc: Global, stated: Stated, fault: Option<ProcFault>) -> bool {
+    match run_of(alloc, REPEATED.as_bytes()) {
+        Some(run) => is_refusal_in(alloc, &run, stated, fault),
+        None => false,
+    }
+}
+
+#[test]
+fn a_foreign_reply_is_not_taken(rt: HostRuntime) {
+    for (stated, fault) in &REPLIES {
+        assert!(rt; is_refusal(rt.alloc(), *stated, *fault), "{stated:?}");
+    }
+}

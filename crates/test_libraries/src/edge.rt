@@ -122,25 +122,89 @@ fn an_error_of_the_system_is_a_fault(rt: HostRuntime) {
     }
 }
 
-// Whether all is read of a source in memory, of which a read fails that is never made.
-fn is_read_from_memory(alloc: Global) -> bool {
-    match MemorySource::new(alloc, b"hello", 2, &[9]) {
-        Ok(mut source) => is_read(alloc, &mut source, 5, Ok(b"hello")),
+// How many bytes a source in memory that has `hello` gives at most in one call, which of its calls fail, what comes of reading all where so
+// many bytes are allowed, and what is read behind that.
+type Reading = (
+    u32,
+    &'static [u32],
+    u32,
+    Result<&'static [u8], ReadRefused>,
+    &'static [u8],
+);
+
+// The end takes a call of its own.
+static READINGS: [Reading; 16] = [
+    (1, &[], 5, Ok(b"hello"), b""),
+    (2, &[], 5, Ok(b"hello"), b""),
+    (9, &[], 9, Ok(b"hello"), b""),
+    (2, &[9], 5, Ok(b"hello"), b""),
+    (1, &[1], 5, Err(ReadRefused::Fault), b"hello"),
+    (1, &[2], 5, Err(ReadRefused::Fault), b"ello"),
+    (1, &[5], 5, Err(ReadRefused::Fault), b"o"),
+    (1, &[6], 5, Err(ReadRefused::Fault), b""),
+    (2, &[2], 5, Err(ReadRefused::Fault), b"llo"),
+    (2, &[8, 3], 5, Err(ReadRefused::Fault), b"o"),
+    (9, &[2], 5, Err(ReadRefused::Fault), b""),
+    // what comes first decides: a fault, or the byte that is too many
+    (1, &[1], 0, Err(ReadRefused::Fault), b"hello"),
+    (1, &[5], 4, Err(ReadRefused::Fault), b"o"),
+    (1, &[7], 4, Err(ReadRefused::TooLong), b""),
+    (2, &[5], 3, Err(ReadRefused::TooLong), b"o"),
+    (9, &[3], 4, Err(ReadRefused::TooLong), b""),
+];
+
+// Whether reading comes to this of a source in memory, and reading on to what is left.
+fn is_read_so(alloc: Global, (most, fail, limit, first, left): &Reading) -> bool {
+    match MemorySource::new(alloc, b"hello", (*most).max(1), fail) {
+        Ok(mut source) => {
+            is_read(alloc, &mut source, *limit, *first) && is_read(alloc, &mut source, 5, Ok(*left))
+        }
         Err(_) => false,
     }
 }
 
-// Whether all is taken by a sink in memory, of which a write fails that is never made.
-fn is_written_to_memory(alloc: Global) -> bool {
-    let Ok(mut sink) = MemorySink::new(alloc, 5, 2, &[9]) else {
+#[test]
+fn a_source_in_memory_fails_where_it_is_told(rt: HostRuntime) {
+    for (number, reading) in READINGS.iter().enumerate() {
+        assert!(rt; is_read_so(rt.alloc(), reading), "reading {number}");
+    }
+}
+
+// How much room a sink in memory has, how many bytes it takes at most in one call, which of its calls fail, whether all of `hello` is taken
+// by it, what it then has, and what once `!` is written behind that.
+type Writing = (u32, u32, &'static [u32], bool, &'static [u8], &'static [u8]);
+
+static WRITINGS: [Writing; 12] = [
+    (6, 1, &[], true, b"hello", b"hello!"),
+    (6, 9, &[], true, b"hello", b"hello!"),
+    (6, 2, &[9], true, b"hello", b"hello!"),
+    (6, 1, &[1], false, b"", b"!"),
+    (6, 1, &[2], false, b"h", b"h!"),
+    (6, 1, &[5], false, b"hell", b"hell!"),
+    (6, 1, &[6], true, b"hello", b"hello"),
+    (6, 2, &[2], false, b"he", b"he!"),
+    (6, 2, &[8, 3], false, b"hell", b"hell!"),
+    // no room
+    (0, 9, &[], false, b"", b""),
+    (4, 9, &[], false, b"hell", b"hell"),
+    (5, 2, &[], true, b"hello", b"hello"),
+];
+
+// Whether writing comes to this at a sink in memory.
+fn is_written_so(alloc: Global, (room, most, fail, all, taken, then): &Writing) -> bool {
+    let Ok(mut sink) = MemorySink::new(alloc, *room, (*most).max(1), fail) else {
         return false;
     };
-    write_all(&mut sink, b"hello").is_ok() && sink.bytes() == b"hello".as_slice()
+    let is_first = write_all(&mut sink, b"hello").is_ok() == *all && sink.bytes() == *taken;
+    let _ = write_all(&mut sink, b"!");
+    is_first && sink.bytes() == *then
 }
 
 #[test]
-fn all_is_read_and_written_with_ample_memory(rt: HostRuntime) {
-    assert!(rt; is_read_from_memory(rt.alloc()) && is_written_to_memory(rt.alloc()));
+fn a_sink_in_memory_fails_where_it_is_told(rt: HostRuntime) {
+    for (number, writing) in WRITINGS.iter().enumerate() {
+        assert!(rt; is_written_so(rt.alloc(), writing), "writing {number}");
+    }
 }
 
 #[test]

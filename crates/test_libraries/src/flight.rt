@@ -2,6 +2,7 @@ ghost use Rattle.std.specs.Prelude.{IfSome};
 ghost use Rattle.anti_flight.specs.Tickets.{Holds};
 
 use anti_flight::{Flight, Ticket};
+use anti_ids::NoMemory;
 use std::alloc::Global;
 use std::sync::Wait;
 use std::thread::{Threads, join};
@@ -101,6 +102,29 @@ fn a_letter_leaves(rt: HostRuntime) {
     for row in &ROWS {
         assert!(rt; leaves(rt.alloc(), row) == Some(true), "{:?}", row.letters);
     }
+}
+
+// Whether each of these letters, which are not more than 32, is put in; or the first for which memory is refused comes back, and the list
+// is as it was.
+fn fills_or_keeps(alloc: Global, letters: &[u8]) -> bool {
+    if letters.len() > 32 {
+        return false;
+    }
+    let mut list = Flight::new(alloc);
+    for index in 0..letters.len() {
+        match list.push_back(letters[index]) {
+            Ok(_) => {}
+            Err((letter, NoMemory)) => {
+                return letter == letters[index] && has(&list, &letters[..index]);
+            }
+        }
+    }
+    has(&list, letters)
+}
+
+#[test]
+fn a_letter_without_memory_leaves_the_list(rt: HostRuntime) {
+    assert!(rt; fills_or_keeps(rt.alloc(), b"abcdefghijklmnopqrstuvwxyz"));
 }
 
 // Takes an item out, and lets the list go.

@@ -213,3 +213,15 @@ fn lists_have_the_room_that_they_reserve(rt: HostRuntime) {
     let alloc = rt.alloc();
     assert!(rt; is_copied(alloc) && are_bytes_kept(alloc) && are_lineages_kept(alloc));
 }
+
+// Whether what is empty gives nothing.
+fn are_empty(alloc: Global) -> bool {
+    let mut list: List<u32> = List::new(alloc);
+    let mut bytes = Bytes::new(alloc);
+    list.pop().is_none() && bytes.pop().is_none() && Lineage::root(alloc).last().is_none()
+}
+
+#[test]
+fn what_is_empty_gives_nothing(rt: HostRuntime) {
+    assert!(rt; are_empty(rt.alloc()));
+}

@@ -334,8 +334,8 @@ fn are_made<M: Machine, R: Wait + AllocGlobal>(
 enum OfPort {
     // To make a call, for an actor with this last stamp.
     Call(Asked, u64),
-    // To make a call that may wait.
-    CallWait(Asked),
+    // To make a call that may wait, for an actor with this last stamp.
+    CallWait(Asked, u64),
     // To write with a lineage that is full.
     WriteFull,
     // A barrier on this version of the key, which begins now.
@@ -403,14 +403,20 @@ fn call_goes<P: Port>(alloc: Global, port: &mut P, asked: Asked, clock: u64, tol
 }
 
 // Whether a call that may wait goes as it says.
-fn call_wait_goes<P: WaitPort>(alloc: Global, port: &mut P, asked: Asked, told: Told) -> bool
+fn call_wait_goes<P: WaitPort>(
+    alloc: Global,
+    port: &mut P,
+    asked: Asked,
+    clock: u64,
+    told: Told,
+) -> bool
     requires { IsHere (P.start port.old) 0 (0 ∷ []) }
     ensures { (o : ℕ) → P.start port.new o ≡ P.start port.old o }
 {
     let Some(call) = call_of(alloc, asked, 1) else {
         return false;
     };
-    is_told(&port.call_wait(0, Actor::Carrier(0), 0, 0, call), told)
+    is_told(&port.call_wait(0, Actor::Carrier(0), 0, clock, call), told)
 }
 
 // Whether a write with a lineage that is full goes as it says.
@@ -481,7 +487,7 @@ fn goes<P: WaitPort>(alloc: Global, port: &mut P, step: &Step) -> bool
 {
     match step.0 {
         OfPort::Call(asked, clock) => call_goes(alloc, port, asked, clock, step.1),
-        OfPort::CallWait(asked) => call_wait_goes(alloc, port, asked, step.1),
+        OfPort::CallWait(asked, clock) => call_wait_goes(alloc, port, asked, clock, step.1),
         OfPort::WriteFull => full_write_goes(alloc, port, step.1),
         OfPort::Barrier(version) => barrier_goes(alloc, port, version, step.1),
         OfPort::BarrierWait(version) => barrier_wait_goes(alloc, port, version, step.1),
@@ -648,6 +654,50 @@ fn go_through<M: Machine + Send, R: Threads + Wait + Sync + AllocGlobal>(
     }
 }
 
+// How many of so many writes are made, up to the first for which memory is refused. `None` where one is refused for another cause.
+fn written_before<M: Machine, R: Wait + AllocGlobal>(
+    rt: &R,
+    shared: &Shared<M>,
+    pass: &mut Pass<M>,
+    writes: u32,
+) -> Option<u32>
+    requires { pass.old.id ≡ shared.now.id }
+    ensures { pass.new.id ≡ pass.old.id }
+{
+    for made in 0..writes {
+        let Some(call) = write(rt.alloc()) else {
+            return Some(made);
+        };
+        match shared.call(rt, pass, Actor::Carrier(0), 0, 0, call) {
+            Answer::Made { .. } => {}
+            Answer::NoMemory => return Some(made),
+            _ => return None,
+        }
+    }
+    Some(writes)
+}
+
+// Whether a further pass of a new shared store makes some writes, up to the first for which memory is refused, and at the end the history
+// and the state have just those.
+fn keeps_what_is_made<R: Wait + AllocGlobal>(rt: &R, writes: u32) -> bool {
+    let Some((shared, mut pass)) = shared_store(rt.alloc()) else {
+        return true;
+    };
+    let Some(mut part) = split(&shared, &mut pass) else {
+        return false;
+    };
+    let Some(made) = written_before(rt, &shared, &mut part, writes) else {
+        return false;
+    };
+    shared.join(&mut pass, part);
+    ends(shared, pass, Wanted::Calls(made as usize))
+}
+
+#[test]
+fn a_write_without_memory_leaves_the_object(rt: HostRuntime) {
+    assert!(rt; keeps_what_is_made(&rt, 8));
+}
+
 const READS: Job = Job::Plan(Plan {
     carrier: 0,
     calls: 100,
@@ -725,6 +775,10 @@ fn a_full_object_still_makes_what_it_owes(rt: HostRuntime) {
 
 static REFUSED: [Stage; 1] = [Stage::Alone(Job::Steps(&[
     Step(OfPort::Call(Asked::Read, u64::MAX), Told::Spent(u64::MAX)),
+    Step(
+        OfPort::CallWait(Asked::Read, u64::MAX),
+        Told::Spent(u64::MAX),
+    ),
     Step(OfPort::Call(Asked::Ship, 0), Told::NotYet),
     Step(OfPort::WriteFull, Told::LineageFull(1)),
     Step(OfPort::Call(Asked::Ship, 0), Told::Made),
@@ -735,9 +789,24 @@ fn a_port_over_a_shared_store_refuses_with_the_cause(rt: HostRuntime) {
     assert!(rt; is_well(&rt, &REFUSED, Wanted::StillOut));
 }
 
+// A store that is filled, of which a call that may wait asks for more, and for what is owed.
+static WAITED_FULL: [Stage; 2] = [
+    Stage::Alone(Job::Rows(&[Row(Asked::Write, 2048, Told::Made)])),
+    Stage::Alone(Job::Steps(&[
+        Step(OfPort::CallWait(Asked::Write, 0), Told::Full(2048, 2048, 2)),
+        Step(OfPort::CallWait(Asked::Ship, 0), Told::Made),
+    ])),
+];
+
+#[test]
+fn a_call_that_may_wait_is_refused_where_there_is_no_room(rt: HostRuntime) {
+    assert!(rt; is_well(&rt, &WAITED_FULL, Wanted::StillOut));
+}
+
 static HELD: [Stage; 1] = [Stage::Alone(Job::Steps(&[
     Step(OfPort::Barrier(9), Told::Unwritten(9)),
-    Step(OfPort::CallWait(Asked::Write), Told::Made),
+    Step(OfPort::BarrierWait(9), Told::Unwritten(9)),
+    Step(OfPort::CallWait(Asked::Write, 0), Told::Made),
     Step(OfPort::Barrier(1), Told::NotYet),
     Step(OfPort::DryRun(1), Told::Missing(1)),
     Step(OfPort::Call(Asked::Ship, 0), Told::Made),

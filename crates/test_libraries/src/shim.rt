@@ -44,6 +44,8 @@ enum Asked<'a> {
     Lineage,
     // To go on with so many versions of another store as the lineage.
     Carry(u64),
+    // To go on with these versions of this store as the lineage.
+    Name(&'a [Version<'a>]),
     // To go on with this last stamp.
     Stamp(u64),
     // To write a value to a key, with the lineage.
@@ -190,16 +192,17 @@ fn is_held(answer: &BarrierAnswer, told: &Told) -> bool {
         (BarrierAnswer::Clear(sights), _) => is_count(sights.len(), told),
         (BarrierAnswer::NotYet, Told::NotYet) => true,
         (BarrierAnswer::Unwritten(id), Told::Unwritten(key, version)) => is_id(id, key, *version),
+        (BarrierAnswer::Full { held, owed, need }, Told::Full(full)) => {
+            (*held, *owed, *need) == *full
+        }
+        (BarrierAnswer::Spent { clock }, Told::Spent(last)) => clock == last,
         _ => false,
     }
 }
 
-// Whether a dry run named just the ids that are told.
-fn are_named(missing: &Result<Lineage, ShimFault>, told: &Told) -> bool {
-    let (Ok(missing), Told::Ids(wanted)) = (missing, told) else {
-        return false;
-    };
-    for (key, version) in *wanted {
+// Whether just these ids of the store 0 are missing.
+fn are_missing(missing: &Lineage, wanted: &[Version]) -> bool {
+    for (key, version) in wanted {
         let Ok(id) = id(0, key, *version) else {
             return false;
         };
@@ -210,9 +213,27 @@ fn are_named(missing: &Result<Lineage, ShimFault>, told: &Told) -> bool {
     missing.len() as usize == wanted.len()
 }
 
+// Whether a dry run gave what is told.
+fn are_named(missing: &Result<Lineage, ShimFault>, told: &Told) -> bool {
+    match (missing, told) {
+        (Ok(missing), Told::Ids(wanted)) => are_missing(missing, wanted),
+        (Ok(_), _) => false,
+        (Err(fault), _) => is_fault(fault, told),
+    }
+}
+
 // Goes on with so many versions of the store 1 as the lineage.
 fn carries(alloc: Global, session: &mut Session, count: u64) -> bool {
     let Ok(lineage) = versions(alloc, 1, b"k", count) else {
+        return false;
+    };
+    session.lineage = lineage;
+    true
+}
+
+// Goes on with these versions of the store 0 as the lineage.
+fn names_own(alloc: Global, session: &mut Session, ids: &[Version]) -> bool {
+    let Ok(lineage) = lineage(alloc, ids) else {
         return false;
     };
     session.lineage = lineage;
@@ -364,6 +385,7 @@ fn goes_once<K, M: Machine>(
         Asked::History => is_count(port.history().len(), told),
         Asked::Lineage => is_count(session.lineage.len() as usize, told),
         Asked::Carry(count) => carries(alloc, session, *count),
+        Asked::Name(ids) => names_own(alloc, session, ids),
         Asked::Stamp(clock) => {
             session.who.clock = *clock;
             true
@@ -428,8 +450,9 @@ fn wrong_step_of_kv(alloc: Global, steps: &[Step]) -> Option<usize> {
     wrong_step::<KvStore, Kv>(alloc, store, steps)
 }
 
-// A store that is filled, where a write with no room finds none for itself and the shipment that it would owe.
-static REFUSED: [Step; 9] = [
+// A store that is filled, where a write with no room finds none for itself and the shipment that it would owe; and behind all that it owed,
+// where nothing else finds room.
+static REFUSED: [Step; 14] = [
     Step(Asked::Has(0), Told::Done, 1),
     Step(Asked::Has(1), Told::Absent, 1),
     Step(Asked::Stamp(u64::MAX), Told::Done, 1),
@@ -438,12 +461,51 @@ static REFUSED: [Step; 9] = [
     Step(Asked::Put(b"k"), Told::Done, 2048),
     Step(Asked::Put(b"k"), Told::Full((2048, 2048, 2)), 1),
     Step(Asked::Ship(1, 1), Told::Done, 2048),
+    Step(Asked::Put(b"k"), Told::Full((4096, 0, 2)), 1),
+    Step(Asked::Read(By::Kv, b"k"), Told::Full((4096, 0, 1)), 1),
+    Step(Asked::Wait, Told::Full((4096, 0, 1)), 1),
+    Step(Asked::Barrier(&[(b"k", 1)]), Told::Full((4096, 0, 1)), 1),
+    Step(Asked::DryRun(&[(b"k", 1)]), Told::Full((4096, 0, 1)), 1),
     Step(Asked::History, Told::Count(4096), 1),
 ];
 
 #[test]
 fn a_port_refuses_with_the_cause(rt: HostRuntime) {
     assert_right(&rt, wrong_step_of_kv(rt.alloc(), &REFUSED));
+}
+
+// A read whose stamp is the last there is, and what comes behind it.
+static LAST_STAMP: [Step; 9] = [
+    Step(Asked::Put(b"k"), Told::Done, 1),
+    Step(Asked::Ship(1, 1), Told::Done, 1),
+    Step(Asked::Stamp(u64::MAX - 1), Told::Done, 1),
+    Step(Asked::Read(By::Kv, b"k"), Told::Row((1, b"v", 0)), 1),
+    Step(Asked::Put(b"k"), Told::Spent(u64::MAX), 1),
+    Step(Asked::Wait, Told::Spent(u64::MAX), 1),
+    Step(Asked::Barrier(&[(b"k", 1)]), Told::Spent(u64::MAX), 1),
+    Step(Asked::DryRun(&[(b"k", 1)]), Told::Spent(u64::MAX), 1),
+    Step(Asked::History, Told::Count(3), 1),
+];
+
+#[test]
+fn no_call_is_made_behind_the_last_stamp(rt: HostRuntime) {
+    assert_right(&rt, wrong_step_of_kv(rt.alloc(), &LAST_STAMP));
+}
+
+// A wait for an id that nobody wrote, and for one before and behind its shipment. The first makes its look, and so does the last.
+static WAITED: [Step; 7] = [
+    Step(Asked::Name(&[(b"k", 1)]), Told::Done, 1),
+    Step(Asked::Wait, Told::Unwritten(b"k", 1), 1),
+    Step(Asked::Put(b"k"), Told::Done, 1),
+    Step(Asked::Wait, Told::NotYet, 1),
+    Step(Asked::Ship(1, 1), Told::Done, 1),
+    Step(Asked::Wait, Told::Done, 1),
+    Step(Asked::History, Told::Count(4), 1),
+];
+
+#[test]
+fn a_wait_names_what_nobody_wrote(rt: HostRuntime) {
+    assert_right(&rt, wrong_step_of_kv(rt.alloc(), &WAITED));
 }
 
 // A barrier for an id that nobody wrote, and for one before and behind its shipment.
