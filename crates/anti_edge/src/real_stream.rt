@@ -4,11 +4,15 @@ ghost use Rattle.anti_ids.specs.Counts.{Rose};
 use crate::failed::Failed;
 use crate::sink::Sink;
 use crate::source::Source;
-use std::io::{Read, Write};
+use std::io::{ErrorKind, Read, Write};
 use std::marker::Model;
 
-/// A stream of the system as a source or a sink. It counts the stream's errors, and each write that took nothing of a piece. It tells
-/// nothing of the bytes, and is trusted to pass them on. Contracts see the count.
+// How often a read or a write is made that is interrupted each time.
+const MOST_TRIES: u32 = 64;
+
+/// A stream of the system as a source or a sink. It counts the stream's errors, and each write that took nothing of a piece. A read or a
+/// write that was interrupted is made again, some times at most. It tells nothing of the bytes, and is trusted to pass them on. Contracts
+/// see the count.
 #[derive(Drop)]
 pub struct RealStream<T> {
     inner: T,
@@ -60,10 +64,14 @@ impl<R: Read> Source for RealStream<R> {
     ghost faults = { λ s. s };
 
     fn read(&mut self, buf: &mut [u8]) -> Result<usize, Failed> {
-        match self.inner.read(buf) {
-            Ok(count) => Ok(count),
-            Err(_) => Err(self.fault()),
+        for _ in 0..MOST_TRIES {
+            match self.inner.read(buf) {
+                Ok(count) => return Ok(count),
+                Err(error) if error.kind() == ErrorKind::Interrupted => {}
+                Err(_) => return Err(self.fault()),
+            }
         }
+        Err(self.fault())
     }
 }
 
@@ -73,9 +81,13 @@ impl<W: Write> Sink for RealStream<W> {
     ghost faults = { λ s. s };
 
     fn write(&mut self, piece: &[u8]) -> Result<usize, Failed> {
-        match self.inner.write(piece) {
-            Ok(count) if count > 0 || piece.is_empty() => Ok(count),
-            _ => Err(self.fault()),
+        for _ in 0..MOST_TRIES {
+            match self.inner.write(piece) {
+                Ok(count) if count > 0 || piece.is_empty() => return Ok(count),
+                Err(error) if error.kind() == ErrorKind::Interrupted => {}
+                _ => return Err(self.fault()),
+            }
         }
+        Err(self.fault())
     }
 }

@@ -32,37 +32,44 @@ fn a_real_sink_passes_bytes_on(rt: HostRuntime) {
     assert!(rt; write_all(&mut sink, b"hello").is_ok() && kept.as_slice() == b"hello".as_slice());
 }
 
-// A stream of the system that moves one byte in a call, and fails one call behind so many. It counts its calls.
+// A stream of the system that moves one byte in a call, and behind so many calls fails some. It counts its calls.
 #[derive(Drop)]
 struct Failing {
     before: u8,
+    times: u8,
     kind: ErrorKind,
     calls: u32,
 }
 
 impl Failing {
     // No call was made yet.
-    fn new(before: u8, kind: ErrorKind) -> Failing {
+    fn new(before: u8, times: u8, kind: ErrorKind) -> Failing {
         Failing {
             before,
+            times,
             kind,
             calls: 0,
         }
     }
 
-    // Counts one more call, and fails it where it is the one.
+    // How many calls there are up to the last that fails.
+    fn last(&self) -> u32 {
+        u32::from(self.before) + u32::from(self.times)
+    }
+
+    // Counts one more call, and fails it where it is one of those.
     fn begin(&mut self) -> io::Result<()> {
         let count = self.calls;
         self.calls = count.saturating_add(1);
-        if count == u32::from(self.before) {
+        if count >= u32::from(self.before) && count < self.last() {
             return Err(self.kind.into());
         }
         Ok(())
     }
 
-    // Whether the call that failed was made, and none behind it.
+    // Whether the last call that fails was made, and none behind it.
     fn ended(&self) -> bool {
-        self.calls == u32::from(self.before) + 1
+        self.calls == self.last()
     }
 }
 
@@ -88,19 +95,24 @@ impl Write for Failing {
     }
 }
 
-// How many calls go well before one fails, and how that one fails.
-static FAILURES: [(u8, ErrorKind); 6] = [
-    (0, ErrorKind::Other),
-    (0, ErrorKind::UnexpectedEof),
-    (0, ErrorKind::WriteZero),
-    (1, ErrorKind::BrokenPipe),
-    (4, ErrorKind::UnexpectedEof),
-    (4, ErrorKind::StorageFull),
+// How many calls go well before some fail, how many fail, and how.
+type Failure = (u8, u8, ErrorKind);
+
+// An interrupted call is made 64 times.
+static FAILURES: [Failure; 8] = [
+    (0, 1, ErrorKind::Other),
+    (0, 1, ErrorKind::UnexpectedEof),
+    (0, 1, ErrorKind::WriteZero),
+    (1, 1, ErrorKind::BrokenPipe),
+    (4, 1, ErrorKind::UnexpectedEof),
+    (4, 1, ErrorKind::StorageFull),
+    (0, 64, ErrorKind::Interrupted),
+    (4, 64, ErrorKind::Interrupted),
 ];
 
 // Whether a read that fails is told as a fault, counted once, and the last.
-fn is_read_fault(alloc: Global, before: u8, kind: ErrorKind) -> bool {
-    let mut stream = Failing::new(before, kind);
+fn is_read_fault(alloc: Global, (before, times, kind): Failure) -> bool {
+    let mut stream = Failing::new(before, times, kind);
     let mut source = RealSource::new(&mut stream);
     is_read(alloc, &mut source, 5, Err(ReadRefused::Fault))
         && source.faults() == 1
@@ -108,17 +120,42 @@ fn is_read_fault(alloc: Global, before: u8, kind: ErrorKind) -> bool {
 }
 
 // Whether a write that fails is told as a fault, counted once, and the last.
-fn is_write_fault(before: u8, kind: ErrorKind) -> bool {
-    let mut stream = Failing::new(before, kind);
+fn is_write_fault((before, times, kind): Failure) -> bool {
+    let mut stream = Failing::new(before, times, kind);
     let mut sink = RealSink::new(&mut stream);
     write_all(&mut sink, b"hello").is_err() && sink.faults() == 1 && stream.ended()
 }
 
 #[test]
 fn an_error_of_the_system_is_a_fault(rt: HostRuntime) {
-    for (before, kind) in &FAILURES {
-        let is_told = is_read_fault(rt.alloc(), *before, *kind) && is_write_fault(*before, *kind);
-        assert!(rt; is_told, "behind {before} calls, {kind}");
+    for (number, failure) in FAILURES.iter().enumerate() {
+        let is_told = is_read_fault(rt.alloc(), *failure) && is_write_fault(*failure);
+        assert!(rt; is_told, "failure {number}");
+    }
+}
+
+// How many calls go well before some are interrupted, and how many are, which is not too often.
+static INTERRUPTIONS: [(u8, u8); 4] = [(0, 1), (0, 63), (1, 1), (4, 63)];
+
+// Whether more than five bytes are found all the same where a stream without an end is read, and nothing is a fault.
+fn is_read_on(alloc: Global, before: u8, times: u8) -> bool {
+    let mut stream = Failing::new(before, times, ErrorKind::Interrupted);
+    let mut source = RealSource::new(&mut stream);
+    is_read(alloc, &mut source, 5, Err(ReadRefused::TooLong)) && source.faults() == 0
+}
+
+// Whether all is written all the same, and nothing is a fault.
+fn is_written_on(before: u8, times: u8) -> bool {
+    let mut stream = Failing::new(before, times, ErrorKind::Interrupted);
+    let mut sink = RealSink::new(&mut stream);
+    write_all(&mut sink, b"hello").is_ok() && sink.faults() == 0
+}
+
+#[test]
+fn an_interrupted_call_is_made_again(rt: HostRuntime) {
+    for (before, times) in &INTERRUPTIONS {
+        let is_made = is_read_on(rt.alloc(), *before, *times) && is_written_on(*before, *times);
+        assert!(rt; is_made, "{times} times behind {before} calls");
     }
 }
 
