@@ -1,4 +1,4 @@
-ghost use Rattle.std.specs.Prelude.{OnErr, OnOk, ◌≡◌};
+ghost use Rattle.std.specs.Prelude.{IsOk, OnErr, OnOk, ◌≡◌, ◌<◌};
 ghost use Rattle.anti_ids.specs.ListCalls.{pushed};
 
 use crate::list::List;
@@ -9,6 +9,7 @@ impl<T: Drop> List<T> {
     pub fn add(&mut self, item: T) -> Result<(), NoMemory>
         ensures ok { OnOk result (self.new ≡ pushed self.old item) }
         ensures err { OnErr result (self.new ≡ self.old) }
+        ensures room { 0 < self.old.spare → IsOk result }
     {
         match self.push(item) {
             Ok(()) => Ok(()),

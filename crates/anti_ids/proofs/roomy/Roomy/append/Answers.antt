@@ -1,4 +1,5 @@
-use Rattle.std.proofs.Common.{◌≡◌, ◌+◌, ◌-◌, ◌≤◌, false, List, length, ap, ◌∙◌, rules, vec_len, vec_capacity}
+use Rattle.std.proofs.Common.{◌≡◌, ◌+◌, ◌-◌, ◌≤◌, false, List, length, ap, ◌∙◌, arith, rules, vec_len, vec_capacity}
+use Rattle.std.proofs.lemmas.Grind.{common_steps}
 use Rattle.anti_ids.specs.declared.id.WriteId.{WriteId}
 use Rattle.anti_ids.specs.declared.limits.TheConstants.{MOST_IDS}
 use Rattle.anti_ids.specs.Ids.{has_id, with_id}
@@ -25,3 +26,18 @@ pub returns-clause-members : goal.returns-clause-members
 returns-clause-members c = λ i.
     let is : c.put_at.new.ids.items ≡ with_id c.args.id c.args.self.now.ids = search rules in
     ap (λ (x : List WriteId). has_id i x) is ∙ has_id-with_id i c.args.id c.args.self.now.ids
+
+pub overflow_sub-self : goal.overflow_sub-self
+overflow_sub-self c = grind (arith, common_steps)
+
+pub put_at-requires-clause-room : goal.put_at-requires-clause-room
+put_at-requires-clause-room c = grind (arith, common_steps)
+
+pub returns-clause-fits : goal.returns-clause-fits
+returns-clause-fits c = grind (arith, common_steps)
+
+pub returns-clause-spare : goal.returns-clause-spare
+returns-clause-spare c = grind (arith, common_steps)
+
+pub returns-then-len-eq-MOST_IDS-clause-full : goal.returns-then-len-eq-MOST_IDS-clause-full
+returns-then-len-eq-MOST_IDS-clause-full c = grind (arith, common_steps)
