@@ -1,5 +1,6 @@
 mod Behind
 mod Bytes
+mod Fronts
 mod Joined
 mod Marks
 mod Readable

@@ -1,4 +1,4 @@
-ghost use Rattle.std.specs.Prelude.{◌≡◌, ◌++◌, decimal, OnOk, IfOk};
+ghost use Rattle.std.specs.Prelude.{◌≡◌, ◌++◌, ℕ, decimal, take, OnErr, OnOk, IfOk};
 ghost use Rattle.anti_ids.specs.List.{plain};
 ghost use Rattle.anti_baggage.specs.Texts.{id_text, lineage_text, store_name};
 
@@ -21,6 +21,7 @@ fn store_name(stores: &[Name], store: u32) -> &[u8]
 fn add_number(text: &mut List<u8>, number: u64) -> Result<(), NoMemory>
     requires { text.old.spare ≡ 0 }
     ensures ok { OnOk result (text.new ≡ plain (text.old.items ++ decimal number)) }
+    ensures err { OnErr result (text.new ≡ text.old) }
     ensures spare { text.new.spare ≡ 0 }
 {
     let mut digits = Buffer::new();
@@ -28,10 +29,11 @@ fn add_number(text: &mut List<u8>, number: u64) -> Result<(), NoMemory>
 }
 
 /// Adds an id at the end of a text without room, over the names of the stores by their numbers. The id of a store that is not there
-/// is written without a name.
+/// is written without a name. Where memory runs out, a front of the id's text is added.
 pub fn add_id(text: &mut List<u8>, stores: &[Name], id: &WriteId) -> Result<(), NoMemory>
     requires { text.old.spare ≡ 0 }
     ensures ok { OnOk result (text.new ≡ plain (text.old.items ++ id_text stores.now id.now)) }
+    ensures err { OnErr result ((count : ℕ) × (text.new ≡ plain (text.old.items ++ take count (id_text stores.now id.now)))) }
     ensures spare { text.new.spare ≡ 0 }
 {
     escape(text, store_name(stores, id.store))?;
