@@ -9,13 +9,12 @@ pub fn are_same_names(one: &[Name], other: &[Name]) -> bool
     one == other
 }
 
-// Whether it is this id that comes next.
-#[tactic(auto, using(anti_ids::proofs::IdLemmas::same_id))]
+// Whether it is this id that comes next. They are tested for being equal, which is cheaper than to find their order.
 fn is_next(next: Option<WriteId>, id: &WriteId) -> bool
     ensures { IsTrue result → next ≡ Some id.now }
 {
     match next {
-        Some(next) => next.cmp(id).is_eq(),
+        Some(next) => next == *id,
         None => false,
     }
 }
