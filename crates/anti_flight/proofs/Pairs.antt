@@ -7,6 +7,7 @@ use Rattle.anti_flight.specs.declared.ticket.Ticket.{Ticket}
 use Rattle.anti_flight.specs.Tickets.{InFlight, Holds, Rises, first_ticket, has_number}
 use Rattle.anti_flight.specs.inner.Linked.{Linked, linked, IsAt, AtNode, IsFirst, IsLast}
 use Rattle.anti_flight.specs.inner.Standing.{ticket_of, pair_of, pairs_of, nodes_of, shown, Stands}
+use Rattle.anti_flight.proofs.Items.{at_index}
 use Rattle.anti_flight.proofs.Splits.{cons_head, cons_tail}
 use Rattle.anti_flight.proofs.Rising.{rises_without, rises_pushed, below_later}
 
@@ -176,13 +177,6 @@ module _ {T : Type 0} where
 
   pub pairs_pushed : (ns new : List (Node T)) (p : Ptr) (h : Held T) → new ≡ ns ++ linked p h ∷ [] → pairs_of new ≡ pairs_of ns ++ pair_of (linked p h) ∷ []
   pairs_pushed ns new p h e = ap pairs_of e ∙ pairs_at ns (linked p h) []
-
-  -- the pairs from an index on begin with the pair of their first ticket
-  pub at_index : (i : ℕ) (ps : List (Ticket × T)) (t : Ticket) → first_ticket (drop i ps) ≡ Some t → (x : T) × (drop i ps ≡ (t, x) ∷ drop (suc i) ps) × (ps ≡ take i ps ++ (t, x) ∷ drop (suc i) ps)
-  at_index zero [] t e = absurd cc
-  at_index zero (p ∷ ps) t e = let same : p.0 ≡ t = cc in (p.1, (λ j. (same j, p.1) ∷ ps), (λ j. (same j, p.1) ∷ ps))
-  at_index (suc i) [] t e = absurd cc
-  at_index (suc i) (p ∷ ps) t e = let on = at_index i ps t e in (on.0, on.1, ap (λ l. p ∷ l) on.2)
 
   -- one index on, where the pair there has another number
   pub one_on : (i : ℕ) (ps : List (Ticket × T)) (t : Ticket) (n : ℕ) (next : Option Ticket) → first_ticket (drop i ps) ≡ Some t → (t.number ≡ n → ⊥)

@@ -6,18 +6,11 @@ use Rattle.std.proofs.lemmas.List.Elements.{filter-append}
 use Rattle.anti_flight.specs.declared.ticket.Ticket.{Ticket}
 use Rattle.anti_flight.specs.Tickets.{InFlight, in_flight, first_ticket}
 use Rattle.anti_flight.specs.Queued.{queued, items_of, seen}
-use Rattle.anti_flight.proofs.Items.{length_items, items_append}
+use Rattle.anti_flight.proofs.Items.{at_index, length_items, items_append}
 use Rattle.anti_inbox.proofs.Lists.{filter-most}
 
 abbrev pub Pairs : Type 0
 Pairs = List (Ticket × ℕ)
-
--- the pairs from an index on begin with the pair of their first ticket
-pub at_index : (i : ℕ) (ps : Pairs) (t : Ticket) → first_ticket (drop i ps) ≡ Some t → (x : ℕ) × (drop i ps ≡ (t, x) ∷ drop (suc i) ps) × (ps ≡ take i ps ++ (t, x) ∷ drop (suc i) ps)
-at_index zero [] t e = absurd cc
-at_index zero (p ∷ ps) t e = let same : p.0 ≡ t = cc in (p.1, (λ j. (same j, p.1) ∷ ps), (λ j. (same j, p.1) ∷ ps))
-at_index (suc i) [] t e = absurd cc
-at_index (suc i) (p ∷ ps) t e = let on = at_index i ps t e in (on.0, on.1, ap (λ (l : Pairs). p ∷ l) on.2)
 
 -- there is a ticket at each index within
 pub some_ticket : (i : ℕ) (ps : Pairs) → i < length ps → (t : Ticket) × (first_ticket (drop i ps) ≡ Some t)

@@ -1,6 +1,7 @@
 use Rattle.std.proofs.Common.{suc, take, drop, sym, ◌∙◌}
 use Rattle.anti_flight.proofs.Given.{found_held}
-use Rattle.anti_flight.proofs.Pairs.{at_index, one_on}
+use Rattle.anti_flight.proofs.Items.{at_index}
+use Rattle.anti_flight.proofs.Pairs.{one_on}
 use Rattle.anti_flight.proofs.flight.Flight.holds.Goals as goal
 
 pub after-at-requires : goal.after-at-requires
