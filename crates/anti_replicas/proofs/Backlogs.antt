@@ -1,8 +1,8 @@
--- The versions that a region does not have: what a mark, a new version and a new base make of them, and how far they tell that it has all.
-use Rattle.std.proofs.Common.{◌≡◌, ◌≢◌, ℕ, zero, suc, ◌+◌, ◌-◌, ◌<◌, ◌≤◌, Bool, true, false, cond, List, [], ◌∷◌, ◌++◌, length, map, get_or, set, take, replicate, Option, Some, None, ⊎_elim, refl, sym, ap, subst, ◌∙◌, ◌==◌, eq-eqb, ne_eqb, append-nil, append_assoc, true≢false, arith}
+-- The groups of versions that a region does not have: what a mark, a new version and a new base make of them, and how far they tell that it has all.
+use Rattle.std.proofs.Common.{◌≡◌, ◌≢◌, ℕ, zero, suc, ◌+◌, ◌-◌, ◌*◌, ◌<◌, ◌≤◌, Bool, true, false, cond, List, [], ◌∷◌, ◌++◌, length, map, get_or, set, take, Option, Some, ⊎_elim, refl, sym, ap, subst, ◌∙◌, ◌==◌, eq-eqb, ne_eqb, append-nil, append_assoc, true≢false, arith}
 use Rattle.std.specs.List.{AllByRecursion, list_any, prefix_len}
 use Rattle.std.proofs.lemmas.Bool.{cases_eq, or_from, true_from_ne_false}
-use Rattle.std.proofs.lemmas.List.{map_push, length_push, length-append, length-map, length-replicate, length-set, map-set, set-append_left, set-get_or, get_or-map, get_or_default, get_or-set_same, get_or-set_other}
+use Rattle.std.proofs.lemmas.List.{map_push, length_push, length-append, length-map, length-set, map-set, set-get_or, get_or-map, get_or_default, get_or-set_same, get_or-set_other}
 use Rattle.std.proofs.lemmas.List.Folds.{list_any_at, list_any_more}
 use Rattle.anti_flight.specs.declared.ticket.Ticket.{Ticket}
 use Rattle.anti_flight.specs.Queued.{Queued, queued, items_of, seen}
@@ -10,6 +10,7 @@ use Rattle.anti_flight.specs.Tickets.{InFlight, in_flight, Holds, first_ticket}
 use Rattle.anti_replicas.specs.declared.kept_write.KeptWrite.{KeptWrite}
 use Rattle.anti_replicas.specs.inner.Backlogs.{IsFirst, first, remove_first, passed, places_off, wholes, IsBehind, AreBehind, AreBelow, HaveNext}
 use Rattle.anti_replicas.specs.inner.Marks.{has_all}
+use Rattle.anti_replicas.proofs.Groups.{groups, groups_length, groups_push, groups_more}
 
 -- The places of what is false.
 
@@ -46,75 +47,36 @@ passed_from n (true ∷ bs) least =
     ap (λ (k : ℕ). passed (places_off (n + 1) bs) k) on ∙ rest ∙ omega arith
 passed_from n (false ∷ bs) least = omega arith
 
--- A region has all up to the first version that it does not have, and where it has each it has all.
+-- A region has all up to the first group that it does not have, and where it has each it has all.
 pub off_passed : (bs : List Bool) → passed (places_off 1 bs) (length bs) ≡ prefix_len (λ b. b) bs
 off_passed bs =
     let all : length bs ≡ 1 + length bs - 1 = omega arith in
     let count : 1 - 1 + prefix_len (λ b. b) bs ≡ prefix_len (λ b. b) bs = omega arith in
     ap (λ (k : ℕ). passed (places_off 1 bs) k) all ∙ passed_from 1 bs (omega arith) ∙ count
 
-first_from : (n : ℕ) (bs : List Bool) (v : ℕ) → first (places_off n bs) ≡ Some v → v ≡ n + prefix_len (λ b. b) bs
-first_from n [] v is = absurd (cc)
-first_from n (true ∷ bs) v is = let on : v ≡ n + 1 + prefix_len (λ b. b) bs = first_from (n + 1) bs v is in omega arith
-first_from n (false ∷ bs) v is = let here : n ≡ v = cc in omega arith
-
-pub off_first : (bs : List Bool) (v : ℕ) → first (places_off 1 bs) ≡ Some v → (1 ≤ v) × (v - 1 ≡ prefix_len (λ b. b) bs)
-off_first bs v is = let on : v ≡ 1 + prefix_len (λ b. b) bs = first_from 1 bs v is in (omega arith, omega arith)
-
-none_from : (n : ℕ) (bs : List Bool) → first (places_off n bs) ≡ None → prefix_len (λ b. b) bs ≡ length bs
-none_from n [] none = refl
-none_from n (true ∷ bs) none = let rest : prefix_len (λ b. b) bs ≡ length bs = none_from (n + 1) bs none in omega arith
-none_from n (false ∷ bs) none = absurd (cc)
-
-pub off_none : (bs : List Bool) → first (places_off 1 bs) ≡ None → prefix_len (λ b. b) bs ≡ length bs
-off_none bs none = none_from 1 bs none
-
--- Which versions are whole at a region.
+-- Which groups are whole at a region.
 
 module _ (g : ℕ) where
   -- a write that is kept and nowhere yet is as one that is not kept
-  pub wholes_kept : (ks : List KeptWrite) (k : KeptWrite) → has_all g k ≡ false → wholes g (ks ++ k ∷ []) (length ks + 1) ≡ wholes g ks (length ks + 1)
-  wholes_kept ks k off =
-      let none : length ks + 1 - length (ks ++ k ∷ []) ≡ 0 = omega (arith, length_push ks k) in
-      let one : length ks + 1 - length ks ≡ 1 = omega arith in
-      ap (λ (n : ℕ). map (has_all g) (ks ++ k ∷ []) ++ replicate n false) none
-      ∙ append-nil (map (has_all g) (ks ++ k ∷ []))
-      ∙ map_push (has_all g) ks k
-      ∙ ap (λ (b : Bool). map (has_all g) ks ++ b ∷ []) off
-      ∙ sym (ap (λ (n : ℕ). map (has_all g) ks ++ replicate n false) one)
-
-  pub wholes_set : (i : ℕ) (ks : List KeptWrite) (k : KeptWrite) (last : ℕ) → i < length ks → wholes g (set ks i k) last ≡ set (wholes g ks last) i (has_all g k)
-  wholes_set i ks k last within =
-      let here : i < length (map (has_all g) ks) = omega (arith, length-map ks (has_all g)) in
-      ap (λ (n : ℕ). map (has_all g) (set ks i k) ++ replicate (last - n) false) (length-set ks i k)
-      ∙ ap (λ (bs : List Bool). bs ++ replicate (last - length ks) false) (map-set (has_all g) ks i k)
-      ∙ sym (set-append_left (map (has_all g) ks) (replicate (last - length ks) false) i (has_all g k) here)
+  pub wholes_kept : (ks : List KeptWrite) (k : KeptWrite) (count : ℕ) → has_all g k ≡ false → wholes g (ks ++ k ∷ []) count ≡ wholes g ks count
+  wholes_kept ks k count off =
+      ap (λ (bs : List Bool). groups bs count) (map_push (has_all g) ks k ∙ ap (λ (b : Bool). map (has_all g) ks ++ b ∷ []) off)
+      ∙ groups_push (map (has_all g) ks) count
 
   -- what is kept of a write changed, and it is whole if and only if it was
-  pub wholes_same : (i : ℕ) (ks : List KeptWrite) (k d : KeptWrite) (last : ℕ) → i < length ks → has_all g k ≡ has_all g (get_or ks i d) → wholes g (set ks i k) last ≡ wholes g ks last
-  wholes_same i ks k d last within same =
-      ap (λ (n : ℕ). map (has_all g) (set ks i k) ++ replicate (last - n) false) (length-set ks i k)
-      ∙ ap (λ (bs : List Bool). bs ++ replicate (last - length ks) false) (
+  pub wholes_same : (i : ℕ) (ks : List KeptWrite) (k d : KeptWrite) (count : ℕ) → i < length ks → has_all g k ≡ has_all g (get_or ks i d)
+      → wholes g (set ks i k) count ≡ wholes g ks count
+  wholes_same i ks k d count within same =
+      ap (λ (bs : List Bool). groups bs count) (
       map-set (has_all g) ks i k
       ∙ ap (λ (b : Bool). set (map (has_all g) ks) i b) (same ∙ sym (get_or-map (has_all g) ks i d true within))
       ∙ set-get_or (map (has_all g) ks) i true
       )
 
-  pub wholes_length : (ks : List KeptWrite) (last : ℕ) → length ks ≤ last → length (wholes g ks last) ≡ last
-  wholes_length ks last within =
-      omega (arith, length-append (map (has_all g) ks) (replicate (last - length ks) false), length-map ks (has_all g), length-replicate (last - length ks) false)
-
-  none_passes : (n : ℕ) → prefix_len (λ b. b) (replicate n false) ≡ 0
-  none_passes zero = refl
-  none_passes (suc n) = refl
-
-  prefix_of : (n : ℕ) (ks : List KeptWrite) → prefix_len (λ b. b) (map (has_all g) ks ++ replicate n false) ≡ prefix_len (has_all g) ks
-  prefix_of n [] = none_passes n
-  prefix_of n (k ∷ ks) = ap (λ (m : ℕ). cond (has_all g k) (1 + m) 0) (prefix_of n ks)
-
-  -- those that are not kept yet count for nothing
-  pub wholes_prefix : (ks : List KeptWrite) (last : ℕ) → prefix_len (λ b. b) (wholes g ks last) ≡ prefix_len (has_all g) ks
-  wholes_prefix ks last = prefix_of (last - length ks) ks
+  -- so many versions are there as pass
+  pub wholes_prefix : (ks : List KeptWrite) → prefix_len (λ b. b) (map (has_all g) ks) ≡ prefix_len (has_all g) ks
+  wholes_prefix [] = refl
+  wholes_prefix (k ∷ ks) = ap (λ (m : ℕ). cond (has_all g k) (1 + m) 0) (wholes_prefix ks)
 
 -- A new base, whose regions wait for nothing.
 
@@ -133,29 +95,24 @@ behind_new regions backlogs count new = record {
   none = λ g d low off. new g d low;
 }
 
--- The next version, put into backlogs.
-
--- a version that is not kept yet is whole nowhere
-wholes_more : (g : ℕ) (ks : List KeptWrite) → wholes g ks (length ks + 1) ≡ wholes g ks (length ks) ++ false ∷ []
-wholes_more g ks =
-    let one : length ks + 1 - length ks ≡ 1 = omega arith in
-    let none : length ks - length ks ≡ 0 = omega arith in
-    ap (λ (n : ℕ). map (has_all g) ks ++ replicate n false) one
-    ∙ sym (ap (λ (n : ℕ). (map (has_all g) ks ++ replicate n false) ++ false ∷ []) none ∙ ap (λ (bs : List Bool). bs ++ false ∷ []) (append-nil (map (has_all g) ks)))
+-- The group of the next version, put into backlogs.
 
 module _ (ks : List KeptWrite) where
-  behind_more : (g : ℕ) (backlog : Queued ℕ) → IsBehind g ks backlog → backlog.next ≡ length ks → IsBehind g ks (queued (backlog.items ++ (backlog.next + 1) ∷ []) (backlog.next + 1))
+  behind_more : (g : ℕ) (backlog : Queued ℕ) → IsBehind g ks backlog → backlog.next * 8 ≤ length ks
+      → IsBehind g ks (queued (backlog.items ++ (backlog.next + 1) ∷ []) (backlog.next + 1))
   behind_more g backlog behind full =
-      let place : 1 + length (wholes g ks (length ks)) ≡ backlog.next + 1 = omega (arith, wholes_length g ks (length ks) (omega arith), full) in
+      let bs : List Bool = map (has_all g) ks in
+      let all : length bs ≤ backlog.next * 8 = omega (arith, length-map ks (has_all g), behind.least) in
+      let place : 1 + length (wholes g ks backlog.next) ≡ backlog.next + 1 = omega (arith, groups_length bs backlog.next) in
       record {
-        items = ap (λ (vs : List ℕ). vs ++ (backlog.next + 1) ∷ []) (behind.items ∙ ap (λ (n : ℕ). places_off 1 (wholes g ks n)) full)
+        items =
+            ap (λ (vs : List ℕ). vs ++ (backlog.next + 1) ∷ []) behind.items
             ∙ sym (
-            ap (λ (n : ℕ). places_off 1 (wholes g ks (n + 1))) full
-            ∙ ap (places_off 1) (wholes_more g ks)
-            ∙ off_push 1 (wholes g ks (length ks))
-            ∙ ap (λ (k : ℕ). places_off 1 (wholes g ks (length ks)) ++ k ∷ []) place
+            ap (places_off 1) (groups_more bs backlog.next all)
+            ∙ off_push 1 (wholes g ks backlog.next)
+            ∙ ap (λ (k : ℕ). places_off 1 (wholes g ks backlog.next) ++ k ∷ []) place
             );
-        least = omega (arith, full);
+        least = omega (arith, behind.least);
         most = omega (arith, full);
       }
 
@@ -175,7 +132,7 @@ module _ (ks : List KeptWrite) where
       within : r < length backlogs
       within = omega (arith, behind.count)
 
--- The region at an index waits for the next version, if it does not have it yet.
+-- The region at an index gets the group of the next version, if it does not have it yet.
 module _ (ks : List KeptWrite) (regions : List ℕ) (i r : ℕ) (short : i < length regions) (here : r ≡ get_or regions i r) (below : AreBelow regions)
     (backlogs : List (Queued ℕ)) (behind : AreBehind regions ks backlogs) (have : HaveNext (take i regions) ks backlogs)
     (d : Queued ℕ) where
@@ -194,10 +151,10 @@ module _ (ks : List KeptWrite) (regions : List ℕ) (i r : ℕ) (short : i < len
   its_own : IsBehind r ks backlog
   its_own = behind.behind r d below_eight listed
 
-  have_more : (now : List (Queued ℕ)) → ((e : Queued ℕ) → (get_or now r e).next ≡ length ks + 1) → ((g : ℕ) (e : Queued ℕ) → g ≢ r → get_or now g e ≡ get_or backlogs g e)
+  have_more : (now : List (Queued ℕ)) → ((e : Queued ℕ) → length ks < (get_or now r e).next * 8) → ((g : ℕ) (e : Queued ℕ) → g ≢ r → get_or now g e ≡ get_or backlogs g e)
       → HaveNext (take (i + 1) regions) ks now
-  have_more now one same g e one_of = ⊎_elim (λ (it : g ≡ r). ap (λ (k : ℕ). (get_or now k e).next) it ∙ one e)
-      (λ (other : g ≢ r). ap (λ (q : Queued ℕ). q.next) (same g e other) ∙ have g e (before other))
+  have_more now one same g e one_of = ⊎_elim (λ (it : g ≡ r). subst (λ (k : ℕ). length ks < (get_or now k e).next * 8) (sym it) (one e))
+      (λ (other : g ≢ r). subst (λ (q : Queued ℕ). length ks < q.next * 8) (sym (same g e other)) (have g e (before other)))
       (cases_eq g r) where
         before : g ≢ r → list_any (λ region. region == g) (take i regions) ≡ true
         before other =
@@ -205,30 +162,29 @@ module _ (ks : List KeptWrite) (regions : List ℕ) (i r : ℕ) (short : i < len
             true_from_ne_false (list_any (λ region. region == g) (take i regions))
             (λ out. true≢false (sym one_of ∙ list_any_more (λ region. region == g) regions i r short ∙ or_from (list_any (λ region. region == g) (take i regions)) (get_or regions i r == g) out off))
 
-  pub waits_already : (backlog.next ≡ length ks → ⊥) → HaveNext (take (i + 1) regions) ks backlogs
-  waits_already there = have_more backlogs (λ e. ap (λ (q : Queued ℕ). q.next) (get_or_default backlogs r e d within) ∙ one) (λ g e other. refl) where
-    one : backlog.next ≡ length ks + 1
-    one = omega (arith, its_own.least, its_own.most, there)
+  pub waits_already : (backlog.next * 8 ≤ length ks → ⊥) → HaveNext (take (i + 1) regions) ks backlogs
+  waits_already there =
+      have_more backlogs (λ e. subst (λ (q : Queued ℕ). length ks < q.next * 8) (sym (get_or_default backlogs r e d within)) (omega (arith, there))) (λ g e other. refl)
 
-  pub waits_now : backlog.next ≡ length ks → (new : Queued ℕ) → new ≡ queued (backlog.items ++ (backlog.next + 1) ∷ []) (backlog.next + 1)
+  pub waits_now : backlog.next * 8 ≤ length ks → (new : Queued ℕ) → new ≡ queued (backlog.items ++ (backlog.next + 1) ∷ []) (backlog.next + 1)
       → AreBehind regions ks (set backlogs r new) × HaveNext (take (i + 1) regions) ks (set backlogs r new)
   waits_now full new more = (
     behind_set ks regions backlogs behind r below_eight listed new (subst (IsBehind r ks) (sym more) (behind_more ks r backlog its_own full)),
     have_more (set backlogs r new)
-        (λ e. ap (λ (q : Queued ℕ). q.next) (get_or-set_same backlogs r new e within ∙ more) ∙ ap (λ (n : ℕ). n + 1) full)
+        (λ e. subst (λ (q : Queued ℕ). length ks < q.next * 8) (sym (get_or-set_same backlogs r new e within ∙ more)) (omega (arith, its_own.least)))
         (λ g e other. get_or-set_other backlogs r g new e other),
   )
 
--- The way to a version through the pairs of a list.
+-- The way to a group through the pairs of a list.
 
 abbrev Pairs : Type 0
 Pairs = List (Ticket × ℕ)
 
--- no pair has the version
+-- no pair has the group
 abbrev Others : ℕ → Pairs → Type 0
 Others v = AllByRecursion (λ (p : Ticket × ℕ). p.1 ≢ v)
 
--- i pairs, none with the version, are behind the search, and `at` is the ticket of the first of those ahead
+-- i pairs, none with the group, are behind the search, and `at` is the ticket of the first of those ahead
 pub record IsPast (v i : ℕ) (at : Option Ticket) (ps : Pairs) : Type 0 where
   pub behind : Pairs
   pub ahead : Pairs
@@ -265,13 +221,13 @@ module _ (v i : ℕ) (at : Option Ticket) (ps : Pairs) (past : IsPast v i at ps)
     its_item : item ≡ past_holds.1
     its_item = read past_holds.0 past_holds.1 past_holds.2 past_holds.3
 
-    -- it is the version's
+    -- it is the group's
     pub past_found : item ≡ v → IsFirst v t ps
     past_found same =
-        let version : past_holds.1 ≡ v = sym its_item ∙ same in
-        (past.behind, past_holds.2, past_holds.3 ∙ ap (λ (x : ℕ). past.behind ++ (t, x) ∷ past_holds.2) version, past.others)
+        let group : past_holds.1 ≡ v = sym its_item ∙ same in
+        (past.behind, past_holds.2, past_holds.3 ∙ ap (λ (x : ℕ). past.behind ++ (t, x) ∷ past_holds.2) group, past.others)
 
-    -- it is of another version, and the search goes on
+    -- it is of another group, and the search goes on
     pub past_next : (item ≡ v → ⊥) → (next : Option Ticket) → ((xs : Pairs) (x : ℕ) (ys : Pairs) → ps ≡ xs ++ (t, x) ∷ ys → next ≡ first_ticket ys) → IsPast v (i + 1) next ps
     past_next other next after = record {
       behind = past.behind ++ (t, past_holds.1) ∷ [];
@@ -294,19 +250,19 @@ others_stay v (p ∷ ps) others =
     let off : (p.1 == v) ≡ false = ne_eqb p.1 v others.0 in
     ap (λ (b : Bool). cond b (items_of ps) (p.1 ∷ remove_first v (items_of ps))) off ∙ ap (λ (vs : List ℕ). p.1 ∷ vs) (others_stay v ps others.1)
 
--- past all of them the version is not there
+-- past all of them the group is not there
 pub past_all : (v i : ℕ) (at : Option Ticket) (ps : Pairs) → IsPast v i at ps → length ps ≤ i → remove_first v (items_of ps) ≡ items_of ps
 past_all v i at ps past all = by_ahead past.ahead past.cut where
   by_ahead : (ahead : Pairs) → ps ≡ past.behind ++ ahead → remove_first v (items_of ps) ≡ items_of ps
   by_ahead [] cut = let is : past.behind ≡ ps = sym (cut ∙ append-nil past.behind) in others_stay v ps (subst (Others v) is past.others)
   by_ahead (p ∷ rest) cut = absurd (omega (arith, past.count, ap length cut, length-append past.behind (p ∷ rest)))
 
--- A version that is put in behind those up to `last` leaves as many passed.
+-- A group that is put in behind those up to `last` leaves as many passed.
 pub passed_push : (vs : List ℕ) (last : ℕ) → passed (vs ++ (last + 1) ∷ []) (last + 1) ≡ passed vs last
 passed_push [] last = omega arith
 passed_push (v ∷ vs) last = refl
 
--- A version that leaves.
+-- A group that leaves.
 
 taken_out : (v : ℕ) (t : Ticket) (xs ys : Pairs) → Others v xs → items_of (xs ++ ys) ≡ remove_first v (items_of (xs ++ (t, v) ∷ ys))
 taken_out v t [] ys others =

@@ -1,28 +1,30 @@
 -- The backlogs beside a history: how far a region has everything, by its backlog, and what a write and a shipment make of them.
-use Rattle.std.proofs.Common.{◌≡◌, ℕ, ◌+◌, ◌-◌, ◌<◌, ◌≤◌, Bool, true, false, List, [], ◌∷◌, ◌++◌, length, map, get_or, set, replicate, Some, None, refl, sym, ap, ◌∙◌, ◌==◌, arith}
+use Rattle.std.proofs.Common.{◌≡◌, ℕ, ◌+◌, ◌*◌, ◌/◌, ◌<◌, ◌≤◌, Bool, true, false, List, [], ◌∷◌, ◌++◌, length, map, get_or, set, replicate, refl, sym, ap, ◌∙◌, ⊎_elim, ◌==◌, true≢false, arith}
 use Rattle.std.specs.List.{prefix_len, list_any, range_with_len}
-use Rattle.std.proofs.lemmas.Bool.{false_from_ne_true}
-use Rattle.std.proofs.lemmas.List.{length_push, length-map, get_or-map, get_or_append_left, get_or-replicate, length-set}
+use Rattle.std.proofs.lemmas.Bool.{cases_eq, cases_lt}
+use Rattle.std.proofs.lemmas.List.{length_push, length-map, map-set, get_or-map, get_or-replicate, length-set}
+use Rattle.std.proofs.lemmas.List.Sums.{prefix_len_passes, prefix_len_stops}
 use Rattle.std.proofs.lemmas.List.Folds.{list_all_at}
 use Rattle.std.proofs.lemmas.List.FromFn.{get_or-range_with_len, length-range_with_len}
-use Rattle.anti_flight.specs.Queued.{Queued, queued}
+use Rattle.anti_flight.specs.Queued.{Queued}
 use Rattle.anti_kind.specs.declared.entry.Entry.{Entry}
 use Rattle.anti_kind.specs.declared.row.Row.{Row}
 use Rattle.anti_kind.specs.Stored.{rows, is_whole}
-use Rattle.anti_kind.specs.Shipments.{upto_of, next_shipment}
+use Rattle.anti_kind.specs.Shipments.{upto_of}
 use Rattle.anti_kind.specs.Store.{Store, is_replica}
 use Rattle.anti_kind.specs.Objects.{store, IsLegal}
 use Rattle.anti_kind.proofs.Rows.{version_at}
 use Rattle.anti_replicas.specs.declared.replicas.Replicas.{Replicas}
 use Rattle.anti_replicas.specs.declared.kept_write.KeptWrite.{KeptWrite}
 use Rattle.anti_replicas.specs.declared.newest.Newest.{Newest}
-use Rattle.anti_replicas.specs.inner.Backlogs.{first, passed, remove_first, without, places_off, wholes, IsBehind, AreBehind, HaveNext}
+use Rattle.anti_replicas.specs.inner.Backlogs.{passed, remove_first, without, places_off, group_whole, wholes, IsBehind, AreBehind, HaveNext}
 use Rattle.anti_replicas.specs.inner.Marks.{mark_at, came, has_all}
 use Rattle.anti_replicas.specs.inner.Standing.{AreKept}
 use Rattle.anti_replicas.specs.Stores.{At}
 use Rattle.anti_replicas.proofs.Numbers.{prefix_alike}
-use Rattle.anti_replicas.proofs.Backlogs.{off_set, off_passed, off_first, off_none, wholes_kept, wholes_set, wholes_same, wholes_prefix, wholes_length}
-use Rattle.anti_replicas.proofs.Bringing.{replica_below, whole_of, upto_nothing, next_nowhere, next_over}
+use Rattle.anti_replicas.proofs.Groups.{groups, groups_length, group_there, group_was, groups_set, groups_same, groups_prefix}
+use Rattle.anti_replicas.proofs.Backlogs.{off_set, off_passed, wholes_kept, wholes_same, wholes_prefix}
+use Rattle.anti_replicas.proofs.Bringing.{whole_of, upto_nothing, upto_within}
 
 -- How far a region has everything, by the marks.
 module _ (s : Store) (h : List Entry) (newest : Newest) (ks : List KeptWrite) (legal : IsLegal (store s) h) (rows_are : map (λ (k : KeptWrite). k.row) ks ≡ rows h) (kept : AreKept s h newest ks) (g : ℕ) (low : g < 8) where
@@ -38,35 +40,48 @@ module _ (s : Store) (h : List Entry) (newest : Newest) (ks : List KeptWrite) (l
       prefix_alike (has_all g) (is_whole s.kind h g) ks (rows h) (sym (length-map ks (λ (k : KeptWrite). k.row)) ∙ ap (λ (rs : List Row). length rs) rows_are)
       (λ i d e short. kept_whole i d e short)
 
--- how far a region has everything, by its backlog
-pub passed_is : (g : ℕ) (ks : List KeptWrite) (backlog : Queued ℕ) → IsBehind g ks backlog → passed backlog.items backlog.next ≡ prefix_len (has_all g) ks
-passed_is g ks backlog behind =
+-- the versions of the groups that a backlog has passed are whole
+known_is : (g : ℕ) (ks : List KeptWrite) (backlog : Queued ℕ) → IsBehind g ks backlog → passed backlog.items backlog.next * 8 ≤ prefix_len (has_all g) ks
+known_is g ks backlog behind =
+    let bs : List Bool = map (has_all g) ks in
+    let count : passed backlog.items backlog.next ≡ prefix_len (λ b. b) (wholes g ks backlog.next) =
     ap (λ (items : List ℕ). passed items backlog.next) behind.items
-    ∙ ap (passed (places_off 1 (wholes g ks backlog.next))) (sym (wholes_length g ks backlog.next behind.least))
-    ∙ off_passed (wholes g ks backlog.next)
-    ∙ wholes_prefix g ks backlog.next
+    ∙ ap (passed (places_off 1 (wholes g ks backlog.next))) (sym (groups_length bs backlog.next))
+    ∙ off_passed (wholes g ks backlog.next) in
+    omega (arith, count, groups_prefix bs backlog.next, wholes_prefix g ks)
 
--- What the first in a backlog tells of the history.
-module _ (m : Replicas) (s : Store) (h : List Entry) (at : At m s h) (g : ℕ) (replica : is_replica s g ≡ true) (d : Queued ℕ) where
-  abbrev its : Queued ℕ
-  its = get_or m.backlogs.items g d
+pub known_behind : (m : Replicas) (s : Store) (h : List Entry) → At m s h → (g : ℕ) (d : Queued ℕ) → g < 8
+    → passed (get_or m.backlogs.items g d).items (get_or m.backlogs.items g d).next * 8 ≤ prefix_len (has_all g) m.kept.items
+known_behind m s h at g d low = by_replica (is_replica s g) refl where
+  by_replica : (b : Bool) → is_replica s g ≡ b → passed (get_or m.backlogs.items g d).items (get_or m.backlogs.items g d).next * 8 ≤ prefix_len (has_all g) m.kept.items
+  by_replica true replica = known_is g m.kept.items (get_or m.backlogs.items g d) (at.state.behind.behind g d low replica)
+  by_replica false off = omega (arith, ap (λ (b : Queued ℕ). passed b.items b.next) (at.state.behind.none g d low off))
 
-  behind_it : IsBehind g m.kept.items its
-  behind_it = at.state.behind.behind g d (replica_below m s h at g replica) replica
+-- a region into whose backlog no group was put has nothing
+pub none_put : (m : Replicas) (s : Store) (h : List Entry) → At m s h → (g : ℕ) (d : Queued ℕ) → g < 8 → (get_or m.backlogs.items g d).next ≡ 0 → 0 ≡ upto_of s.kind h g
+none_put m s h at g d low none = by_replica (is_replica s g) refl where
+  by_replica : (b : Bool) → is_replica s g ≡ b → 0 ≡ upto_of s.kind h g
+  by_replica true replica = omega (arith, upto_within m s h at g, (at.state.behind.behind g d low replica).least, none)
+  by_replica false off = upto_nothing m s h at g off
 
-  prefix : prefix_len (λ b. b) (wholes g m.kept.items its.next) ≡ upto_of s.kind h g
-  prefix =
-      wholes_prefix g m.kept.items its.next
-      ∙ upto_by s h m.newest m.kept.items at.legal at.state.rows_are at.state.kept_are g (replica_below m s h at g replica)
+pub upto_marks : (m : Replicas) (s : Store) (h : List Entry) → At m s h → (g : ℕ) → g < 8 → prefix_len (has_all g) m.kept.items ≡ upto_of s.kind h g
+upto_marks m s h at g low = upto_by s h m.newest m.kept.items at.legal at.state.rows_are at.state.kept_are g low
 
-  pub first_behind : (v : ℕ) → first its.items ≡ Some v → (1 ≤ v) × (v - 1 ≡ upto_of s.kind h g)
-  first_behind v is =
-      let found = off_first (wholes g m.kept.items its.next) v (ap first (sym behind_it.items) ∙ is) in
-      (found.0, found.1 ∙ prefix)
+-- One more that passes, and the first that does not.
+module _ (p : KeptWrite → Bool) (ks : List KeptWrite) (i : ℕ) (d : KeptWrite) (here : i < length ks) (up : i ≤ prefix_len p ks) where
+  pub reaches_next : p (get_or ks i d) ≡ true → i + 1 ≤ prefix_len p ks
+  reaches_next on = ⊎_elim
+      (λ (at : i ≡ prefix_len p ks).
+      let stops : p (get_or ks (prefix_len p ks) d) ≡ false = prefix_len_stops p ks d (omega (arith, at)) in
+      absurd (true≢false (sym on ∙ ap (λ (k : ℕ). p (get_or ks k d)) at ∙ stops)))
+      (λ (other : i ≡ prefix_len p ks → ⊥). omega (arith, other))
+      (cases_eq i (prefix_len p ks))
 
-  pub none_behind : first its.items ≡ None → length m.kept.items ≤ upto_of s.kind h g
-  none_behind none =
-      omega (arith, off_none (wholes g m.kept.items its.next) (ap first (sym behind_it.items) ∙ none), prefix, behind_it.least, wholes_length g m.kept.items its.next behind_it.least)
+  pub stops_here : p (get_or ks i d) ≡ false → i ≡ prefix_len p ks
+  stops_here off = ⊎_elim
+      (λ (less : i < prefix_len p ks). absurd (true≢false (sym (prefix_len_passes p ks i d less) ∙ off)))
+      (λ (more : prefix_len p ks ≤ i). omega arith)
+      (cases_lt i (prefix_len p ks))
 
 -- A write.
 
@@ -86,15 +101,10 @@ behind_kept regions ks k backlogs fresh were next = record {
   behind = λ g d low among.
       let backlog : Queued ℕ = get_or backlogs g d in
       let was : IsBehind g ks backlog = were.behind g d low among in
-      let last : backlog.next ≡ length ks + 1 = next g d among in
       record {
-        items =
-            was.items
-            ∙ ap (λ (l : ℕ). places_off 1 (wholes g ks l)) last
-            ∙ ap (places_off 1) (sym (wholes_kept g ks k (fresh g low among)))
-            ∙ ap (λ (l : ℕ). places_off 1 (wholes g (ks ++ k ∷ []) l)) (sym last);
-        least = omega (arith, last, length_push ks k);
-        most = omega (arith, last, length_push ks k);
+        items = was.items ∙ ap (places_off 1) (sym (wholes_kept g ks k backlog.next (fresh g low among)));
+        least = omega (arith, next g d among, length_push ks k);
+        most = omega (arith, was.most, length_push ks k);
       };
   none = were.none;
 }
@@ -112,50 +122,42 @@ module _ (g i : ℕ) (ks : List KeptWrite) (now d : KeptWrite) (here : i < lengt
     most = omega (arith, as_many, was.most);
   }
 
-  -- and where it is whole now, and was not
-  pub behind_left : has_all g now ≡ true → has_all g (get_or ks i d) ≡ false → IsBehind g (set ks i now) (without (i + 1) backlog)
-  behind_left on off =
-      let bs : List Bool = wholes g ks backlog.next in
-      let within : i < length (map (has_all g) ks) = omega (arith, here, length-map ks (has_all g)) in
-      let was_off : get_or bs i true ≡ false =
-      get_or_append_left (map (has_all g) ks) (replicate (backlog.next - length ks) false) true i within ∙ get_or-map (has_all g) ks i d true here ∙ off in
-      record {
-        items =
-            ap (remove_first (i + 1)) was.items
-            ∙ ap (λ (v : ℕ). remove_first v (places_off 1 bs)) (omega arith)
-            ∙ sym (off_set 1 i bs (omega (arith, here, was.least, wholes_length g ks backlog.next was.least)) was_off)
-            ∙ ap (λ (b : Bool). places_off 1 (set bs i b)) (sym on)
-            ∙ ap (places_off 1) (sym (wholes_set g i ks now backlog.next here));
-        least = omega (arith, as_many, was.least);
-        most = omega (arith, as_many, was.most);
-      }
+  -- where it is whole now, and was not
+  module _ (on : has_all g now ≡ true) (off : has_all g (get_or ks i d) ≡ false) where
+    abbrev bs : List Bool
+    bs = map (has_all g) ks
 
--- How far a region has everything, by its backlog.
-pub upto_behind : (m : Replicas) (s : Store) (h : List Entry) → At m s h → (g : ℕ) (d : Queued ℕ) → g < 8
-    → passed (get_or m.backlogs.items g d).items (get_or m.backlogs.items g d).next ≡ upto_of s.kind h g
-upto_behind m s h at g d low = by_replica (is_replica s g) refl where
-  by_replica : (b : Bool) → is_replica s g ≡ b → passed (get_or m.backlogs.items g d).items (get_or m.backlogs.items g d).next ≡ upto_of s.kind h g
-  by_replica true replica =
-      passed_is g m.kept.items (get_or m.backlogs.items g d) (at.state.behind.behind g d low replica)
-      ∙ upto_by s h m.newest m.kept.items at.legal at.state.rows_are at.state.kept_are g low
-  by_replica false off = ap (λ (b : Queued ℕ). passed b.items b.next) (at.state.behind.none g d low off) ∙ upto_nothing m s h at g off
+    within : i < length bs
+    within = omega (arith, here, length-map ks (has_all g))
 
--- The first in a backlog, and the next shipment.
+    was_off : get_or bs i false ≡ false
+    was_off = get_or-map (has_all g) ks i d false here ∙ off
 
-module _ (m : Replicas) (s : Store) (h : List Entry) (at : At m s h) (g : ℕ) where
-  -- no region is beyond
-  pub next_beyond : 8 ≤ g → next_shipment s h g ≡ None
-  next_beyond above = next_nowhere s h g (false_from_ne_true (is_replica s g) (λ on. omega (arith, replica_below m s h at g on)))
+    now_on : map (has_all g) (set ks i now) ≡ set bs i true
+    now_on = map-set (has_all g) ks i now ∙ ap (set bs i) on
 
-  module _ (d : Queued ℕ) where
-    pub next_none : first (get_or m.backlogs.items g d).items ≡ None → next_shipment s h g ≡ None
-    next_none none = by_replica (is_replica s g) refl where
-      by_replica : (b : Bool) → is_replica s g ≡ b → next_shipment s h g ≡ None
-      by_replica true replica = next_over m s h at g replica (none_behind m s h at g replica d none)
-      by_replica false off = next_nowhere s h g off
+    -- and its group is not
+    pub behind_still : group_whole (map (has_all g) (set ks i now)) (i / 8) ≡ false → IsBehind g (set ks i now) backlog
+    behind_still short = record {
+      items = was.items
+          ∙ sym (ap (λ (cs : List Bool). places_off 1 (groups cs backlog.next)) now_on
+          ∙ ap (places_off 1) (groups_same i bs within was_off backlog.next (ap (λ (cs : List Bool). group_whole cs (i / 8)) (sym now_on) ∙ short)));
+      least = omega (arith, as_many, was.least);
+      most = omega (arith, as_many, was.most);
+    }
 
-    pub some_replica : (v : ℕ) → g < 8 → first (get_or m.backlogs.items g d).items ≡ Some v → is_replica s g ≡ true
-    some_replica v low is = by_replica (is_replica s g) refl where
-      by_replica : (b : Bool) → is_replica s g ≡ b → is_replica s g ≡ true
-      by_replica true replica = replica
-      by_replica false off = let none : get_or m.backlogs.items g d ≡ queued [] 0 = at.state.behind.none g d low off in absurd (cc)
+    -- and so is its group
+    pub behind_left : group_whole (map (has_all g) (set ks i now)) (i / 8) ≡ true → IsBehind g (set ks i now) (without (i / 8 + 1) backlog)
+    behind_left whole =
+        let inside : i / 8 < backlog.next = omega (arith, here, was.least) in
+        record {
+          items =
+              ap (remove_first (i / 8 + 1)) was.items
+              ∙ ap (λ (v : ℕ). remove_first v (places_off 1 (groups bs backlog.next))) (omega arith)
+              ∙ sym (off_set 1 (i / 8) (groups bs backlog.next) (omega (arith, groups_length bs backlog.next, inside))
+              (group_there bs backlog.next (i / 8) true inside ∙ group_was i bs within was_off))
+              ∙ ap (places_off 1) (sym (groups_set i bs within was_off backlog.next inside (ap (λ (cs : List Bool). group_whole cs (i / 8)) (sym now_on) ∙ whole)))
+              ∙ ap (λ (cs : List Bool). places_off 1 (groups cs backlog.next)) (sym now_on);
+          least = omega (arith, as_many, was.least);
+          most = omega (arith, as_many, was.most);
+        }

@@ -1,7 +1,7 @@
 -- What was shipped, by the marks, what never was, and what comes next.
 use Rattle.std.proofs.Common.{◌≡◌, ℕ, ◌+◌, ◌-◌, ◌<◌, ◌≤◌, Bool, true, false, not, ◌&&◌, ◌||◌, List, [], length, get_or, Option, Some, None, find, refl, sym, ap, ◌∙◌, ◌⊎◌, ⊎_elim, ◌==◌, leb, eqb-true, leb-true, arith}
 use Rattle.std.specs.Prelude.{bytes_eq, slice_get, flat_map}
-use Rattle.std.specs.List.{Any, list_all, range_with_len}
+use Rattle.std.specs.List.{list_all, range_with_len}
 use Rattle.std.specs.Option.{option_map}
 use Rattle.std.proofs.lemmas.Bool.{both_ways, and_parts, and_from, and_left, and_right, or_left, or_right, or_from, false_from_ne_true, cases_lt, le-leb, lt-leb}
 use Rattle.std.proofs.lemmas.List.Folds.{Any-from_list_any, list_all_at}
@@ -15,7 +15,7 @@ use Rattle.anti_kind.specs.declared.store_kind.StoreKind.{StoreKind}
 use Rattle.anti_kind.proofs.FactLaws.{one_is_whole}
 use Rattle.anti_kind.specs.Stored.{rows, row_of, is_shipped, parts_of, parts, is_whole, shows_of}
 use Rattle.anti_kind.specs.Shipments.{upto_of, shipment, shipments, next_shipment}
-use Rattle.anti_kind.specs.Store.{Store, absent, has_part, is_replica, is_next, is_written, can_ship}
+use Rattle.anti_kind.specs.Store.{Store, absent, has_part, is_replica, is_next, can_ship}
 use Rattle.anti_kind.specs.Objects.{store, IsLegal}
 use Rattle.anti_kind.proofs.Rows.{version_at, row_of_at}
 use Rattle.anti_kind.proofs.Showing.{greatest_least}
@@ -28,7 +28,7 @@ use Rattle.anti_replicas.specs.inner.Standing.{IsKept}
 use Rattle.anti_replicas.specs.Stores.{At}
 use Rattle.anti_replicas.proofs.Numbers.{all_numbers, find_alike, find_numbers, prefix_none, none_fails, some_fails, find_nothing, find_map, find_first, find_nowhere}
 use Rattle.anti_replicas.proofs.Places.{and_true}
-use Rattle.anti_replicas.proofs.Reading.{row_is, count_is, kept_is, row_there, row_absent}
+use Rattle.anti_replicas.proofs.Reading.{row_is, count_is, kept_is, row_there, row_absent, version_is}
 use Rattle.anti_replicas.proofs.Shows.{greatest_none, whole_none}
 
 -- a replica's region is below 8
@@ -128,24 +128,20 @@ module _ (m : Replicas) (s : Store) (h : List Entry) (at : At m s h) where
   pub upto_within : (g : ℕ) → upto_of s.kind h g ≤ length m.kept.items
   upto_within g = omega (arith, prefix_len-le-length (is_whole s.kind h g) (rows h), count_is m s h at.state)
 
--- A key shows each version of it up to which the region has everything, or a later one.
-
-pub shows_below : (s : Store) (h : List Entry) → IsLegal (store s) h → (g : ℕ) (id : WriteId)
-    → (leb id.version (upto_of s.kind h g) && is_written h id) ≡ true → leb id.version (shows_of s.kind h g id.key) ≡ true
-shows_below s h l g id below =
-    let both = and_parts (leb id.version (upto_of s.kind h g)) (is_written h id) below in
-    let found : Any (λ r. ((r.version == id.version) && bytes_eq r.key id.key) ≡ true) (rows h) =
-    Any-from_list_any (λ r. (r.version == id.version) && bytes_eq r.key id.key) (rows h) both.1 in
-    let same = and_parts (found.1.version == id.version) (bytes_eq found.1.key id.key) found.4 in
-    let version : (get_or (rows h) found.0 found.1).version ≡ id.version =
-    ap (λ (r : Row). r.version) found.3 ∙ eqb-true found.1.version id.version same.0 in
-    let key : bytes_eq (get_or (rows h) found.0 found.1).key id.key ≡ true = ap (λ (r : Row). bytes_eq r.key id.key) found.3 ∙ same.1 in
-    let within : found.0 < upto_of s.kind h g =
-    omega (arith, version_at s h l found.0 found.1 found.2, leb-true id.version (upto_of s.kind h g) both.0) in
-    let shown : (get_or (rows h) found.0 found.1).version ≤ shows_of s.kind h g id.key =
-    greatest_least (is_whole s.kind h g) id.key (rows h) found.0 found.1 found.2 key
-    (prefix_len_passes (is_whole s.kind h g) (rows h) found.0 found.1 within) in
-    le-leb id.version (shows_of s.kind h g id.key) (omega arith)
+-- A key shows each version of it that is whole at the region, or a later one.
+pub shows_whole : (m : Replicas) (s : Store) (h : List Entry) → At m s h → (g : ℕ) → g < 8 → (id : WriteId) (k : KeptWrite) → 1 ≤ id.version
+    → slice_get m.kept.items (id.version - 1) ≡ Some k → has_all g k ≡ true → bytes_eq k.row.key id.key ≡ true → leb id.version (shows_of s.kind h g id.key) ≡ true
+shows_whole m s h at g low id k first is whole same =
+    let i : ℕ = id.version - 1 in
+    let within : i < length m.kept.items = slice_get_within m.kept.items i k is in
+    let short : i < length (rows h) = omega (arith, count_is m s h at.state, within) in
+    let row : get_or (rows h) i k.row ≡ k.row = row_is m s h at.state i k k.row within ∙ ap (λ (x : KeptWrite). x.row) (get_or_from_slice_get m.kept.items i k k is) in
+    let number : k.row.version ≡ id.version = version_is m s h at id.version k first is in
+    let has : is_whole s.kind h g (get_or (rows h) i k.row) ≡ true =
+    ap (is_whole s.kind h g) row ∙ sym (whole_of s h m.newest id.version k (kept_is m s h at.state id.version k first is) number g low) ∙ whole in
+    let shown : (get_or (rows h) i k.row).version ≤ shows_of s.kind h g id.key =
+    greatest_least (is_whole s.kind h g) id.key (rows h) i k.row short (ap (λ (r : Row). bytes_eq r.key id.key) row ∙ same) has in
+    le-leb id.version (shows_of s.kind h g id.key) (omega (arith, shown, number, ap (λ (r : Row). r.version) row))
 
 -- A table is shipped in the order of its versions.
 

@@ -3,6 +3,7 @@ pub mod Places
 pub mod Shows
 pub mod Reading
 pub mod Bringing
+pub mod Groups
 pub mod Backlogs
 pub mod Behind
 pub mod Standing

@@ -27,15 +27,15 @@ use Rattle.anti_kind.proofs.Units.{owed_write, owed_ship, owed_other, ship_owed}
 use Rattle.anti_replicas.specs.declared.replicas.Replicas.{Replicas}
 use Rattle.anti_replicas.specs.declared.kept_write.KeptWrite.{KeptWrite}
 use Rattle.anti_replicas.specs.declared.newest.Newest.{Newest}
-use Rattle.anti_replicas.specs.inner.Backlogs.{without, IsBehind, AreBehind, AreBelow}
+use Rattle.anti_replicas.specs.inner.Backlogs.{without, group_whole, IsBehind, AreBehind, AreBelow}
 use Rattle.anti_replicas.specs.inner.Marks.{mark_at, came, has_all, marked}
 use Rattle.anti_replicas.specs.inner.Newest.{newest_at, HasPlace, MakesPlace}
-use Rattle.anti_replicas.specs.inner.Standing.{IsKept, AreKept, Stands, Keeps, BringsIf, Marks, Shippable, Writable, LeavesIf}
+use Rattle.anti_replicas.specs.inner.Standing.{IsKept, AreKept, Stands, Keeps, BringsIf, Marks, Shippable, Writable, LeavesIf, group_at}
 use Rattle.anti_replicas.specs.Stores.{At, MayShip, MayWrite, IsOther, IsPassing}
 use Rattle.anti_replicas.proofs.Numbers.{all_numbers}
 use Rattle.anti_replicas.proofs.Places.{and_true, and_false, or_true, max_zero}
 use Rattle.anti_replicas.proofs.Reading.{row_is, count_is, row_there}
-use Rattle.anti_replicas.proofs.Behind.{fresh_elsewhere, behind_kept, behind_same, behind_left}
+use Rattle.anti_replicas.proofs.Behind.{fresh_elsewhere, behind_kept, behind_same, behind_still, behind_left}
 use Rattle.anti_replicas.proofs.Bringing.{part_of_some, replica_below, whole_of, its_part, no_version}
 use Rattle.anti_replicas.proofs.Shows.{shows_write, shows_ship, shows_other, elsewhere, of_another, another_part}
 
@@ -284,53 +284,63 @@ module _ (m n : Replicas) (s : Store) (h : List Entry) (e : Entry) (region versi
   region_within : region < length m.backlogs.items
   region_within = omega (arith, low, at.state.behind.count)
 
-  -- the backlog of the region, by whether it has the version now
-  left_by : (b : Bool) → full ≡ b → LeavesIf b m n region version → (d : Queued ℕ)
-      → (get_or n.backlogs.items region d ≡ cond b (without version (backlog d)) (backlog d)) × IsBehind region (set m.kept.items (version - 1) new_one) (cond b (without version (backlog d)) (backlog d))
-  left_by true on leaves d =
-      let one : version - 1 + 1 ≡ version = omega (arith, there.0) in (
-        ap (λ (bs : List (Queued ℕ)). get_or bs region d) (leaves d) ∙ get_or-set_same m.backlogs.items region (without version (backlog d)) d region_within,
-        subst (λ (v : ℕ). IsBehind region (set m.kept.items (version - 1) new_one) (without v (backlog d))) one
-            (behind_left region (version - 1) m.kept.items new_one no_kept here (backlog d) (was_behind d) on was_short),
-      )
-  left_by false off leaves d = (
+  abbrev now_kept : List KeptWrite
+  now_kept = set m.kept.items (version - 1) new_one
+
+  abbrev group_full : Bool
+  group_full = group_whole (map (has_all region) now_kept) (group_at version)
+
+  -- the backlog of the region, by whether it has the version, and its group, now
+  left_by : (b c : Bool) → full ≡ b → group_full ≡ c → LeavesIf (b && c) m n region (group_at version) → (d : Queued ℕ)
+      → (get_or n.backlogs.items region d ≡ cond (b && c) (without (group_at version + 1) (backlog d)) (backlog d))
+      × IsBehind region now_kept (cond (b && c) (without (group_at version + 1) (backlog d)) (backlog d))
+  left_by true true on whole leaves d = (
+    ap (λ (bs : List (Queued ℕ)). get_or bs region d) (leaves d) ∙ get_or-set_same m.backlogs.items region (without (group_at version + 1) (backlog d)) d region_within,
+    behind_left region (version - 1) m.kept.items new_one no_kept here (backlog d) (was_behind d) on was_short whole,
+  )
+  left_by true false on off leaves d = (
+    ap (λ (bs : List (Queued ℕ)). get_or bs region d) leaves,
+    behind_still region (version - 1) m.kept.items new_one no_kept here (backlog d) (was_behind d) on was_short off,
+  )
+  left_by false c off whole leaves d = (
     ap (λ (bs : List (Queued ℕ)). get_or bs region d) leaves,
     behind_same region (version - 1) m.kept.items new_one no_kept here (backlog d) (was_behind d) (off ∙ sym was_short),
   )
 
-  others_by : (b : Bool) → LeavesIf b m n region version → (g : ℕ) (d : Queued ℕ) → (region ≡ g → ⊥) → get_or n.backlogs.items g d ≡ get_or m.backlogs.items g d
+  others_by : (b : Bool) → LeavesIf b m n region (group_at version) → (g : ℕ) (d : Queued ℕ) → (region ≡ g → ⊥) → get_or n.backlogs.items g d ≡ get_or m.backlogs.items g d
   others_by true leaves g d other =
-      ap (λ (bs : List (Queued ℕ)). get_or bs g d) (leaves d) ∙ get_or-set_other m.backlogs.items region g (without version (backlog d)) d (λ same. other (sym same))
+      ap (λ (bs : List (Queued ℕ)). get_or bs g d) (leaves d)
+      ∙ get_or-set_other m.backlogs.items region g (without (group_at version + 1) (backlog d)) d (λ same. other (sym same))
   others_by false leaves g d other = ap (λ (bs : List (Queued ℕ)). get_or bs g d) leaves
 
-  count_by : (b : Bool) → LeavesIf b m n region version → length n.backlogs.items ≡ length m.backlogs.items
+  count_by : (b : Bool) → LeavesIf b m n region (group_at version) → length n.backlogs.items ≡ length m.backlogs.items
   count_by true leaves =
       let d : Queued ℕ = queued [] 0 in
-      ap (λ (bs : List (Queued ℕ)). length bs) (leaves d) ∙ length-set m.backlogs.items region (without version (backlog d))
+      ap (λ (bs : List (Queued ℕ)). length bs) (leaves d) ∙ length-set m.backlogs.items region (without (group_at version + 1) (backlog d))
   count_by false leaves = ap (λ (bs : List (Queued ℕ)). length bs) leaves
 
-  leaves : LeavesIf full m n region version
-  leaves = marks.leaves no_kept
+  leaves : LeavesIf (full && group_full) m n region (group_at version)
+  leaves = subst (λ (ks : List KeptWrite). LeavesIf (full && group_whole (map (has_all region) ks) (group_at version)) m n region (group_at version)) (marks.kept_is no_kept) (marks.leaves no_kept)
 
   -- the backlogs of the regions now
   behind_now : (g : ℕ) (d : Queued ℕ) → g < 8 → is_replica s g ≡ true → IsBehind g (set m.kept.items (version - 1) new_one) (get_or n.backlogs.items g d)
   behind_now g d low' replica =
       ⊎_elim (λ (same : region ≡ g).
-      let at_region = left_by full refl leaves d in
+      let at_region = left_by full group_full refl refl leaves d in
       subst (λ (x : ℕ). IsBehind x (set m.kept.items (version - 1) new_one) (get_or n.backlogs.items x d)) same
       (subst (IsBehind region (set m.kept.items (version - 1) new_one)) (sym at_region.0) at_region.1))
       (λ (other : region ≡ g → ⊥).
-      subst (IsBehind g (set m.kept.items (version - 1) new_one)) (sym (others_by full leaves g d other))
+      subst (IsBehind g (set m.kept.items (version - 1) new_one)) (sym (others_by (full && group_full) leaves g d other))
       (behind_same g (version - 1) m.kept.items new_one no_kept here (get_or m.backlogs.items g d) (at.state.behind.behind g d low' replica) (alike g other)))
       (cases_eq region g)
 
   shipped_behind : AreBehind s.regions n.kept.items n.backlogs.items
   shipped_behind = subst (λ (ks : List KeptWrite). AreBehind s.regions ks n.backlogs.items) (sym (marks.kept_is no_kept)) (record {
-    count = count_by full leaves ∙ at.state.behind.count;
+    count = count_by (full && group_full) leaves ∙ at.state.behind.count;
     behind = behind_now;
     none = λ g d below off.
         let other : region ≡ g → ⊥ = λ same. both_ways (is_replica s g) off (ap (is_replica s) (sym same) ∙ ready_part.shipment.replica) in
-        others_by full leaves g d other ∙ at.state.behind.none g d below off;
+        others_by (full && group_full) leaves g d other ∙ at.state.behind.none g d below off;
   })
 
   -- the version now stands beside its key, if it is whole
@@ -398,7 +408,7 @@ module _ (m n : Replicas) (s : Store) (h : List Entry) (e : Entry) (units : ℕ)
     owed_is = at.state.owed_is ∙ sym (owed_other s h e writes ships);
   })
 
--- A write that found no memory: the key may have got its place, and some backlogs the next version.
+-- A write that found no memory: the key may have got its place, and some backlogs the group of the next version.
 
 pub stands_with_place : (m n : Replicas) (s : Store) (h : List Entry) → Stands m s h → MakesPlace m.newest n.newest → n.kept.items ≡ m.kept.items
     → AreBehind m.regions.items m.kept.items n.backlogs.items → n ≡ record m { newest = n.newest; kept = n.kept; backlogs = n.backlogs } → Stands n s h

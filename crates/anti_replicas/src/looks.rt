@@ -1,14 +1,14 @@
-ghost use Rattle.std.specs.Prelude.{◌≡◌, ◌<◌, ◌≤◌, ◌&&◌, ◌==◌, not, nat_le, List, length, filter, IfOk, OnOk};
+ghost use Rattle.std.specs.Prelude.{◌≡◌, ◌<◌, ◌≤◌, ◌==◌, not, nat_le, true, IsTrue, List, length, filter, IfOk, OnOk};
 ghost use Rattle.std.specs.List.{list_all, list_any};
 ghost use Rattle.anti_ids.specs.declared.id.WriteId.{WriteId};
 ghost use Rattle.anti_ids.specs.Ids.{with_id};
 ghost use Rattle.anti_kind.specs.declared.call.Reply.TheVariants.{Missing};
 ghost use Rattle.anti_kind.specs.declared.entry.Entry.{Entry};
-ghost use Rattle.anti_kind.specs.Shipments.{upto_of};
+ghost use Rattle.anti_kind.specs.Stored.{shows_of};
 ghost use Rattle.anti_kind.specs.Store.{Store, is_visible, is_written, can_look};
 
 use crate::replicas::Replicas;
-use anti_ids::{Copies, Lineage, LineageRefused, MOST_IDS, NoMemory, WriteId};
+use anti_ids::{Copies, Lineage, LineageRefused, MOST_IDS, MOST_REGIONS, NoMemory, WriteId};
 use anti_kind::{Handle, Reply};
 
 // Of the ids of a look, whether all are of the store, all are visible at the region, and all are those of writes.
@@ -40,19 +40,25 @@ impl Replicas {
         ensures { (s : Store) (h : List Entry) → At self.now s h
             → result ≡ is_visible (showing_whole s) h region id.now }
     {
-        if self.is_below_mark(region, id) {
+        if self.is_there(region, id) {
             return true;
         }
         id.version <= self.shown_version(region, &id.key)
     }
 
-    // Whether the id is that of a write up to which every version is whole at the region. The region then shows that version of
-    // its key, or a later one: the row at the version tells it, and the map of all keys need not be searched.
-    fn is_below_mark(&self, region: u32, id: &WriteId) -> bool
+    // Whether the id is that of a write that is whole at the region. The region then shows that version of its key, or a later one: the
+    // row at the version tells it, and the map of all keys need not be searched.
+    fn is_there(&self, region: u32, id: &WriteId) -> bool
         ensures { (s : Store) (h : List Entry) → At self.now s h
-            → result ≡ (nat_le id.now.version (upto_of s.kind h region) && is_written h id.now) }
+            → IsTrue result → nat_le id.now.version (shows_of s.kind h region id.now.key) ≡ true }
     {
-        id.version <= self.upto(region) && self.is_written(id)
+        if region as usize >= MOST_REGIONS {
+            return false;
+        }
+        match self.kept_at(id.version) {
+            Some(kept) => kept.is_whole(region) && kept.row.key == id.key,
+            None => false,
+        }
     }
 
     // Whether the id is that of a write of this store.

@@ -19,7 +19,7 @@ pub struct Replicas {
     pub(crate) regions: Vec<u32>,
     // the write of version v at the index v - 1
     pub(crate) kept: Vec<KeptWrite>,
-    // for each region the versions that are not whole there
+    // for each region the groups of versions that are not whole there
     pub(crate) backlogs: Vec<Backlog>,
     pub(crate) newest: Newest,
     pub(crate) held: u32,
@@ -27,7 +27,7 @@ pub struct Replicas {
     pub(crate) alloc: Global,
 }
 
-// The backlogs of all regions, with no versions.
+// The backlogs of all regions, with no groups.
 fn no_backlogs(alloc: Global) -> Result<Vec<Backlog>, NoMemory>
     ensures { IfOk result (λ backlogs. backlogs.items ≡ replicate MOST_REGIONS (queued [] 0)) }
 {

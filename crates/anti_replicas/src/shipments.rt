@@ -1,4 +1,5 @@
-ghost use Rattle.std.specs.Prelude.{◌≡◌, ◌+◌, ◌<◌, ◌≤◌, not, ◌||◌, List, [], ◌∷◌, ◌++◌, drop, length};
+ghost use Rattle.std.specs.Prelude.{◌≡◌, ◌+◌, ◌^◌, ◌<◌, ◌≤◌, not, ◌||◌, false, List, [], ◌∷◌, ◌++◌, length, map, slice_index_or};
+ghost use Rattle.std.specs.List.{prefix_len};
 ghost use Rattle.anti_kind.specs.Kinds.{facts_of};
 ghost use Rattle.anti_kind.specs.declared.call.Call.TheVariants.{Ship};
 ghost use Rattle.anti_kind.specs.declared.entry.Entry.{Entry};
@@ -7,12 +8,15 @@ ghost use Rattle.anti_kind.specs.Shipments.{upto_of, next_shipment};
 ghost use Rattle.anti_kind.specs.Store.{Store, has_part, is_next, can_ship};
 ghost use Rattle.anti_kind.specs.Objects.{store, Follows};
 
+use crate::backlog::IN_GROUP;
 use crate::kept_write::MOST_PARTS;
 use crate::replicas::Replicas;
 use anti_ids::MOST_REGIONS;
 
 impl Replicas {
-    ghost use Rattle.anti_replicas.specs.inner.Standing.{Stands, Shippable, Marks};
+    ghost use Rattle.anti_replicas.specs.inner.Backlogs.{group_whole};
+    ghost use Rattle.anti_replicas.specs.inner.Marks.{has_all};
+    ghost use Rattle.anti_replicas.specs.inner.Standing.{Stands, Shippable, Marks, LeavesIf, group_at};
     ghost use Rattle.anti_replicas.specs.Stores.{At, MayShip, kind_of, number_of, regions_of};
 
     /// Whether the part of the version was brought to the region.
@@ -78,27 +82,49 @@ impl Replicas {
         self.is_next(region, version)
     }
 
-    /// How many versions, from the first on, are whole at the region.
+    // How many versions, from the first on, are whole at the region, where so many are known to be.
+    fn whole_from(&self, region: u32, known: usize) -> u64
+        ensures { known ≤ prefix_len (has_all region) self.now.kept.items → result ≡ prefix_len (has_all region) self.now.kept.items }
+    {
+        for at in known..self.kept.len() {
+            if !self.kept[at].is_whole(region) {
+                return at as u64;
+            }
+        }
+        self.kept.len() as u64
+    }
+
+    /// How many versions, from the first on, are whole at the region: those of the groups before the first that is not, and of that one
+    /// as many as are.
     pub fn upto(&self, region: u32) -> u64
         ensures { (s : Store) (h : List Entry) → At self.now s h
             → result ≡ upto_of s.kind h region }
     {
         match self.backlogs.as_slice().get(region as usize) {
-            Some(backlog) => backlog.passed(),
+            Some(backlog) => {
+                // So it is of a region without a replica, too.
+                if backlog.last_put() == 0 {
+                    return 0;
+                }
+                let known = backlog.passed().saturating_mul(IN_GROUP);
+                self.whole_from(region, known as usize)
+            }
             None => 0,
         }
     }
 
-    /// The next shipment to the region, its version and its part: the first part that is missing of the first version in the region's
-    /// backlog.
+    /// The next shipment to the region, its version and its part: the first part that is missing of the first version that is not whole
+    /// there.
     pub fn next_ship(&self, region: u32) -> Option<(u64, u32)>
         ensures { (s : Store) (h : List Entry) → At self.now s h
             → result ≡ next_shipment s h region }
     {
-        let backlog = self.backlogs.as_slice().get(region as usize)?;
-        let version = backlog.first()?;
-        let part = self.kept_at(version)?.first_missing(region)?;
-        Some((version, part))
+        if !self.is_replica(region) {
+            return None;
+        }
+        let kept = self.kept.as_slice().get(self.upto(region) as usize)?;
+        let part = kept.first_missing(region)?;
+        Some((kept.row.version, part))
     }
 
     /// Brings the part of the version to the region. It takes no memory.
@@ -114,8 +140,46 @@ impl Replicas {
         self.mark(region, version, part);
     }
 
-    // Marks the part at the region. Once the version is whole there it leaves the backlog, and the region shows it, unless it shows a
-    // later one. Its shipment is owed no more.
+    // Whether the version at the index is kept, and whole at the region.
+    fn is_whole_at(&self, region: u32, index: usize) -> bool
+        ensures { result ≡ slice_index_or (map (has_all region) self.now.kept.items) index false }
+    {
+        match self.kept.as_slice().get(index) {
+            Some(kept) => kept.is_whole(region),
+            None => false,
+        }
+    }
+
+    // Whether each version of the group at a place is whole at the region. It looks from the last of them, which mostly comes last.
+    fn is_group_whole(&self, region: u32, group: usize) -> bool
+        requires { group < 2 ^ 60 }
+        ensures { result ≡ group_whole (map (has_all region) self.now.kept.items) group }
+    {
+        let first = group * IN_GROUP as usize;
+        let behind = first + IN_GROUP as usize;
+        for passed in 0..IN_GROUP as usize {
+            if !self.is_whole_at(region, behind - 1 - passed) {
+                return false;
+            }
+        }
+        true
+    }
+
+    // Takes the group of the version out of the region's backlog, if it is whole there.
+    fn leave(&mut self, region: u32, version: u64)
+        requires region { region < length self.old.backlogs.items }
+        requires version { (1 ≤ version) × (version ≤ length self.old.kept.items) }
+        ensures only { self.new ≡ record self.old { backlogs = self.new.backlogs } }
+        ensures leaves { LeavesIf (group_whole (map (has_all region) self.old.kept.items) (group_at version)) self.old self.new region (group_at version) }
+    {
+        let group = (version - 1) / IN_GROUP;
+        if self.is_group_whole(region, group as usize) {
+            self.backlogs[region as usize].remove(group + 1);
+        }
+    }
+
+    // Marks the part at the region. Once the version is whole there, the region shows it, unless it shows a later one. Its shipment is
+    // owed no more.
     fn mark(&mut self, region: u32, version: u64, part: u32)
         requires { Shippable self.old region version part }
         ensures { Marks self.old self.new region version part }
@@ -124,7 +188,7 @@ impl Replicas {
         kept.mark(region, part);
         if kept.is_whole(region) {
             self.newest.bring(region, &kept.row.key, version);
-            self.backlogs[region as usize].remove(version);
+            self.leave(region, version);
         }
         self.held += 1;
         self.owed -= 1;

@@ -6,6 +6,7 @@ ghost use Rattle.anti_kind.specs.Stored.{rows, row_of, parts_of};
 ghost use Rattle.anti_kind.specs.Store.{Store, key_for};
 ghost use Rattle.anti_kind.specs.Objects.{store, Follows};
 
+use crate::backlog::IN_GROUP;
 use crate::kept_write::{KeptWrite, MARKS};
 use crate::replicas::Replicas;
 use crate::units::parts_of;
@@ -76,7 +77,8 @@ impl Replicas {
         self.keep(key, value, lineage)
     }
 
-    // Puts the next version into the backlog of each replica. Where a write found no memory some have it already, and keep it.
+    // Puts the group of the next version into the backlog of each replica, where that version is the first of it. Where a write found no
+    // memory some have the group already, and keep it.
     fn await_next(&mut self) -> Result<(), NoMemory>
         requires regions { AreBelow self.old.regions.items }
         requires behind { AreBehind self.old.regions.items self.old.kept.items self.old.backlogs.items }
@@ -89,7 +91,7 @@ impl Replicas {
         for at in 0..self.regions.len() {
             let region = self.regions[at];
             let backlog = &mut self.backlogs[region as usize];
-            if backlog.last_put() == kept {
+            if backlog.last_put().saturating_mul(IN_GROUP) <= kept {
                 backlog.push()?;
             }
         }

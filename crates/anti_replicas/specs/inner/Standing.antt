@@ -1,5 +1,5 @@
 -- What the base keeps of the history that it stands for, and what its two changes do to it.
-use Rattle.std.specs.Prelude.{◌≡◌, ℕ, ◌+◌, ◌-◌, ◌*◌, ◌<◌, ◌≤◌, Bool, true, false, List, ◌∷◌, [], ◌++◌, length, map, replicate, slice_index_or, slice_set}
+use Rattle.std.specs.Prelude.{◌≡◌, ℕ, ◌+◌, ◌-◌, ◌*◌, ◌/◌, ◌<◌, ◌≤◌, Bool, true, false, ◌&&◌, List, ◌∷◌, [], ◌++◌, length, map, replicate, slice_index_or, slice_set}
 use Rattle.anti_flight.specs.Queued.{Queued}
 use Rattle.anti_kind.specs.declared.entry.Entry.{Entry}
 use Rattle.anti_ids.specs.declared.limits.TheConstants.{MOST_REGIONS, MOST_UNITS}
@@ -7,11 +7,12 @@ use Rattle.anti_kind.specs.declared.row.Row.{Row}
 use Rattle.anti_kind.specs.Stored.{rows, is_shipped, parts_of, shows_of}
 use Rattle.anti_kind.specs.Store.{Store, owed_shipments}
 use Rattle.anti_kind.specs.Objects.{held}
+use Rattle.anti_replicas.specs.declared.backlog.TheConstants.{IN_GROUP}
 use Rattle.anti_replicas.specs.declared.replicas.Replicas.{Replicas}
 use Rattle.anti_replicas.specs.declared.kept_write.KeptWrite.{KeptWrite}
 use Rattle.anti_replicas.specs.declared.kept_write.TheConstants.{MOST_PARTS, MARKS}
 use Rattle.anti_replicas.specs.declared.newest.Newest.{Newest}
-use Rattle.anti_replicas.specs.inner.Backlogs.{AreBehind, HaveNext, AreBelow, without}
+use Rattle.anti_replicas.specs.inner.Backlogs.{AreBehind, HaveNext, AreBelow, group_whole, without}
 use Rattle.anti_replicas.specs.inner.Marks.{came, has_all, marked}
 use Rattle.anti_replicas.specs.inner.Newest.{newest_at, HasPlace, MakesPlace, Brings}
 
@@ -69,10 +70,14 @@ abbrev pub BringsIf : Bool → Newest → Newest → ℕ → List ℕ → ℕ �
 BringsIf true m n g key v = Brings m n g key v
 BringsIf false m n g key v = n ≡ m
 
--- where the version is whole at the region, it leaves the region's backlog
+-- the place of the group of the version v, both counted from 1, among the groups, counted from 0
+abbrev pub group_at : ℕ → ℕ
+group_at v = (v - 1) / IN_GROUP
+
+-- where the group at a place is whole at the region, it leaves the region's backlog
 abbrev pub LeavesIf : Bool → Replicas → Replicas → ℕ → ℕ → Type 0
-LeavesIf true m n g v = (d : Queued ℕ) → n.backlogs.items ≡ slice_set m.backlogs.items g (without v (slice_index_or m.backlogs.items g d))
-LeavesIf false m n g v = n.backlogs.items ≡ m.backlogs.items
+LeavesIf true m n g j = (d : Queued ℕ) → n.backlogs.items ≡ slice_set m.backlogs.items g (without (j + 1) (slice_index_or m.backlogs.items g d))
+LeavesIf false m n g j = n.backlogs.items ≡ m.backlogs.items
 
 -- n is m with the mark of a part of a version at a region
 pub record Marks (m n : Replicas) (g v p : ℕ) : Type 0 where
@@ -82,7 +87,7 @@ pub record Marks (m n : Replicas) (g v p : ℕ) : Type 0 where
   pub replicas_are : n.replicas ≡ m.replicas
   pub kept_is : (d : KeptWrite) → n.kept.items ≡ slice_set m.kept.items (v - 1) (marked g p (slice_index_or m.kept.items (v - 1) d))
   pub brings : (d : KeptWrite) → BringsIf (has_all g (marked g p (slice_index_or m.kept.items (v - 1) d))) m.newest n.newest g (slice_index_or m.kept.items (v - 1) d).row.key v
-  pub leaves : (d : KeptWrite) → LeavesIf (has_all g (marked g p (slice_index_or m.kept.items (v - 1) d))) m n g v
+  pub leaves : (d : KeptWrite) → LeavesIf (has_all g (marked g p (slice_index_or m.kept.items (v - 1) d)) && group_whole (map (has_all g) n.kept.items) (group_at v)) m n g (group_at v)
   pub held_is : n.held ≡ m.held + 1
   pub owed_is : n.owed + 1 ≡ m.owed
 

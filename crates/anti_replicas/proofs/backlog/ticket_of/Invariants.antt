@@ -3,4 +3,4 @@ use Rattle.anti_replicas.proofs.backlog.ticket_of.Given as goal
 
 -- those up to here have other versions
 abbrev pub invariant-loop : goal.invariant-loop
-invariant-loop l = IsPast l.version l.counter l.at l.flight.pairs
+invariant-loop l = IsPast l.group l.counter l.at l.flight.pairs

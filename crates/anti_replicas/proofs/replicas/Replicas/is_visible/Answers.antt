@@ -1,7 +1,5 @@
-use Rattle.std.proofs.Common.{sym, ◌∙◌}
-use Rattle.anti_replicas.proofs.Bringing.{shows_below}
+use Rattle.std.proofs.Common.{sym}
 use Rattle.anti_replicas.proofs.replicas.Replicas.is_visible.Goals as goal
 
-pub returns-then-is_below_mark : goal.returns-then-is_below_mark
-returns-then-is_below_mark c = λ s h at.
-    sym (shows_below s h at.legal c.args.region c.args.id.now (sym (c.is_below_mark.ensures s h at) ∙ c.if-is_below_mark.true))
+pub returns-then-is_there : goal.returns-then-is_there
+returns-then-is_there c = λ s h at. sym (c.is_there.ensures s h at c.if-is_there.true)
