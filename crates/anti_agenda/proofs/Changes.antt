@@ -43,43 +43,41 @@ gone agenda offer awake was updates test count = record {
   rest = rest_stays agenda awake;
 }
 
--- one who sleeps more
-pub put_to_sleep : (old rested : Agenda) (offer : Offer) (object : ℕ) (awaited : Awaited) (asleep : BTreeSet Sleeper)
-    → IsGone offer old rested → Updates sleeper_cmp rested.asleep asleep (sleeper object awaited offer) true
-    → IsPutToSleep offer object awaited old (record { awake = rested.awake; asleep = asleep; idle = rested.idle })
-put_to_sleep old rested offer object awaited asleep gone updates = record {
+-- one who sleeps more, and is then awake no more
+pub put_to_sleep : (old new : Agenda) (offer : Offer) (object : ℕ) (awaited : Awaited) (asleep : BTreeSet Sleeper)
+    → Updates sleeper_cmp old.asleep asleep (sleeper object awaited offer) true
+    → IsGone offer (record { awake = old.awake; asleep = asleep; idle = old.idle }) new → IsPutToSleep offer object awaited old new
+put_to_sleep old new offer object awaited asleep updates gone = record {
   left = record { awake = gone.left.awake; fewer = gone.left.fewer };
   asleep = λ at what other.
       let one = sleeper object awaited offer in
-      let more = with_key sleepers_total sleepers_exact rested.asleep asleep one updates (sleeper at what other) in
-      let same = gone.rest.asleep at what other in (
-        λ is. elim (more.0 is) [ inl it ↦ inl it | inr had ↦ inr (same.0 had) ],
-        λ is. more.1 (elim is [ inl it ↦ inl it | inr had ↦ inr (same.1 had) ]),
-      );
+      let more = with_key sleepers_total sleepers_exact old.asleep asleep one updates (sleeper at what other) in
+      let same = gone.rest.asleep at what other in (λ is. more.0 (same.0 is), λ is. same.1 (more.1 is));
   idle = gone.rest.idle;
 }
 
--- one who is idle more
-pub idled : (old rested new : Agenda) (offer : Offer) → IsGone offer old rested → new.awake ≡ rested.awake
-    → new.asleep ≡ rested.asleep → new.idle.items ≡ rested.idle.items ++ offer ∷ [] → IsIdled offer old new
-idled old rested new offer gone awake asleep idle = record {
-  left = subst (λ (a : BTreeSet Offer). HasLeft offer old (record { awake = a; asleep = new.asleep; idle = new.idle })) (sym awake)
+-- one who is idle more, and is then awake no more
+pub idled : (old with_one new : Agenda) (offer : Offer) → with_one.awake ≡ old.awake → with_one.asleep ≡ old.asleep
+    → with_one.idle.items ≡ old.idle.items ++ offer ∷ [] → IsGone offer with_one new → IsIdled offer old new
+idled old with_one new offer awake asleep idle gone = record {
+  left = subst (λ (a : BTreeSet Offer). HasLeft offer (record { awake = a; asleep = old.asleep; idle = old.idle }) new) awake
       (record { awake = gone.left.awake; fewer = gone.left.fewer });
   asleep = subst (λ (a : BTreeSet Sleeper). (object : ℕ) (awaited : Awaited) (other : Offer)
-      → Contains (keys a) (sleeper object awaited other) ↔ IsAsleep old object awaited other) (sym asleep) gone.rest.asleep;
+      → IsAsleep new object awaited other ↔ Contains (keys a) (sleeper object awaited other)) asleep gone.rest.asleep;
   idle = λ other.
       let same = gone.rest.idle other in (
         λ is.
-            elim (Contains-push_cases rested.idle.items offer other (subst (λ (os : List Offer). Contains os other) idle is)) [
-              | inl had ↦ inr (same.0 had)
+            elim (Contains-push_cases old.idle.items offer other (subst (λ (os : List Offer). Contains os other) idle (same.0 is))) [
+              | inl had ↦ inr had
               | inr it ↦ inl (sym it)
             ],
         λ is.
-            subst (λ (os : List Offer). Contains os other) (sym idle)
+            same.1
+            (subst (λ (os : List Offer). Contains os other) (sym idle)
             (elim is [
-              | inl it ↦ subst (Contains (rested.idle.items ++ offer ∷ [])) (sym it) (Contains-push rested.idle.items offer)
-              | inr had ↦ Contains-append_left rested.idle.items (offer ∷ []) other (same.1 had)
-            ]),
+              | inl it ↦ subst (Contains (old.idle.items ++ offer ∷ [])) (sym it) (Contains-push old.idle.items offer)
+              | inr had ↦ Contains-append_left old.idle.items (offer ∷ []) other had
+            ])),
       );
 }
 

@@ -23,6 +23,12 @@ IsAsleep agenda object awaited offer = Contains (keys agenda.asleep) (sleeper ob
 abbrev pub IsIdle : Agenda → Offer → Type 0
 IsIdle agenda offer = Contains agenda.idle.items offer
 
+-- all stay who they are, in the order in which they stand
+pub record IsUnchanged (old new : Agenda) : Type 0 where
+  pub awake : keys new.awake ≡ keys old.awake
+  pub asleep : keys new.asleep ≡ keys old.asleep
+  pub idle : new.idle.items ≡ old.idle.items
+
 -- nobody is
 pub record IsEmpty (agenda : Agenda) : Type 0 where
   pub awake : (offer : Offer) → IsAwake agenda offer → ⊥

@@ -1,5 +1,5 @@
-ghost use Rattle.std.specs.Prelude.{OnOk};
-ghost use Rattle.anti_agenda.specs.Agendas.{IsEmpty, IsFirst, IsGone, IsIdled, IsPutToSleep, IsWoken};
+ghost use Rattle.std.specs.Prelude.{OnErr, OnOk};
+ghost use Rattle.anti_agenda.specs.Agendas.{IsEmpty, IsFirst, IsGone, IsIdled, IsPutToSleep, IsUnchanged, IsWoken};
 
 use crate::offer::{Offer, Sleeper};
 use anti_ids::NoMemory;
@@ -35,9 +35,10 @@ impl Agenda {
         self.awake.first().copied()
     }
 
-    /// Wakes an offer, which may be awake. The only error is want of memory.
+    /// Wakes an offer, which may be awake. The only error is want of memory, and then the agenda is as it was.
     pub fn wake(&mut self, offer: Offer) -> Result<(), NoMemory>
-        ensures { OnOk result (IsWoken offer self.old self.new) }
+        ensures ok { OnOk result (IsWoken offer self.old self.new) }
+        ensures err { OnErr result (IsUnchanged self.old self.new) }
     {
         self.awake.insert(offer)?;
         Ok(())
@@ -50,25 +51,29 @@ impl Agenda {
         self.awake.remove(&offer);
     }
 
-    /// Puts an offer that is awake to sleep, until what it awaits at the object is brought. The only error is want of memory.
+    /// Puts an offer that is awake to sleep, until what it awaits at the object is brought. The only error is want of memory,
+    /// and then the agenda is as it was.
     pub fn sleep(&mut self, offer: Offer, object: u32, awaited: Awaited) -> Result<(), NoMemory>
-        ensures { OnOk result (IsPutToSleep offer object awaited self.old self.new) }
+        ensures ok { OnOk result (IsPutToSleep offer object awaited self.old self.new) }
+        ensures err { OnErr result (IsUnchanged self.old self.new) }
     {
-        self.rest(offer);
         self.asleep.insert(Sleeper {
             object,
             awaited,
             offer,
         })?;
+        self.rest(offer);
         Ok(())
     }
 
-    /// Makes an offer that is awake idle, until anything is made. The only error is want of memory.
+    /// Makes an offer that is awake idle, until anything is made. The only error is want of memory, and then the agenda
+    /// is as it was.
     pub fn idle(&mut self, offer: Offer) -> Result<(), NoMemory>
-        ensures { OnOk result (IsIdled offer self.old self.new) }
+        ensures ok { OnOk result (IsIdled offer self.old self.new) }
+        ensures err { OnErr result (IsUnchanged self.old self.new) }
     {
-        self.rest(offer);
         self.idle.push(offer)?;
+        self.rest(offer);
         Ok(())
     }
 }

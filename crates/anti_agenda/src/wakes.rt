@@ -87,7 +87,7 @@ impl Agenda {
     }
 
     /// Wakes who may go on behind an entry at an object, which brought this: all that are idle, and those that sleep at the object for
-    /// what was brought. The only error is want of memory.
+    /// what was brought. The only error is want of memory, and then some of them may be awake already, and one may be named no more.
     pub fn stir(&mut self, object: u32, brought: Brought) -> Result<(), NoMemory>
         ensures { OnOk result (IsStirred object brought self.old self.new) }
     {

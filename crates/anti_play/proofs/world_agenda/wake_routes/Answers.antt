@@ -11,7 +11,7 @@ loop-replica-init c = all_none (λ (n : ℕ) (offer : Offer). offer ≡ Ship c.a
 pub loop-replica-preserved : goal.loop-replica-preserved
 loop-replica-preserved c =
     all_more (λ (n : ℕ) (offer : Offer). offer ≡ Ship c.args.store n) c.loop-replica.replica c.args.agenda.now c.loop-replica.agenda c.wake.new.self c.loop-replica.invariant
-    (all_one (Ship c.args.store c.loop-replica.replica) c.loop-replica.agenda c.wake.new.self c.in_ok-wake.ensures)
+    (all_one (Ship c.args.store c.loop-replica.replica) c.loop-replica.agenda c.wake.new.self c.in_ok-wake.ensures.ok)
 
 pub returns : goal.returns
 returns c =

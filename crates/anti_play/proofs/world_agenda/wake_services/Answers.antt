@@ -15,7 +15,7 @@ overflow_cast-service c = omega (arith, (app_known c.args.app.now c.requires.sou
 pub loop-service-preserved : goal.loop-service-preserved
 loop-service-preserved c =
     all_more (λ (n : ℕ) (offer : Offer). offer ≡ Take n) c.loop-service.service c.args.agenda.now c.loop-service.agenda c.wake.new.self c.loop-service.invariant
-    (all_one (Take c.loop-service.service) c.loop-service.agenda c.wake.new.self c.in_ok-wake.ensures)
+    (all_one (Take c.loop-service.service) c.loop-service.agenda c.wake.new.self c.in_ok-wake.ensures.ok)
 
 pub returns : goal.returns
 returns c =

@@ -15,7 +15,7 @@ overflow_cast-sub c = omega (arith, (app_known c.args.app.now c.requires.sound).
 pub loop-sub-preserved : goal.loop-sub-preserved
 loop-sub-preserved c =
     all_more (λ (n : ℕ) (offer : Offer). offer ≡ Pull n) c.loop-sub.sub c.args.agenda.now c.loop-sub.agenda c.wake.new.self c.loop-sub.invariant
-    (all_one (Pull c.loop-sub.sub) c.loop-sub.agenda c.wake.new.self c.in_ok-wake.ensures)
+    (all_one (Pull c.loop-sub.sub) c.loop-sub.agenda c.wake.new.self c.in_ok-wake.ensures.ok)
 
 pub returns : goal.returns
 returns c =

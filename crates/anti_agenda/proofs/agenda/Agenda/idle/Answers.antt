@@ -3,8 +3,8 @@ use Rattle.std.proofs.Common.{refl}
 use Rattle.anti_agenda.proofs.Changes.{idled}
 use Rattle.anti_agenda.proofs.agenda.Agenda.idle.Goals as goal
 
-pub returns : goal.returns
-returns c =
-    let rested : Agenda = c.rest.new.self in
-    let new : Agenda = record { awake = rested.awake; asleep = rested.asleep; idle = c.push.new.self } in
-    idled c.args.self.now rested new c.args.offer c.rest.ensures refl refl c.in_ok-push.ensures.items
+pub returns-clause-ok : goal.returns-clause-ok
+returns-clause-ok c =
+    let old : Agenda = c.args.self.now in
+    let with_one : Agenda = record { awake = old.awake; asleep = old.asleep; idle = c.push.new.self } in
+    idled old with_one c.rest.new.self c.args.offer refl refl c.in_ok-push.ensures.items c.rest.ensures

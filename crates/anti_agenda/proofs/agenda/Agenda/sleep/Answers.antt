@@ -1,7 +1,7 @@
 use Rattle.anti_agenda.proofs.Changes.{put_to_sleep}
 use Rattle.anti_agenda.proofs.agenda.Agenda.sleep.Goals as goal
 
-pub returns : goal.returns
-returns c =
-    put_to_sleep c.args.self.now c.rest.new.self c.args.offer c.args.object c.args.awaited c.insert.new.self c.rest.ensures
-    c.in_ok-insert.ensures.updates
+pub returns-clause-ok : goal.returns-clause-ok
+returns-clause-ok c =
+    put_to_sleep c.args.self.now c.rest.new.self c.args.offer c.args.object c.args.awaited c.insert.new.self c.in_ok-insert.ensures.updates
+    c.rest.ensures

@@ -35,7 +35,7 @@ returns-in-Some-clause-chose c = λ trace s a.
     let at = (goal.at.returns-in-Some-clause-chose c).In-Some in
     by_and c.sleep.result false c.and.result c.and.ensures
     (λ (r : Result Bool NoMemory). Turned c.args.app.now trace (entry_by_offer c.args.app.now trace c.args.offer) r c.args.self.now)
-    c.sleep.ensures
+    c.sleep.ensures.ok
     (λ put. chose_none c.args.app.now c.args.self.now trace (entry_by_offer c.args.app.now trace c.args.offer) (none_waits at trace s) s)
     (λ lost. went_nowhere c.args.app.now trace c.args.self.now s)
 
@@ -45,7 +45,7 @@ returns-in-Some-clause-attends c = λ trace s a.
     by_and c.sleep.result false c.and.result c.and.ensures
     (λ (r : Result Bool NoMemory).
     OnOk r (Attends c.args.app.now (with_entry (entry_by_offer c.args.app.now trace c.args.offer) trace) c.sleep.new.self))
-    c.sleep.ensures
+    c.sleep.ensures.ok
     (λ put.
     attends_none c.args.app.now trace (entry_by_offer c.args.app.now trace c.args.offer) c.sleep.new.self (none_waits at trace s)
     (attends_sleep c.args.app.now trace c.args.offer c.args.agenda.now c.sleep.new.self a c.requires.awake c.args.object c.in-Some.awaited put (waits at trace s)))
@@ -55,7 +55,7 @@ pub returns-in-Some-clause-fewer : goal.returns-in-Some-clause-fewer
 returns-in-Some-clause-fewer c =
     by_and c.sleep.result false c.and.result c.and.ensures
     (λ (r : Result Bool NoMemory). r ≡ Ok false → length (keys c.sleep.new.self.awake) < length (keys c.args.agenda.now.awake))
-    c.sleep.ensures
+    c.sleep.ensures.ok
     (λ put same. put.left.fewer c.requires.awake)
     (λ lost same. absurd (cc))
 
@@ -94,7 +94,7 @@ returns-then-not-branch-clause-chose c = λ trace s a.
     let made = came ((goal.at.returns-then-not-branch-clause-chose c).After-bear) trace (Ok false) s (c.in_ok-bear.was ∙ ap Ok c.if-not-branch.true) in
     by_and c.idle.result false c.and-then-not-branch.result c.and-then-not-branch.ensures
     (λ (r : Result Bool NoMemory). Turned c.args.app.now trace (entry_by_offer c.args.app.now trace c.args.offer) r c.bear.new.self)
-    c.idle.ensures
+    c.idle.ensures.ok
     (λ idled. made)
     (λ lost. vain_lost c.args.app.now trace (entry_by_offer c.args.app.now trace c.args.offer) (Err lost) c.bear.new.self refl made)
 
@@ -105,7 +105,7 @@ returns-then-not-branch-clause-attends c = λ trace s a.
     (came ((goal.at.returns-then-not-branch-clause-attends c).After-bear) trace (Ok false) s (c.in_ok-bear.was ∙ ap Ok c.if-not-branch.true))).0 in
     by_and c.idle.result false c.and-then-not-branch.result c.and-then-not-branch.ensures
     (λ (r : Result Bool NoMemory). OnOk r (Attends c.args.app.now (with_entry (entry_by_offer c.args.app.now trace c.args.offer) trace) c.idle.new.self))
-    c.idle.ensures
+    c.idle.ensures.ok
     (λ idled.
     attends_none c.args.app.now trace (entry_by_offer c.args.app.now trace c.args.offer) c.idle.new.self none
     (attends_idle c.args.app.now trace c.args.offer c.args.agenda.now c.idle.new.self a c.requires.awake idled none))
@@ -115,7 +115,7 @@ pub returns-then-not-branch-clause-fewer : goal.returns-then-not-branch-clause-f
 returns-then-not-branch-clause-fewer c =
     by_and c.idle.result false c.and-then-not-branch.result c.and-then-not-branch.ensures
     (λ (r : Result Bool NoMemory). r ≡ Ok false → length (keys c.idle.new.self.awake) < length (keys c.args.agenda.now.awake))
-    c.idle.ensures
+    c.idle.ensures.ok
     (λ idled same. idled.left.fewer c.requires.awake)
     (λ lost same. absurd (cc))
 
@@ -130,7 +130,7 @@ returns-clause-chose c = λ trace s a.
     let is = c.in_ok-bear.was ∙ ap Ok c.if-not-branch.false in
     by_and c.wake.result true c.and-2.result c.and-2.ensures
     (λ (r : Result Bool NoMemory). Turned c.args.app.now trace (entry_by_offer c.args.app.now trace c.args.offer) r c.bear.new.self)
-    c.wake.ensures
+    c.wake.ensures.ok
     (λ woken. came at trace (Ok true) s is)
     (λ lost. one_further at trace s is)
 
@@ -140,7 +140,7 @@ returns-clause-attends c = λ trace s a.
     let made = one at trace s (c.in_ok-bear.was ∙ ap Ok c.if-not-branch.false) in
     by_and c.wake.result true c.and-2.result c.and-2.ensures
     (λ (r : Result Bool NoMemory). OnOk r (Attends c.args.app.now (with_entry (entry_by_offer c.args.app.now trace c.args.offer) trace) c.wake.new.self))
-    c.wake.ensures
+    c.wake.ensures.ok
     (λ woken.
     attends_made c.args.app.now trace (entry_by_offer c.args.app.now trace c.args.offer) made.entry c.wake.new.self made.is
     (birth_attends c.args.app.now c.requires.sound trace s.run c.args.object c.args.call c.requires.born made.entry (sym (makes at trace) ∙ made.is)

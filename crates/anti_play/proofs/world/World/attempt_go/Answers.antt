@@ -50,7 +50,7 @@ returns-in-Some-awaits-clause-chose c = λ trace s a.
     let asked = c.in-Some.asked in
     by_and c.sleep.result false c.and.result c.and.ensures
     (λ (r : Result Bool NoMemory). Turned c.args.app.now trace (entry_by_offer c.args.app.now trace c.args.offer) r c.args.self.now)
-    c.sleep.ensures
+    c.sleep.ensures.ok
     (λ put.
     waits_turned c.args.app.now c.requires.sound c.args.self.now trace s c.args.offer c.birth-birth.result c.args.at c.get-process.result.now
     (goes ((goal.at.returns-in-Some-awaits-clause-chose c).After-birth-birth) trace s)
@@ -63,7 +63,7 @@ returns-in-Some-awaits-clause-attends c = λ trace s a.
     let asked = c.in-Some.asked in
     by_and c.sleep.result false c.and.result c.and.ensures
     (λ (r : Result Bool NoMemory). OnOk r (Attends c.args.app.now (with_entry (entry_by_offer c.args.app.now trace c.args.offer) trace) c.sleep.new.self))
-    c.sleep.ensures
+    c.sleep.ensures.ok
     (λ put.
     waits_attends c.args.app.now c.requires.sound c.args.self.now trace s c.args.offer c.birth-birth.result c.args.at c.get-process.result.now
     (goes ((goal.at.returns-in-Some-awaits-clause-attends c).After-birth-birth) trace s)
@@ -76,7 +76,7 @@ pub returns-in-Some-awaits-clause-fewer : goal.returns-in-Some-awaits-clause-few
 returns-in-Some-awaits-clause-fewer c =
     by_and c.sleep.result false c.and.result c.and.ensures
     (λ (r : Result Bool NoMemory). r ≡ Ok false → length (keys c.sleep.new.self.awake) < length (keys c.args.agenda.now.awake))
-    c.sleep.ensures
+    c.sleep.ensures.ok
     (λ put same. put.left.fewer c.requires.awake)
     (λ lost same. absurd (cc))
 
@@ -111,7 +111,7 @@ returns-then-not-branch-clause-chose c = λ trace s a.
     let off : c.in_ok-go_on.field-0 ≡ false = c.if-not-branch.true in
     by_and c.idle.result false c.and-then-not-branch.result c.and-then-not-branch.ensures
     (λ (r : Result Bool NoMemory). Turned c.args.app.now trace (entry_by_offer c.args.app.now trace c.args.offer) r c.go_on.new.self)
-    c.idle.ensures
+    c.idle.ensures.ok
     (λ idled.
     going_is c.args.app.now c.requires.sound c.args.self.now trace s c.args.offer c.birth-birth.result c.args.at c.get-process.result.now
     (goes ((goal.at.returns-then-not-branch-clause-chose c).After-birth-birth) trace s) (Ok false) c.go_on.new.self
@@ -128,7 +128,7 @@ returns-then-not-branch-clause-attends c = λ trace s a.
     let off : c.in_ok-go_on.field-0 ≡ false = c.if-not-branch.true in
     by_and c.idle.result false c.and-then-not-branch.result c.and-then-not-branch.ensures
     (λ (r : Result Bool NoMemory). OnOk r (Attends c.args.app.now (with_entry (entry_by_offer c.args.app.now trace c.args.offer) trace) c.idle.new.self))
-    c.idle.ensures
+    c.idle.ensures.ok
     (λ idled.
     vain_attends c.args.app.now c.requires.sound c.args.self.now trace s c.args.offer c.birth-birth.result c.args.at c.get-process.result.now
     (goes ((goal.at.returns-then-not-branch-clause-attends c).After-birth-birth) trace s)
@@ -141,7 +141,7 @@ pub returns-then-not-branch-clause-fewer : goal.returns-then-not-branch-clause-f
 returns-then-not-branch-clause-fewer c =
     by_and c.idle.result false c.and-then-not-branch.result c.and-then-not-branch.ensures
     (λ (r : Result Bool NoMemory). r ≡ Ok false → length (keys c.idle.new.self.awake) < length (keys c.args.agenda.now.awake))
-    c.idle.ensures
+    c.idle.ensures.ok
     (λ idled same. idled.left.fewer c.requires.awake)
     (λ lost same. absurd (cc))
 

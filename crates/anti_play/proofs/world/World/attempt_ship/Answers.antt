@@ -42,7 +42,7 @@ returns-in_default-clause-attends c = λ app route trace s a.
     let at = (goal.at.returns-in_default-clause-attends c).After-next_ship in
     by_and c.sleep.result false c.and.result c.and.ensures
     (λ (r : Result Bool NoMemory). OnOk r (Attends app (with_entry (entry_by_offer app trace c.args.offer) trace) c.sleep.new.self))
-    c.sleep.ensures
+    c.sleep.ensures.ok
     (λ put.
     route_attends app route.sound c.args.self.now trace s c.args.offer c.args.store route.replica c.args.region route.is route.to c.index-recorded.result.now (here at app trace s)
     (sym c.in_default.is ∙ told at) c.args.agenda.now c.sleep.new.self a c.requires.awake put)
@@ -52,7 +52,7 @@ pub returns-in_default-clause-fewer : goal.returns-in_default-clause-fewer
 returns-in_default-clause-fewer c =
     by_and c.sleep.result false c.and.result c.and.ensures
     (λ (r : Result Bool NoMemory). r ≡ Ok false → length (keys c.sleep.new.self.awake) < length (keys c.args.agenda.now.awake))
-    c.sleep.ensures
+    c.sleep.ensures.ok
     (λ put same. put.left.fewer c.requires.awake)
     (λ lost same. absurd (cc))
 
@@ -77,7 +77,7 @@ returns-then-not-branch-clause-chose c = λ app route trace s a.
     let at = (goal.at.returns-then-not-branch-clause-chose c).After-next_ship in
     by_and c.idle.result false c.and-then-not-branch.result c.and-then-not-branch.ensures
     (λ (r : Result Bool NoMemory). Turned app trace (entry_by_offer app trace c.args.offer) r c.carry.new.self)
-    c.idle.ensures
+    c.idle.ensures.ok
     (λ idled.
     carried_is app route.sound c.args.self.now trace s c.args.offer c.args.store route.replica c.args.region route.is route.to c.index-recorded.result.now (here at app trace s)
     c.in-Some.version c.in-Some.part (sym c.in-Some.is ∙ told at) (Ok false) c.carry.new.self
@@ -93,7 +93,7 @@ returns-then-not-branch-clause-attends c = λ app route trace s a.
     let at = (goal.at.returns-then-not-branch-clause-attends c).After-next_ship in
     by_and c.idle.result false c.and-then-not-branch.result c.and-then-not-branch.ensures
     (λ (r : Result Bool NoMemory). OnOk r (Attends app (with_entry (entry_by_offer app trace c.args.offer) trace) c.idle.new.self))
-    c.idle.ensures
+    c.idle.ensures.ok
     (λ idled.
     unshipped_attends app route.sound c.args.self.now trace s c.args.offer c.args.store route.replica c.args.region route.is route.to c.index-recorded.result.now (here at app trace s)
     c.in-Some.version c.in-Some.part (sym c.in-Some.is ∙ told at) c.carry.new.self
@@ -105,7 +105,7 @@ pub returns-then-not-branch-clause-fewer : goal.returns-then-not-branch-clause-f
 returns-then-not-branch-clause-fewer c =
     by_and c.idle.result false c.and-then-not-branch.result c.and-then-not-branch.ensures
     (λ (r : Result Bool NoMemory). r ≡ Ok false → length (keys c.idle.new.self.awake) < length (keys c.args.agenda.now.awake))
-    c.idle.ensures
+    c.idle.ensures.ok
     (λ idled same. idled.left.fewer c.requires.awake)
     (λ lost same. absurd (cc))
 
@@ -143,7 +143,7 @@ returns-in_default-clause-chose c = λ app route trace s a.
     let at = (goal.at.returns-in_default-clause-chose c).After-next_ship in
     by_and c.sleep.result false c.and.result c.and.ensures
     (λ (r : Result Bool NoMemory). Turned app trace (entry_by_offer app trace c.args.offer) r c.args.self.now)
-    c.sleep.ensures
+    c.sleep.ensures.ok
     (λ put.
     route_turned app route.sound c.args.self.now trace s c.args.offer c.args.store route.replica c.args.region route.is route.to c.index-recorded.result.now (here at app trace s)
     (sym c.in_default.is ∙ told at))

@@ -22,7 +22,7 @@ loop-at-preserved c = λ app trace sound s.
     let this = Go c.args.object at in
     let one : Wakes app trace (λ offer. offer ≡ this) now c.if-is_some.agenda = elim c.if-is_some.branch [
       | then-is_some+in_ok-wake w ↦
-          subst (λ (later : Agenda). Wakes app trace (λ offer. offer ≡ this) now later) (sym w.agenda-is) (wakes_one app trace this now w.wake.new.self w.in_ok-wake.ensures)
+          subst (λ (later : Agenda). Wakes app trace (λ offer. offer ≡ this) now later) (sym w.agenda-is) (wakes_one app trace this now w.wake.new.self w.in_ok-wake.ensures.ok)
       | else-is_some w ↦
           let ended : HasEnded app c.get.result.now = if_none c.next.result (HasEnded app c.get.result.now) (sym c.is_some.ensures ∙ w.if-is_some.false) (c.next.ensures.none app) in
           subst (λ (later : Agenda). Wakes app trace (λ offer. offer ≡ this) now later) (sym w.agenda-is)
