@@ -1,4 +1,4 @@
-ghost use Rattle.std.specs.Prelude.{◌≡◌, IfOk, IsTrue};
+ghost use Rattle.std.specs.Prelude.{◌≡◌, true, IfOk, IsTrue};
 ghost use Rattle.std.specs.List.{list_all};
 ghost use Rattle.anti_app.specs.Sound.{is_sound};
 ghost use Rattle.law_causal.specs.Words.{brings};
@@ -14,16 +14,36 @@ use anti_kind::{Call, Entry, Message, Reply, Row};
 use anti_trace::Trace;
 use std::alloc::Global;
 
-// Whether an id is in a lineage, of which the rest was not met yet. The next of the rest is compared first.
+// Whether an id that was met is known to come behind another, by the store and the version alone: names are dear to compare.
+fn goes_behind(met: &WriteId, id: &WriteId) -> bool {
+    met.store > id.store || met.store == id.store && met.version > id.version
+}
+
+// Whether an id is met in the rest of a lineage. The rest is gone along up to that id, or to the first that is known to come behind it, so
+// that ids which ascend stay in step with it where it has more than they.
+fn meets(lineage: &Lineage, rest: &mut Ids<'_>, id: &WriteId) -> bool
+    requires { IsRear lineage.now rest.old }
+    ensures there { IsTrue result → has_id id.now lineage.now ≡ true }
+    ensures rear { IsRear lineage.now rest.new }
+{
+    while let Some(met) = rest.next() {
+        if goes_behind(&met, id) {
+            return false;
+        }
+        if met.version == id.version && met == *id {
+            return true;
+        }
+    }
+    false
+}
+
+// Whether an id is in a lineage, of which the rest was not met yet. It is searched for only where it is not met there.
 fn holds_next(lineage: &Lineage, rest: &mut Ids<'_>, id: &WriteId) -> bool
     requires { IsRear lineage.now rest.old }
     ensures is { result ≡ has_id id.now lineage.now }
     ensures rear { IsRear lineage.now rest.new }
 {
-    match rest.next() {
-        Some(met) => met == *id || lineage.contains(id),
-        None => lineage.contains(id),
-    }
+    meets(lineage, rest, id) || lineage.contains(id)
 }
 
 /// Whether all ids of a lineage are in another. What was carried before is mostly a front of what is carried now.
