@@ -26,6 +26,7 @@ pub fn marks_of(alloc: Global, trace: &Trace, places: &[u32]) -> Result<Marks, N
     ensures { IfOk result (λ marks. AreMarksOf trace.now places.now marks.items) }
 {
     let mut marks = List::new(alloc);
+    marks.reserve(places.len().min(u32::MAX as usize) as u32)?; // so that they never move
     for place in places {
         match marks.push(mark_at(trace, *place)) {
             Ok(()) => {}

@@ -70,6 +70,7 @@ impl Arranging {
             ≡ self.order.items ++ filter (λ i. not (is_listed self.listed.items i)) places.now) }
     {
         let Arranging { mut order, listed } = self;
+        order.reserve(places.len())?; // so that it moves once at most
         for place in places {
             if !is_listed(listed.as_slice(), *place) {
                 order.push(*place)?;
