@@ -46,6 +46,27 @@ module _ {T E F : Type 0} (list : T → List E) (by : E → ℕ) (fixed : T → 
     };
   }
 
+  -- the turn stays taken, whether somebody waits for it or not
+  pub stay_taken : (turn holder made out : ℕ) (slot : home.Option (Option T)) (all : List E) (views : List (View E F)) → Fits list by fixed part turn holder made out slot all views
+      → turn ≢ 0 → (now : ℕ) → now ≢ 0 → Fits list by fixed part now holder made out slot all views
+  stay_taken turn holder made out slot all views f was now busy = record {
+    complete = f.complete;
+    free = λ none. absurd (busy none);
+    taken = λ taken. f.taken was;
+    knows = λ id v at.
+        let known = f.knows id v at in
+        record {
+          spent_is = known.spent_is;
+          part_is = known.part_is;
+          seen = known.seen;
+          holds = λ h. let held = known.holds h in (held.0, busy, held.2);
+          alone = known.alone;
+          host = known.host;
+          guest = known.guest;
+        };
+    counts = f.counts;
+  }
+
   module _ (turn holder made out : ℕ) (slot : home.Option (Option T)) (all : List E) (views : List (View E F)) (f : Fits list by fixed part turn holder made out slot all views)
       (id : ℕ) (v : View E F) (at : get_elem? views id ≡ home.some v) (live : v.live ≡ true) where
     mine : Knows by part turn holder all views id v
@@ -53,20 +74,20 @@ module _ {T E F : Type 0} (list : T → List E) (by : E → ℕ) (fixed : T → 
 
     -- the turn is taken, and the value with it
     pub take : (x : T) → turn ≡ 0 → list x ≡ all → v.host ≡ blank_recall → v.guest ≡ blank_recall
-        → Fits list by fixed part 1 id made out home.none all (set views id (taken_view v (list x)))
-    take x free same host guest =
+        → (now : ℕ) → now ≢ 0 → Fits list by fixed part now id made out home.none all (set views id (taken_view v (list x)))
+    take x free same host guest now busy =
         let w = taken_view v (list x) in
         let after = set views id w in
         record {
           complete = (id, w, at_here views id v w at, live, same);
-          free = λ one. absurd (omega arith);
-          taken = λ now. (w, at_here views id v w at, refl);
-          knows = each_set (λ (k : ℕ) (u : View E F). Knows by part 1 id all after k u) views id w
+          free = λ none. absurd (busy none);
+          taken = λ taken. (w, at_here views id v w at, refl);
+          knows = each_set (λ (k : ℕ) (u : View E F). Knows by part now id all after k u) views id w
               (record {
                 spent_is = λ dead. absurd (cc);
                 part_is = mine.part_is;
                 seen = subst (λ (xs : List E). GoesOn by (view_numbers v) xs all) (sym same) (goes_self by (view_numbers v) all);
-                holds = λ h. (refl, refl, same);
+                holds = λ h. (refl, busy, same);
                 alone = λ a. alone_set views id w (mine.alone a);
                 host = blank_goes by part v.host (list x) host;
                 guest = blank_goes by part v.guest (list x) guest;
@@ -77,7 +98,7 @@ module _ {T E F : Type 0} (list : T → List E) (by : E → ℕ) (fixed : T → 
                 spent_is = known.spent_is;
                 part_is = known.part_is;
                 seen = known.seen;
-                holds = λ h. let taken = (known.holds h).1 in absurd (omega arith);
+                holds = λ h. absurd ((known.holds h).1 free);
                 alone = known.alone;
                 host = known.host;
                 guest = known.guest;

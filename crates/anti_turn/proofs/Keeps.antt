@@ -1,9 +1,10 @@
 -- Each step of a turn keeps its rule, and tells what it is to tell.
-use Rattle.std.proofs.Common.{◌≡◌, ◌==◌, ℕ, zero, suc, max, ◌+◌, ◌-◌, ◌*◌, ◌/◌, ◌%◌, ◌^◌, ◌<◌, ◌≤◌, true, false, List, [], ◌∷◌, ◌++◌, set, get_or, Option, Some, All, sym, refl, ap, ◌∙◌, subst, arith}
+use Rattle.std.proofs.Common.{◌≡◌, ◌≢◌, ◌==◌, ℕ, zero, suc, max, ◌+◌, ◌-◌, ◌*◌, ◌/◌, ◌%◌, ◌^◌, ◌<◌, ◌≤◌, true, false, List, [], ◌∷◌, ◌++◌, set, get_or, Option, Some, All, ◌⊎◌, inl, inr, sym, refl, ap, ◌∙◌, subst, arith}
 use mathlib.Core.Option as home
 use lib.ListN.{get_elem?}
 use prog.Atomic.{either}
-use Rattle.atomic_table.specs.Table.{State, Act, keeps, takes, gives, Valid, step, stepped, carried_after, Allows, Splits, Joins, opening, Final, Seen}
+use Rattle.std.proofs.lemmas.Bool.{cases_eq}
+use Rattle.atomic_table.specs.Table.{State, Step, Act, keeps, takes, gives, Valid, step, stepped, carried_after, Allows, Splits, Joins, opening, Final, Seen}
 use Rattle.atomic_table.proofs.Lists.{exchanged, set_again, set_else}
 use Rattle.anti_turn.specs.declared.view.View.{View}
 use Rattle.anti_turn.specs.Lists.{times, top, IsFront, entries_of, GoesOn, Adds}
@@ -13,7 +14,7 @@ use Rattle.anti_turn.specs.inner.Steps.{Hand, taken_view, freed_view, raised_vie
 use Rattle.anti_turn.proofs.Totals.{term_le}
 use Rattle.anti_turn.proofs.Counting.{live_weight, never_claimed}
 use Rattle.anti_turn.proofs.Fronts.{all_claimed, none_in_front}
-use Rattle.anti_turn.proofs.Fitting.{begin, take, free_turn, raise, split, join, lower, ask, note, alone_count, lone_has_seen_all, ends}
+use Rattle.anti_turn.proofs.Fitting.{begin, stay_taken, take, free_turn, raise, split, join, lower, ask, note, alone_count, lone_has_seen_all, ends}
 use Rattle.anti_turn.proofs.Marks.{marks_begin, marks_stay, mark_of_front, marks_grow, marks_split, marks_join, marks_up, marks_down}
 
 -- ---- the word of the seats, and its halves
@@ -66,64 +67,81 @@ module _ {T E F : Type 0} (list : T → List E) (by : E → ℕ) (fixed : T → 
     few_out : r.out < 4294967296
     few_out = let c = r.fits.counts.few in let m = few_made in omega arith
 
-    -- a step that changes nothing
-    unmoved : (id : ℕ) (m : Hand T E F) → get_elem? s.views id ≡ home.some m.0 → IsKept list by fixed mark part (stepped s 0 (get_or s.words 0 0) id m.1 m.0 keeps)
-    unmoved id m at = record {
-      turn = r.turn;
-      holder = r.holder;
-      made = r.made;
-      out = r.out;
-      slot = r.slot;
-      all = r.all;
-      marks = r.marks;
-      words = ap (λ (ws : List ℕ). set ws 0 (get_or ws 0 0)) r.words;
-      homes = r.homes;
-      fits = subst (λ (vs : List (View E F)). Fits list by fixed part r.turn r.holder r.made r.out r.slot r.all vs) (sym (set_again s.views id m.0 at)) r.fits;
-      marked = subst (IsMarked mark part r.marks r.all) (sym (set_again s.views id m.0 at)) r.marked;
-    }
+    -- The word of the turn becomes another than 0. The turn is taken if it was free, and else it stays with the seat that has it.
+    tries : (now : ℕ) → now ≢ 0 → (st : Step (Option T)) (id : ℕ) (m : Hand T E F) → get_elem? s.views id ≡ home.some m.0 → IsAtRest m.0
+        → (get_or s.words 0 0 ≡ 0) ⊎ (get_or s.words 0 0 ≢ 0)
+        → (w : View E F) × (a : Act (Option T)) × Valid s.homes m.1 a × IsKept list by fixed mark part (stepped s 0 now id m.1 w a)
+        × Tries list by fixed mark st m (get_or s.words 0 0) (w, carried_after m.1 a)
+    tries now busy st id m at rest (inl hit) =
+        let free : r.turn ≡ 0 = sym turn_found ∙ hit in
+        let value = r.fits.free free in
+        let x = value.0 in
+        let known = r.fits.knows id m.0 at in
+        let w = taken_view m.0 (list x) in
+        let theirs : m.0.fixed ≡ Some part = known.part_is rest.live in (
+          w,
+          takes 0 (Some x),
+          ap (λ (hs : List (home.Option (Option T))). get_elem? hs 0) r.homes ∙ ap (λ (h : home.Option (Option T)). home.some h) value.1,
+          record {
+            turn = now;
+            holder = id;
+            made = r.made;
+            out = r.out;
+            slot = home.none;
+            all = r.all;
+            marks = r.marks;
+            words = ap (λ (ws : List ℕ). set ws 0 now) r.words;
+            homes = ap (λ (hs : List (home.Option (Option T))). set hs 0 home.none) r.homes;
+            fits = take list by fixed part r.turn r.holder r.made r.out r.slot r.all s.views r.fits id m.0 at rest.live x free value.2 rest.host rest.guest now busy;
+            marked = marks_stay mark part r.marks r.all s.views id m.0 w at refl refl r.marked;
+          },
+          (
+            (λ none. (
+              x,
+              refl,
+              subst (λ (xs : List E). GoesOn by (view_numbers m.0) m.0.seen xs) (sym value.2) known.seen,
+              theirs ∙ ap Some (sym value.3),
+              (λ word. subst (λ (z : F × List E). top word m.0.loaded ≤ mark z.0 word z.1) (λ i. (sym value.3 i, sym value.2 i)) ((r.marked.noted id m.0 at).loaded word)),
+            )),
+            (λ taken. absurd (taken hit)),
+          ),
+        )
+    tries now busy st id m at rest (inr miss) = (
+      m.0,
+      keeps,
+      tt,
+      record {
+        turn = now;
+        holder = r.holder;
+        made = r.made;
+        out = r.out;
+        slot = r.slot;
+        all = r.all;
+        marks = r.marks;
+        words = ap (λ (ws : List ℕ). set ws 0 now) r.words;
+        homes = r.homes;
+        fits = subst (λ (vs : List (View E F)). Fits list by fixed part now r.holder r.made r.out r.slot r.all vs) (sym (set_again s.views id m.0 at))
+            (stay_taken list by fixed part r.turn r.holder r.made r.out r.slot r.all s.views r.fits (λ free. miss (turn_found ∙ free)) now busy);
+        marked = subst (IsMarked mark part r.marks r.all) (sym (set_again s.views id m.0 at)) r.marked;
+      },
+      ((λ none. absurd (miss none)), (λ taken. refl)),
+    )
 
+  -- who comes takes the turn if it is free
   pub takes_turn : (slots id : ℕ) (m : Hand T E F) → IsAtRest m.0
       → Allows (IsKept list by fixed mark part) slots id m 0 (λ n. either (n == 0) 1 n) (Tries list by fixed mark (step slots 0 0 1 home.none) m)
   takes_turn slots id m rest s r _ at _ =
       let n : ℕ = get_or s.words 0 0 in
+      let st : Step (Option T) = step slots 0 0 1 home.none in
       let Goal : ℕ → Type 0 = λ k. (w : View E F) × (a : Act (Option T)) × Valid s.homes m.1 a × IsKept list by fixed mark part (stepped s 0 k id m.1 w a)
-      × Tries list by fixed mark (step slots 0 0 1 home.none) m n (w, carried_after m.1 a) in
-      exchanged n 0 1 Goal
-      (λ hit.
-      let free : r.turn ≡ 0 = sym (turn_found s r) ∙ hit in
-      let value = r.fits.free free in
-      let x = value.0 in
-      let known = r.fits.knows id m.0 at in
-      let w = taken_view m.0 (list x) in
-      let theirs : m.0.fixed ≡ Some part = known.part_is rest.live in (
-        w,
-        takes 0 (Some x),
-        ap (λ (hs : List (home.Option (Option T))). get_elem? hs 0) r.homes ∙ ap (λ (h : home.Option (Option T)). home.some h) value.1,
-        record {
-          turn = 1;
-          holder = id;
-          made = r.made;
-          out = r.out;
-          slot = home.none;
-          all = r.all;
-          marks = r.marks;
-          words = ap (λ (ws : List ℕ). set ws 0 1) r.words;
-          homes = ap (λ (hs : List (home.Option (Option T))). set hs 0 home.none) r.homes;
-          fits = take list by fixed part r.turn r.holder r.made r.out r.slot r.all s.views r.fits id m.0 at rest.live x free value.2 rest.host rest.guest;
-          marked = marks_stay mark part r.marks r.all s.views id m.0 w at refl refl r.marked;
-        },
-        (
-          (λ now. (
-            x,
-            refl,
-            subst (λ (xs : List E). GoesOn by (view_numbers m.0) m.0.seen xs) (sym value.2) known.seen,
-            theirs ∙ ap Some (sym value.3),
-            (λ word. subst (λ (z : F × List E). top word m.0.loaded ≤ mark z.0 word z.1) (λ i. (sym value.3 i, sym value.2 i)) ((r.marked.noted id m.0 at).loaded word)),
-          )),
-          (λ busy. absurd (busy hit)),
-        ),
-      ))
-      (λ miss. (m.0, keeps, tt, unmoved s r id m at, ((λ now. absurd (miss now)), (λ busy. refl))))
+      × Tries list by fixed mark st m n (w, carried_after m.1 a) in
+      exchanged n 0 1 Goal (λ hit. tries s r 1 (λ none. omega arith) st id m at rest (inl hit)) (λ miss. tries s r n miss st id m at rest (inr miss))
+
+  -- who waits does so too, and the word says that somebody waits
+  pub awaits_turn : (slots id : ℕ) (m : Hand T E F) → IsAtRest m.0
+      → Allows (IsKept list by fixed mark part) slots id m 0 (λ _. 2) (Tries list by fixed mark (step slots 0 2 0 home.none) m)
+  awaits_turn slots id m rest s r _ at _ =
+      tries s r 2 (λ none. omega arith) (step slots 0 2 0 home.none) id m at rest (cases_eq (get_or s.words 0 0) 0)
 
   same_value : (x y : T) → (let one : List (ℕ × Option T) = (0, Some x) ∷ [] in let two : List (ℕ × Option T) = (0, Some y) ∷ [] in one ≡ two) → x ≡ y
   same_value x y p =
@@ -138,7 +156,7 @@ module _ {T E F : Type 0} (list : T → List E) (by : E → ℕ) (fixed : T → 
     grows : (s : State (Option T) (View E F)) (r : IsKept list by fixed mark part s) → get_elem? s.views id ≡ home.some v → IsFront r.all (list x)
     grows s r at = subst (λ (xs : List E). IsFront xs (list x)) ((r.fits.knows id v at).holds holds).2 (adds.more, adds.whole)
 
-    frees : Allows (IsKept list by fixed mark part) slots id (v, (0, Some x) ∷ []) 0 (λ _. 0) (λ _. Frees list (step slots 0 0 0 home.none) (v, (0, Some x) ∷ []) 0)
+    frees : Allows (IsKept list by fixed mark part) slots id (v, (0, Some x) ∷ []) 0 (λ _. 0) (Frees list (step slots 0 0 0 home.none) (v, (0, Some x) ∷ []))
     frees s r _ at _ = (
       freed_view v (list x),
       gives,
@@ -159,8 +177,8 @@ module _ {T E F : Type 0} (list : T → List E) (by : E → ℕ) (fixed : T → 
       (λ y p. ap (λ (z : T). let z' : Hand T E F = (freed_view v (list z), []) in z') (same_value x y p)),
     )
 
-    pub frees_turn : (m : Hand T E F) → m ≡ (v, (0, Some x) ∷ []) → Allows (IsKept list by fixed mark part) slots id m 0 (λ _. 0) (λ _. Frees list (step slots 0 0 0 home.none) m 0)
-    frees_turn m is = subst (λ (z : Hand T E F). Allows (IsKept list by fixed mark part) slots id z 0 (λ _. 0) (λ _. Frees list (step slots 0 0 0 home.none) z 0)) (sym is) frees
+    pub frees_turn : (m : Hand T E F) → m ≡ (v, (0, Some x) ∷ []) → Allows (IsKept list by fixed mark part) slots id m 0 (λ _. 0) (Frees list (step slots 0 0 0 home.none) m)
+    frees_turn m is = subst (λ (z : Hand T E F). Allows (IsKept list by fixed mark part) slots id z 0 (λ _. 0) (Frees list (step slots 0 0 0 home.none) z)) (sym is) frees
 
   pub raises : (slots id : ℕ) (m : Hand T E F) → IsAtRest m.0 → 0 < m.0.room
       → Allows (IsKept list by fixed mark part) slots id m 1 (λ n. (n + 4294967297) % 2 ^ 64) (Raises by (step slots 1 4294967297 0 home.none) m)

@@ -5,9 +5,9 @@ ghost use Rattle.anti_turn.specs.inner.Views.{IsAtRest};
 ghost use Rattle.anti_turn.specs.inner.Steps.{Takes};
 
 use crate::listed::Listed;
-use crate::plays::{Free, Take};
+use crate::plays::{Await, Free, Take};
 use crate::seat::Seat;
-use crate::turn::{FREE, Held, TAKEN, TURN, Turn, VALUE};
+use crate::turn::{FREE, Held, TAKEN, TURN, Turn, VALUE, WAITED};
 use crate::view::View;
 use std::sync::Wait;
 
@@ -41,12 +41,16 @@ impl<T: Listed> Turn<T> {
         ensures taken { Takes T.list T.by T.fixed T.mark seat.old.me seat.new.me }
     {
         let shared = &self.table.shared;
+        if shared.compare_exchange::<Take<T>>(seat, TURN, FREE, TAKEN) == FREE {
+            return;
+        }
+        // No wake-up is lost. `park` falls asleep only if the word is WAITED at that moment. Then nothing but a `leave` changes the word, and that
+        // one wakes a thread. Who wakes writes WAITED again, and so has the turn as WAITED, since others may sleep too: the next `leave` wakes one.
         for _ in rt.forever() {
-            let found = shared.compare_exchange::<Take<T>>(seat, TURN, FREE, TAKEN);
-            if found == FREE {
+            if shared.swap::<Await<T>>(seat, TURN, WAITED) == FREE {
                 return;
             }
-            shared.park(rt, TURN, TAKEN as u32);
+            shared.park(rt, TURN, WAITED as u32);
         }
         // `forever` does not end
         unreachable!()
@@ -65,7 +69,8 @@ impl<T: Listed> Turn<T> {
         let nothing = shared.exchange(&mut seat.seat, VALUE, Some(value));
         // `enter` moved the value out of the slot (`Sits`)
         let None = nothing else { unreachable!() };
-        shared.store::<Free<T>>(&mut seat.seat, TURN, FREE);
-        shared.wake_one(TURN);
+        if shared.swap::<Free<T>>(&mut seat.seat, TURN, FREE) == WAITED {
+            shared.wake_one(TURN);
+        }
     }
 }

@@ -3,7 +3,7 @@
 //! the turn stand marks, which only rise: they tell without the turn how far the list has got.
 //!
 //! What contracts see stands in `specs/Places.antt`. `specs/inner/Rules.antt` has what is true of a turn between any two steps. There are
-//! eleven kinds of step: the nine of `plays.rt`, of which `specs/inner/Steps.antt` has what each changes and tells, and the moves of the
+//! twelve kinds of step: the ten of `plays.rt`, of which `specs/inner/Steps.antt` has what each changes and tells, and the moves of the
 //! value out of its slot and back into it. Parking and waking change nothing.
 #![tactic(auto)]
 

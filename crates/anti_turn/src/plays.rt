@@ -16,6 +16,15 @@ impl<T: Listed> Play<Option<T>, View<T::Entry, T::Fixed>> for Take<T> {
     ghost then = { Tries T.list T.by T.fixed T.mark };
 }
 
+// The word of the turn says that a thread waits, and the turn is taken, if it was free.
+pub struct Await<T> {
+    marker: PhantomData<T>,
+}
+
+impl<T: Listed> Play<Option<T>, View<T::Entry, T::Fixed>> for Await<T> {
+    ghost then = { Tries T.list T.by T.fixed T.mark };
+}
+
 // The word of the turn is set free.
 pub struct Free<T> {
     marker: PhantomData<T>,

@@ -21,10 +21,13 @@ pub(crate) const MARKS: usize = 2;
 // The slot of the value.
 pub(crate) const VALUE: usize = 0;
 
-// The word of the turn.
+// The word of the turn. A seat has the turn where it is not `FREE`.
 pub(crate) const FREE: u64 = 0;
 
 pub(crate) const TAKEN: u64 = 1;
+
+// A seat has it, and threads may sleep until it is free.
+pub(crate) const WAITED: u64 = 2;
 
 // In the upper half of the count stands how many seats were made, in the lower how many are out. A seat more is one more of both.
 pub(crate) const MADE: u64 = 1 << 32;

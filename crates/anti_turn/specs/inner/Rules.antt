@@ -1,7 +1,7 @@
 -- What is true of a turn between any two steps.
 --
--- A turn has ten words and a slot. The first word is 0 where the turn is free, and 1 where a seat has it. The second is the number of seats
--- that were ever made times 2 ^ 32, plus the number of those that are out.
+-- A turn has ten words and a slot. The first word is 0 where the turn is free. Where a seat has it, it is 2 if another may wait for it, and
+-- else 1. The second is the number of seats that were ever made times 2 ^ 32, plus the number of those that are out.
 -- Behind these come eight marks. The slot holds the value, unless a seat took it out with the turn.
 use Rattle.std.specs.Prelude.{◌≡◌, ◌≢◌, ℕ, ◌+◌, ◌*◌, ◌<◌, ◌≤◌, true, false, List, [], ◌∷◌, length, get_or, Option, Some}
 use mathlib.Core.Option as home
@@ -30,7 +30,7 @@ pub record Knows {E F : Type 0} (by : E → ℕ) (part : F) (turn holder : ℕ) 
   pub part_is : v.live ≡ true → v.fixed ≡ Some part
   -- it has seen a front of the list, in which all entries of its numbers stand
   pub seen : GoesOn by (view_numbers v) v.seen all
-  pub holds : v.holds ≡ true → (id ≡ holder) × (turn ≡ 1) × (v.seen ≡ all)
+  pub holds : v.holds ≡ true → (id ≡ holder) × (turn ≢ 0) × (v.seen ≡ all)
   pub alone : v.alone ≡ true → IsAlone id views
   -- what a join put together, until the joined seat is counted out
   pub host : GoesOn by v.host.numbers v.host.seen v.seen

@@ -5,8 +5,8 @@ use Rattle.anti_turn.proofs.Keeps.{frees_turn}
 use Rattle.anti_turn.proofs.Shown.{filled_slot, freed_sits}
 use Rattle.anti_turn.proofs.turn.Turn.leave.Goals as goal
 
-pub store-requires : goal.store-requires
-store-requires g c =
+pub swap-requires : goal.swap-requires
+swap-requires g c =
     let l = g.T.Listed in
     let value = c.args.held.value in
     let me = c.seat.inside.seat.me in
@@ -26,4 +26,4 @@ invariant_of-seat g c =
     let me = c.seat.inside.seat.me in
     let holds : me.0.holds ≡ true = ap (λ (p : Place g.row.T-Entry.Denot g.row.T-Fixed.Denot). p.holds) c.seat.view_is ∙ c.requires.holds in
     let filled = filled_slot me c.exchange-nothing.new.seat.me value c.seat.invariant.slots holds c.exchange-nothing.ensures.3 in
-    freed_sits g.T.Listed.list me _ c.store.new.seat.me value _ _ c.seat.invariant filled c.store.ensures.2
+    freed_sits g.T.Listed.list me _ c.swap.new.seat.me value _ _ c.seat.invariant filled c.swap.ensures.2
