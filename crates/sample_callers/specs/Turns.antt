@@ -2,6 +2,8 @@
 use Rattle.std.specs.Prelude.{◌≡◌, ℕ, true, List, All, Option}
 use Rattle.anti_kind.specs.Objects.{Start}
 use Rattle.anti_kind.specs.Ports.{View}
+use Rattle.anti_shim.specs.declared.barrier_answer.BarrierAnswer.{BarrierAnswer}
+use Rattle.anti_shim.specs.declared.barrier_answer.BarrierAnswer.TheVariants.{Clear}
 use Rattle.anti_shim.specs.declared.caller.Caller.{Caller}
 use Rattle.anti_shim.specs.declared.looks.PlannedLook.{PlannedLook}
 use Rattle.anti_shim.specs.declared.sight.Sight.{Sight}
@@ -22,3 +24,8 @@ pub record AllSeen (region : ℕ) (planned : List PlannedLook) (step : Step) : T
   pub sights : List Sight
   pub each : All (λ look. has_sight sights look.store ≡ true) planned
   pub seen : HasSights step.new step.after region planned sights
+
+-- any answer of a barrier but that it is clear
+abbrev pub IsRefusal : BarrierAnswer → Type 0
+IsRefusal (Clear sights) = ⊥
+IsRefusal answer = Unit {0}

@@ -7,7 +7,7 @@ ghost use Rattle.anti_shim.specs.Plans.{plan};
 ghost use Rattle.anti_shim.specs.Shims.{Reads, Writes};
 ghost use Rattle.anti_shim.specs.Sights.{HasSights, IsHere, unseen};
 ghost use Rattle.anti_shim.specs.Steps.{between};
-ghost use Rattle.sample_callers.specs.Turns.{AllSeen, Then};
+ghost use Rattle.sample_callers.specs.Turns.{AllSeen, IsRefusal, Then};
 
 use anti_ids::{Lineage, Name, Value, WriteId};
 use anti_kind::{Port, Row};
@@ -68,6 +68,7 @@ pub fn read_behind<P: Port>(
         IfOk result (λ read. Then step (AllSeen store.now.region planned) (λ s. Reads s store.now.store store.now.region key read)) }
     ensures cause { let step = between P.Port port.old port.new who.old who.new in let planned = plan here.now lineage.now in
         IfErr result (BarrierGives step store.now.region planned (unseen cursor.old planned) cursor.new) }
+    ensures refused { IfErr result IsRefusal }
     ensures again { OnErr result (HasSights (P.view port.new) who.new store.now.region (plan here.now lineage.now) cursor.new) }
     ensures fixed { (o : ℕ) → P.start port.new o ≡ P.start port.old o }
 {
