@@ -44,8 +44,9 @@ impl<T: Listed> Turn<T> {
         if shared.compare_exchange::<Take<T>>(seat, TURN, FREE, TAKEN) == FREE {
             return;
         }
-        // No wake-up is lost. `park` falls asleep only if the word is WAITED at that moment. Then nothing but a `leave` changes the word, and that
-        // one wakes a thread. Who wakes writes WAITED again, and so has the turn as WAITED, since others may sleep too: the next `leave` wakes one.
+        // No wake-up is lost. `park` falls asleep only if the word is WAITED at that moment. Then nothing but a `leave` changes the word,
+        // and that one wakes a thread. Who wakes writes WAITED again, and so has the turn as WAITED, since others may sleep too: the next
+        // `leave` wakes one.
         for _ in rt.forever() {
             if shared.swap::<Await<T>>(seat, TURN, WAITED) == FREE {
                 return;
