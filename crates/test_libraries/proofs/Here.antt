@@ -22,3 +22,29 @@ first_alone starts start is first (o ∷ rest) eq (suc i) d short = let none : r
 
 pub here_alone : (starts : ℕ → Option Start) (start : Start) → starts 0 ≡ Some start → First start → IsHere starts 0 (0 ∷ [])
 here_alone starts start is first = record { ascending = λ i j d less short. absurd (omega arith); replicas = first_alone starts start is first (0 ∷ []) refl }
+
+-- the store of this number, which has a replica in region 0
+abbrev Numbered : ℕ → Start → Type 0
+Numbered o start = (s : Store) × (start ≡ store s) × (s.number ≡ o) × (is_replica s 0 ≡ true)
+
+has_replica : (starts : ℕ → Option Start) (o : ℕ) (start : Start) → starts o ≡ Some start → Numbered o start → HasReplica starts 0 o
+has_replica starts o start is this = (this.0, is ∙ ap (λ (s : Start). Some s) this.1, this.2, this.3)
+
+both_here : (starts : ℕ → Option Start) → HasReplica starts 0 0 → HasReplica starts 0 1 → (i d : ℕ) → i < 2 → HasReplica starts 0 (get_or (0 ∷ 1 ∷ []) i d)
+both_here starts first second zero d short = first
+both_here starts first second (suc zero) d short = second
+both_here starts first second (suc (suc i)) d short = absurd (omega arith)
+
+both_ascend : (i j d : ℕ) → i < j → j < 2 → get_or (0 ∷ 1 ∷ []) i d < get_or (0 ∷ 1 ∷ []) j d
+both_ascend zero zero d less short = absurd (omega arith)
+both_ascend zero (suc zero) d less short = omega arith
+both_ascend (suc i) zero d less short = absurd (omega arith)
+both_ascend (suc i) (suc zero) d less short = absurd (omega arith)
+both_ascend i (suc (suc j)) d less short = absurd (omega arith)
+
+pub here_both : (starts : ℕ → Option Start) (first second : Start) → starts 0 ≡ Some first → Numbered 0 first → starts 1 ≡ Some second → Numbered 1 second
+    → IsHere starts 0 (0 ∷ 1 ∷ [])
+here_both starts first second is one is_too other = record {
+  ascending = both_ascend;
+  replicas = both_here starts (has_replica starts 0 first is one) (has_replica starts 1 second is_too other);
+}

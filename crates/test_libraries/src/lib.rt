@@ -9,6 +9,8 @@ mod baggage;
 #[cfg(test)]
 mod blob;
 #[cfg(test)]
+mod cells;
+#[cfg(test)]
 mod edge;
 #[cfg(test)]
 mod flight;
@@ -44,3 +46,5 @@ mod topic;
 mod trace;
 #[cfg(test)]
 mod turn;
+#[cfg(test)]
+mod two_stores;
