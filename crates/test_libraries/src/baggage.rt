@@ -21,15 +21,32 @@ fn has_text(alloc: Global, stores: &[Name], lineage: &Lineage, text: &[u8]) -> b
     }
 }
 
-// Whether a text states a lineage that has just this text, or is refused for a fault.
+// Whether what a text states is a lineage that has just this text, or it was refused for a fault.
+fn is_stated(
+    alloc: Global,
+    stores: &[Name],
+    stated: &Result<Lineage, BaggageFault>,
+    text: &[u8],
+    wanted: &Result<(), BaggageFault>,
+) -> bool {
+    match stated {
+        Ok(lineage) => wanted.is_ok() && has_text(alloc, stores, lineage, text),
+        Err(fault) => *wanted == Err(*fault),
+    }
+}
+
+// Whether a text states a lineage that has just this text, or is refused for a fault, and as baggage tells the same.
 fn comes_to(alloc: Global, text: &[u8], wanted: &Result<(), BaggageFault>) -> bool {
     let Some(stores) = stores() else {
         return false;
     };
-    match decode(alloc, &stores, text) {
-        Ok(lineage) => wanted.is_ok() && has_text(alloc, &stores, &lineage, text),
-        Err(fault) => *wanted == Err(fault),
-    }
+    let mut bytes = Bytes::new(alloc);
+    let Ok(()) = bytes.append(text) else {
+        return false;
+    };
+    let told = Baggage::from_text(bytes).lineage(alloc, &stores);
+    let read = decode(alloc, &stores, text);
+    is_stated(alloc, &stores, &read, text, wanted) && is_stated(alloc, &stores, &told, text, wanted)
 }
 
 // Texts, and what each comes to.
