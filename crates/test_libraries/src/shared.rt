@@ -340,8 +340,8 @@ enum OfPort {
     WriteFull,
     // A barrier on this version of the key, which begins now.
     Barrier(u64),
-    // Such a barrier, which waits.
-    BarrierWait(u64),
+    // Such a barrier, which waits, of a caller with this last stamp.
+    BarrierWait(u64, u64),
     // A dry run on this version of the key.
     DryRun(u64),
 }
@@ -377,6 +377,10 @@ fn is_seen(answer: &BarrierAnswer, told: Told) -> bool {
         (BarrierAnswer::Clear(sights), Told::Sights(count)) => sights.len() == count,
         (BarrierAnswer::NotYet, Told::NotYet) => true,
         (BarrierAnswer::Unwritten(id), Told::Unwritten(version)) => is_version(id, version),
+        (BarrierAnswer::Full { held, owed, need }, Told::Full(a, b, c)) => {
+            *held == a && *owed == b && *need == c
+        }
+        (BarrierAnswer::Spent { clock }, Told::Spent(last)) => *clock == last,
         _ => false,
     }
 }
@@ -454,14 +458,20 @@ fn barrier_goes<P: Port>(alloc: Global, port: &mut P, version: u64, told: Told) 
 }
 
 // Whether a barrier that waits goes as it says.
-fn barrier_wait_goes<P: WaitPort>(alloc: Global, port: &mut P, version: u64, told: Told) -> bool
+fn barrier_wait_goes<P: WaitPort>(
+    alloc: Global,
+    port: &mut P,
+    version: u64,
+    clock: u64,
+    told: Told,
+) -> bool
     requires { IsHere (P.start port.old) 0 (0 ∷ []) }
     ensures { (o : ℕ) → P.start port.new o ≡ P.start port.old o }
 {
     let Ok(ids) = lineage(alloc, &[(b"k", version)]) else {
         return false;
     };
-    let mut who = caller();
+    let mut who = Caller { clock, ..caller() };
     let mut cursor = Barrier::begin(alloc);
     let answer = barrier_wait(alloc, port, &mut who, 0, &[0], &ids, &mut cursor);
     is_seen(&answer, told)
@@ -490,7 +500,9 @@ fn goes<P: WaitPort>(alloc: Global, port: &mut P, step: &Step) -> bool
         OfPort::CallWait(asked, clock) => call_wait_goes(alloc, port, asked, clock, step.1),
         OfPort::WriteFull => full_write_goes(alloc, port, step.1),
         OfPort::Barrier(version) => barrier_goes(alloc, port, version, step.1),
-        OfPort::BarrierWait(version) => barrier_wait_goes(alloc, port, version, step.1),
+        OfPort::BarrierWait(version, clock) => {
+            barrier_wait_goes(alloc, port, version, clock, step.1)
+        }
         OfPort::DryRun(version) => dry_run_goes(alloc, port, version, step.1),
     }
 }
@@ -805,7 +817,8 @@ fn a_call_that_may_wait_is_refused_where_there_is_no_room(rt: HostRuntime) {
 
 static HELD: [Stage; 1] = [Stage::Alone(Job::Steps(&[
     Step(OfPort::Barrier(9), Told::Unwritten(9)),
-    Step(OfPort::BarrierWait(9), Told::Unwritten(9)),
+    Step(OfPort::BarrierWait(9, 0), Told::Unwritten(9)),
+    Step(OfPort::BarrierWait(9, u64::MAX), Told::Spent(u64::MAX)),
     Step(OfPort::CallWait(Asked::Write, 0), Told::Made),
     Step(OfPort::Barrier(1), Told::NotYet),
     Step(OfPort::DryRun(1), Told::Missing(1)),
@@ -816,6 +829,20 @@ static HELD: [Stage; 1] = [Stage::Alone(Job::Steps(&[
 #[test]
 fn a_barrier_at_a_shared_store_waits_for_the_shipment(rt: HostRuntime) {
     assert!(rt; is_well(&rt, &HELD, Wanted::StillOut));
+}
+
+// A barrier that may wait, for what is there, at a store that has no room for its look.
+static HELD_FULL: [Stage; 2] = [
+    Stage::Alone(Job::Rows(&[
+        Row(Asked::Write, 2048, Told::Made),
+        Row(Asked::Ship, 2048, Told::Made),
+    ])),
+    Stage::Alone(Job::Steps(&[Step(OfPort::BarrierWait(1, 0), Told::Full(4096, 0, 1))])),
+];
+
+#[test]
+fn a_barrier_that_may_wait_is_refused_where_there_is_no_room(rt: HostRuntime) {
+    assert!(rt; is_well(&rt, &HELD_FULL, Wanted::StillOut));
 }
 
 // Four threads write, and bring what they wrote.
@@ -830,7 +857,7 @@ fn four_threads_write_and_ship(rt: HostRuntime) {
 static HELD_AT_LAST: [Stage; 3] = [
     Stage::Alone(Job::Rows(&[Row(Asked::Write, 1, Told::Made)])),
     Stage::Both(
-        Job::Steps(&[Step(OfPort::BarrierWait(1), Told::Sights(1))]),
+        Job::Steps(&[Step(OfPort::BarrierWait(1, 0), Told::Sights(1))]),
         ONE_SHIPMENT,
     ),
     Stage::Alone(Job::Rows(&[Row(Asked::Read, 1, Told::MadeAt(4))])),
