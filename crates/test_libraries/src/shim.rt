@@ -48,12 +48,16 @@ enum Asked<'a> {
     Name(&'a [Version<'a>]),
     // To go on with this last stamp.
     Stamp(u64),
+    // To read in this region.
+    Region(u32),
     // To write a value to a key, with the lineage.
     Write(&'a [u8], &'a [u8]),
     // To write the value `v` to a key, as a caller that has made no call, with the empty lineage.
     Put(&'a [u8]),
     // To bring a part of a version to the region; the next time it is the next version.
     Ship(u64, u32),
+    // To bring the first version of an object of another number.
+    Elsewhere(u32),
     // To wait for the lineage.
     Wait,
     // To read a key, or to poll that of a cell.
@@ -94,11 +98,12 @@ enum Told<'a> {
 // What is asked, what is told, and how often.
 struct Step<'a>(Asked<'a>, Told<'a>, u64);
 
-// Who makes the calls, and the lineage that it carries.
+// Who makes the calls, the lineage that it carries, and the region in which it reads.
 #[derive(Drop)]
 struct Session {
     who: Caller,
     lineage: Lineage,
+    region: u32,
 }
 
 // A caller that has made no call.
@@ -115,6 +120,7 @@ fn fresh(alloc: Global) -> Session {
     Session {
         who: caller(),
         lineage: Lineage::root(alloc),
+        region: 0,
     }
 }
 
@@ -164,9 +170,9 @@ fn is_read(row: &Result<Row, ShimFault>, told: &Told) -> bool {
     }
 }
 
-// Whether a scan gave the rows that are told, each in its place.
-fn are_scanned(rows: &Result<Rows, ShimFault>, told: &Told) -> bool {
-    let (Ok(rows), Told::Rows(wanted)) = (rows, told) else {
+// Whether rows are those that are told, each in its place.
+fn are_rows(rows: &Rows, told: &Told) -> bool {
+    let Told::Rows(wanted) = told else {
         return false;
     };
     for (row, shown) in rows.as_slice().iter().zip(*wanted) {
@@ -175,6 +181,14 @@ fn are_scanned(rows: &Result<Rows, ShimFault>, told: &Told) -> bool {
         }
     }
     rows.len() == wanted.len()
+}
+
+// Whether a scan gave what is told.
+fn are_scanned(rows: &Result<Rows, ShimFault>, told: &Told) -> bool {
+    match rows {
+        Ok(rows) => are_rows(rows, told),
+        Err(fault) => is_fault(fault, told),
+    }
 }
 
 // Whether a shipment was answered as is told.
@@ -270,8 +284,8 @@ fn writes<K, M: Machine>(
     is_written(&wrote, &session.lineage, told)
 }
 
-// Whether a shipment goes so.
-fn ships<M: Machine>(port: &mut Lone<M>, version: u64, part: u32, told: &Told) -> bool
+// Whether a shipment goes so at the object of this number.
+fn ships<M: Machine>(port: &mut Lone<M>, object: u32, version: u64, part: u32, told: &Told) -> bool
     requires { IsHere (lone_start M.start port.old) 0 (0 ∷ []) }
     ensures { (o : ℕ) → lone_start M.start port.new o ≡ lone_start M.start port.old o }
 {
@@ -280,7 +294,7 @@ fn ships<M: Machine>(port: &mut Lone<M>, version: u64, part: u32, told: &Told) -
         version,
         part,
     };
-    let answer = port.call(0, Actor::Carrier(0), 0, 0, ship);
+    let answer = port.call(object, Actor::Carrier(0), 0, 0, ship);
     is_answered(&answer, told)
 }
 
@@ -304,42 +318,50 @@ fn waits<K, M: Machine>(
 // What the shim of a kind reads.
 fn row_by<M: Machine>(
     port: &mut Lone<M>,
-    who: &mut Caller,
+    session: &mut Session,
     by: &By,
     key: Name,
 ) -> Result<Row, ShimFault>
     requires { IsHere (lone_start M.start port.old) 0 (0 ∷ []) }
     ensures { (o : ℕ) → lone_start M.start port.new o ≡ lone_start M.start port.old o }
 {
+    let region = session.region;
+    let who = &mut session.who;
     match by {
-        By::Kv => KvShim::new(0, 0).read(port, who, key),
-        By::Table => TableShim::new(0, 0).read(port, who, key),
-        By::Blob => BlobShim::new(0, 0).read(port, who, key),
-        By::Topic => TopicShim::new(0, 0).poll(port, who, key),
+        By::Kv => KvShim::new(0, region).read(port, who, key),
+        By::Table => TableShim::new(0, region).read(port, who, key),
+        By::Blob => BlobShim::new(0, region).read(port, who, key),
+        By::Topic => TopicShim::new(0, region).poll(port, who, key),
     }
 }
 
 // Whether a read goes so.
-fn reads<M: Machine>(port: &mut Lone<M>, who: &mut Caller, by: &By, key: &[u8], told: &Told) -> bool
+fn reads<M: Machine>(
+    port: &mut Lone<M>,
+    session: &mut Session,
+    by: &By,
+    key: &[u8],
+    told: &Told,
+) -> bool
     requires { IsHere (lone_start M.start port.old) 0 (0 ∷ []) }
     ensures { (o : ℕ) → lone_start M.start port.new o ≡ lone_start M.start port.old o }
 {
     let Ok(key) = name(key) else {
         return false;
     };
-    let row = row_by(port, who, by, key);
+    let row = row_by(port, session, by, key);
     is_read(&row, told)
 }
 
 // Whether a scan goes so.
-fn scans<M: Machine>(port: &mut Lone<M>, who: &mut Caller, prefix: &[u8], told: &Told) -> bool
+fn scans<M: Machine>(port: &mut Lone<M>, session: &mut Session, prefix: &[u8], told: &Told) -> bool
     requires { IsHere (lone_start M.start port.old) 0 (0 ∷ []) }
     ensures { (o : ℕ) → lone_start M.start port.new o ≡ lone_start M.start port.old o }
 {
     let Ok(prefix) = name(prefix) else {
         return false;
     };
-    let rows = TableShim::new(0, 0).scan(port, who, prefix);
+    let rows = TableShim::new(0, session.region).scan(port, &mut session.who, prefix);
     are_scanned(&rows, told)
 }
 
@@ -392,10 +414,15 @@ fn goes_once<K, M: Machine>(
         }
         Asked::Write(key, text) => writes::<K, M>(alloc, port, session, key, text, told),
         Asked::Put(key) => writes::<K, M>(alloc, port, &mut fresh(alloc), key, b"v", told),
-        Asked::Ship(version, part) => ships(port, version.saturating_add(turn), *part, told),
+        Asked::Region(region) => {
+            session.region = *region;
+            true
+        }
+        Asked::Ship(version, part) => ships(port, 0, version.saturating_add(turn), *part, told),
+        Asked::Elsewhere(object) => ships(port, *object, 1, 1, told),
         Asked::Wait => waits::<K, M>(alloc, port, session, told),
-        Asked::Read(by, key) => reads(port, &mut session.who, by, key, told),
-        Asked::Scan(prefix) => scans(port, &mut session.who, prefix, told),
+        Asked::Read(by, key) => reads(port, session, by, key, told),
+        Asked::Scan(prefix) => scans(port, session, prefix, told),
         Asked::Barrier(ids) => holds(alloc, port, ids, told),
         Asked::DryRun(ids) => names(alloc, port, ids, told),
     }
@@ -451,10 +478,14 @@ fn wrong_step_of_kv(alloc: Global, steps: &[Step]) -> Option<usize> {
 }
 
 // A store that is filled, where a write with no room finds none for itself and the shipment that it would owe; and behind all that it owed,
-// where nothing else finds room.
-static REFUSED: [Step; 14] = [
+// where nothing else finds room. Before that an object that is not there, and a region without a replica.
+static REFUSED: [Step; 18] = [
     Step(Asked::Has(0), Told::Done, 1),
     Step(Asked::Has(1), Told::Absent, 1),
+    Step(Asked::Elsewhere(1), Told::NotYet, 1),
+    Step(Asked::Region(1), Told::Done, 1),
+    Step(Asked::Read(By::Kv, b"k"), Told::NotYet, 1),
+    Step(Asked::Region(0), Told::Done, 1),
     Step(Asked::Stamp(u64::MAX), Told::Done, 1),
     Step(Asked::Read(By::Kv, b"k"), Told::Spent(u64::MAX), 1),
     Step(Asked::Ship(1, 1), Told::NotYet, 1),
@@ -574,6 +605,23 @@ fn a_scan_shows_the_rows_of_a_prefix(rt: HostRuntime) {
     assert_right(&rt, wrong_step_of_table(rt.alloc(), &SCANNED));
 }
 
+// A scan in a region without a replica, without a stamp and without room.
+static SCAN_REFUSED: [Step; 8] = [
+    Step(Asked::Region(1), Told::Done, 1),
+    Step(Asked::Scan(b"k"), Told::NotYet, 1),
+    Step(Asked::Region(0), Told::Done, 1),
+    Step(Asked::Stamp(u64::MAX), Told::Done, 1),
+    Step(Asked::Scan(b"k"), Told::Spent(u64::MAX), 1),
+    Step(Asked::Put(b"k"), Told::Done, 2048),
+    Step(Asked::Ship(1, 1), Told::Done, 2048),
+    Step(Asked::Scan(b"k"), Told::Full((4096, 0, 1)), 1),
+];
+
+#[test]
+fn a_scan_is_refused_with_the_cause(rt: HostRuntime) {
+    assert_right(&rt, wrong_step_of_table(rt.alloc(), &SCAN_REFUSED));
+}
+
 // The first wrong step at a port over a store of blobs.
 fn wrong_step_of_blobs(alloc: Global, steps: &[Step]) -> Option<usize> {
     let Ok(store) = Blob::new(alloc, 0, &[0]) else {
@@ -655,4 +703,22 @@ static POLLED: [Step; 6] = [
 #[test]
 fn a_cell_is_polled_by_its_key(rt: HostRuntime) {
     assert_right(&rt, wrong_step_of_topic(rt.alloc(), &POLLED));
+}
+
+// A write to a channel that is not plain, and polls as the scans above.
+static POLL_REFUSED: [Step; 9] = [
+    Step(Asked::Write(b"n#1", b"a"), Told::NotYet, 1),
+    Step(Asked::Region(1), Told::Done, 1),
+    Step(Asked::Read(By::Topic, b"n#1"), Told::NotYet, 1),
+    Step(Asked::Region(0), Told::Done, 1),
+    Step(Asked::Stamp(u64::MAX), Told::Done, 1),
+    Step(Asked::Read(By::Topic, b"n#1"), Told::Spent(u64::MAX), 1),
+    Step(Asked::Put(b"n"), Told::Done, 2048),
+    Step(Asked::Ship(1, 1), Told::Done, 2048),
+    Step(Asked::Read(By::Topic, b"n#1"), Told::Full((4096, 0, 1)), 1),
+];
+
+#[test]
+fn a_poll_and_a_write_are_refused_with_the_cause(rt: HostRuntime) {
+    assert_right(&rt, wrong_step_of_topic(rt.alloc(), &POLL_REFUSED));
 }
