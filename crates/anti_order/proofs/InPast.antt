@@ -1,15 +1,14 @@
--- The writes of the past of a read that are not listed, as they are found by their ids.
+-- The writes of the past of a read that are not listed, as their numbers are found by their ids.
 use Rattle.std.proofs.Common.{◌≡◌, ℕ, ◌<◌, ◌++◌, ◌&&◌, ◌||◌, Bool, true, false, not, List, [], ◌∷◌, length, get_or, refl, sym, ap, ap₂, ◌∙◌, arith}
-use Rattle.std.specs.Prelude.{Option, Some, None, All, slice_get}
+use Rattle.std.specs.Prelude.{Option, Some, None, slice_get}
 use Rattle.std.specs.List.{list_any}
 use Rattle.std.specs.Option.{option_and_then, option_map_or}
 use Rattle.std.specs.Ordering.{nat_cmp}
 use Rattle.std.specs.BTreeMap as tree
 use Rattle.std.specs.BTreeSet.{BTreeSet, contains}
 use Rattle.std.proofs.lemmas.Bool.{and_parts, both_ways, eq-eqb, eqb-true}
-use Rattle.std.proofs.lemmas.Cmp.{eq_by_cmp_equiv, nat_cmp_total}
+use Rattle.std.proofs.lemmas.Cmp.{eq_by_cmp_equiv}
 use Rattle.std.proofs.lemmas.List.Folds.{list_any-append}
-use Rattle.std.proofs.lemmas.Map.Views.{All-from_any}
 use Rattle.std.proofs.lemmas.Option.{none-some, slice_get-get_or, slice_get_within}
 use Rattle.anti_ids.specs.Ids.{has_id, id_cmp, is_id}
 use Rattle.anti_ids.specs.declared.id.WriteId.{WriteId}
@@ -28,9 +27,10 @@ use Rattle.anti_past.specs.Pasts.{ArePastsOf}
 use Rattle.anti_past.specs.declared.before_reads.Past.{Past}
 use Rattle.law_serial.specs.Order.{is_in_past, is_some_id, past_of, writes_at}
 use Rattle.anti_order.specs.declared.writes.Writes.{Writes}
-use Rattle.anti_order.specs.inner.Fresh.{AddsFresh, carried_in, is_fresh, is_here, is_listed, is_write_at}
-use Rattle.anti_order.specs.inner.Writes.{AreWritesOf}
-use Rattle.anti_order.proofs.Places.{is_at_entry, is_at_within}
+use Rattle.anti_order.specs.inner.Fresh.{AddsFresh, carried_in, is_fresh, is_here, is_listed, is_numbered}
+use Rattle.anti_order.specs.inner.Writes.{AreWritesOf, IsWriteAt, number_at}
+use Rattle.anti_order.proofs.Numbers.{number_within, own_number}
+use Rattle.anti_order.proofs.Places.{at_place, is_at_entry}
 
 -- ---- what is added
 
@@ -41,18 +41,18 @@ or_both false true true false = refl
 or_both false true false false = refl
 or_both false false y n = refl
 
-module _ (writes : Writes) (listed : List Bool) where
+module _ (writes : Writes) (listed : BTreeSet ℕ) where
   -- The writes of some ids and then those of others are those of both.
   pub adds_both : (xs ys : List WriteId) (a b c : BTreeSet ℕ) → AddsFresh writes listed xs a b → AddsFresh writes listed ys b c
       → AddsFresh writes listed (xs ++ ys) a c
   adds_both xs ys a b c first second i =
-      let stands : WriteId → Bool = is_write_at writes i in
+      let stands : WriteId → Bool = is_numbered writes i in
       second i
       ∙ ap (λ (t : Bool). t || is_fresh writes listed ys i) (first i)
-      ∙ or_both (contains nat_cmp a i) (list_any stands xs) (list_any stands ys) (not (is_listed listed i))
-      ∙ ap (λ (t : Bool). contains nat_cmp a i || (t && not (is_listed listed i))) (sym (list_any-append stands xs ys))
+      ∙ or_both (contains nat_cmp a i) (list_any stands xs) (list_any stands ys) (not (contains nat_cmp listed i))
+      ∙ ap (λ (t : Bool). contains nat_cmp a i || (t && not (contains nat_cmp listed i))) (sym (list_any-append stands xs ys))
 
--- ---- the place of an id
+-- ---- the number of an id
 
 here_is : (o : Option ℕ) (i : ℕ) → is_here o i ≡ true → o ≡ Some i
 here_is None i here = absurd (cc)
@@ -99,72 +99,76 @@ share (x ∷ xs) ys =
 abbrev wrote_one : List WriteId → Entry → Bool
 wrote_one ids a = list_any (λ w. has_id w ids) (wrote a)
 
--- only a write did
-one_written : (ids : List WriteId) (found : Option Entry)
-    → option_map_or (wrote_one ids) found false
-    ≡ (option_map_or (λ a. is_some_id (wrote a)) found false && option_map_or (wrote_one ids) found false)
-one_written ids None = refl
-one_written ids (Some a) = of_ids (wrote a)
+-- which is a write then
+written : (w : WriteId) (trace : List Entry) (i : ℕ) → IsWriteAt w trace i → writes_at trace i ≡ true
+written w trace i is =
+    let (a, at, has) = at_place (λ a. has_id w (wrote a)) trace i is in
+    is_at_entry (λ a. is_some_id (wrote a)) trace i a at ∙ some_id (wrote a) has
   where
-    of_ids : (ws : List WriteId) → list_any (λ w. has_id w ids) ws ≡ (is_some_id ws && list_any (λ w. has_id w ids) ws)
-    of_ids [] = refl
-    of_ids (w ∷ ws) = refl
+    some_id : (ws : List WriteId) → has_id w ws ≡ true → is_some_id ws ≡ true
+    some_id [] has = absurd (cc)
+    some_id (v ∷ vs) has = refl
 
 module _ (trace : List Entry) (writes : Writes) (are : AreWritesOf trace writes) where
-  found_at : (i : ℕ) (w : WriteId) → is_write_at writes i w ≡ is_at (λ a. has_id w (wrote a)) trace i
-  found_at i w =
-      same_tests (is_write_at writes i w) (is_at (λ a. has_id w (wrote a)) trace i)
-      (λ here. (are.by_id w i).0 (here_is (tree.get id_cmp writes.by_id w) i here))
-      (λ at. is_here-itself (tree.get id_cmp writes.by_id w) i ((are.by_id w i).1 at))
+  module _ (i : ℕ) (is : writes_at trace i ≡ true) where
+    found_at : (w : WriteId) → is_numbered writes (number_at trace i) w ≡ is_at (λ a. has_id w (wrote a)) trace i
+    found_at w =
+        same_tests (is_numbered writes (number_at trace i) w) (is_at (λ a. has_id w (wrote a)) trace i)
+        (λ here.
+        let (j, has, same) = are.found w (number_at trace i) (here_is (tree.get id_cmp writes.by_id w) (number_at trace i) here) in
+        ap (is_at (λ a. has_id w (wrote a)) trace) (own_number trace i j is (written w trace j has) (sym same)) ∙ has)
+        (λ at. is_here-itself (tree.get id_cmp writes.by_id w) (number_at trace i) (are.known w i at))
 
-  found_all : (i : ℕ) (ids : List WriteId)
-      → list_any (is_write_at writes i) ids ≡ list_any (λ w. is_at (λ a. has_id w (wrote a)) trace i) ids
-  found_all i [] = refl
-  found_all i (w ∷ ws) = ap₂ (λ (s t : Bool). s || t) (found_at i w) (found_all i ws)
+    found_all : (ids : List WriteId)
+        → list_any (is_numbered writes (number_at trace i)) ids ≡ list_any (λ w. is_at (λ a. has_id w (wrote a)) trace i) ids
+    found_all [] = refl
+    found_all (w ∷ ws) = ap₂ (λ (s t : Bool). s || t) (found_at w) (found_all ws)
 
-  -- where the write of one of these ids stands
-  found_any : (i : ℕ) (ids : List WriteId) → list_any (is_write_at writes i) ids ≡ is_at (wrote_one ids) trace i
-  found_any i ids = found_all i ids ∙ by_entry (slice_get trace i)
+    -- whether the write of one of these ids stands here
+    found_any : (ids : List WriteId) → list_any (is_numbered writes (number_at trace i)) ids ≡ is_at (wrote_one ids) trace i
+    found_any ids = found_all ids ∙ by_entry (slice_get trace i)
+      where
+        by_entry : (found : Option Entry)
+            → list_any (λ w. option_map_or (λ a. has_id w (wrote a)) found false) ids ≡ option_map_or (wrote_one ids) found false
+        by_entry None = any_false ids
+        by_entry (Some a) = share ids (wrote a)
+
+  -- a number of one of some ids is that of a write
+  low_number : (n : ℕ) (ids : List WriteId) → list_any (is_numbered writes n) ids ≡ true → n < length writes.marks.items
+  low_number n [] has = absurd (cc)
+  low_number n (w ∷ ws) has = by_test (is_numbered writes n w) refl has (low_number n ws)
     where
-      by_entry : (found : Option Entry)
-          → list_any (λ w. option_map_or (λ a. has_id w (wrote a)) found false) ids ≡ option_map_or (wrote_one ids) found false
-      by_entry None = any_false ids
-      by_entry (Some a) = share ids (wrote a)
+      by_test : (t : Bool) → is_numbered writes n w ≡ t → (t || list_any (is_numbered writes n) ws) ≡ true
+          → (list_any (is_numbered writes n) ws ≡ true → n < length writes.marks.items) → n < length writes.marks.items
+      by_test true here has later =
+          let (j, at, same) = are.found w n (here_is (tree.get id_cmp writes.by_id w) n here) in
+          let low = number_within trace writes.marks.items are.marks j (written w trace j at) in
+          omega (arith, low, same)
+      by_test false here has later = later has
 
-  -- Places that were added to none are fresh.
-  module _ (listed : List Bool) (ids : List WriteId) (none some : BTreeSet ℕ) (empty : none.keys ≡ [])
+  -- Numbers that were added to none are fresh.
+  module _ (listed : BTreeSet ℕ) (ids : List WriteId) (none some : BTreeSet ℕ) (empty : none.keys ≡ [])
       (adds : AddsFresh writes listed ids none some) where
-    has_fresh : (i : ℕ) → contains nat_cmp some i ≡ (is_at (wrote_one ids) trace i && not (is_listed listed i))
-    has_fresh i =
-        let nothing : contains nat_cmp none i ≡ false = λ j. contains nat_cmp (record { keys = empty j }) i in
-        adds i
-        ∙ ap (λ (t : Bool). t || is_fresh writes listed ids i) nothing
-        ∙ ap (λ (t : Bool). t && not (is_listed listed i)) (found_any i ids)
+    are_fresh : (n : ℕ) → contains nat_cmp some n ≡ (list_any (is_numbered writes n) ids && not (contains nat_cmp listed n))
+    are_fresh n =
+        let nothing : contains nat_cmp none n ≡ false = λ j. contains nat_cmp (record { keys = empty j }) n in
+        adds n ∙ ap (λ (t : Bool). t || is_fresh writes listed ids n) nothing
 
-    -- They are places of the trace.
-    pub fresh_within : All (λ i. i < length trace) some.keys
-    fresh_within =
-        All-from_any (eq_by_cmp_equiv nat_cmp_total) (λ i. i < length trace) some.keys
-        (λ i has.
-        is_at_within (wrote_one ids) trace i
-        (and_parts (is_at (wrote_one ids) trace i) (not (is_listed listed i)) (sym (has_fresh i) ∙ has)).0)
+    -- They are numbers of writes.
+    pub fresh_within : (n : ℕ) → contains nat_cmp some n ≡ true → n < length writes.marks.items
+    fresh_within n has =
+        low_number n ids (and_parts (list_any (is_numbered writes n) ids) (not (contains nat_cmp listed n)) (sym (are_fresh n) ∙ has)).0
 
     -- For the past of a read they are those of its writes.
     pub fresh_of_past : (app : App) (r : ℕ) (e : Entry) → slice_get trace r ≡ Some e → ids ≡ past_of app trace r e
-        → (i : ℕ) → contains nat_cmp some i ≡ (writes_at trace i && (is_in_past app trace r i && not (is_listed listed i)))
-    fresh_of_past app r e at past i =
-        let unlisted : Bool = not (is_listed listed i) in
+        → (i : ℕ) → writes_at trace i ≡ true
+        → contains nat_cmp some (number_at trace i) ≡ (is_in_past app trace r i && not (is_listed trace listed i))
+    fresh_of_past app r e at past i is =
         let in_past : is_at (wrote_one ids) trace i ≡ is_in_past app trace r i =
         ap (λ (ws : List WriteId). is_at (wrote_one ws) trace i) past
         ∙ sym (is_at_entry (λ e. is_at (wrote_one (past_of app trace r e)) trace i) trace r e at) in
-        has_fresh i
-        ∙ ap (λ (t : Bool). t && unlisted) (one_written ids (slice_get trace i))
-        ∙ regroup (writes_at trace i) (is_at (wrote_one ids) trace i) unlisted
-        ∙ ap (λ (t : Bool). writes_at trace i && (t && unlisted)) in_past
-      where
-        regroup : (a b c : Bool) → ((a && b) && c) ≡ (a && (b && c))
-        regroup true b c = refl
-        regroup false b c = refl
+        are_fresh (number_at trace i)
+        ∙ ap (λ (t : Bool). t && not (is_listed trace listed i)) (found_any i is ids ∙ in_past)
 
 -- ---- what is carried into a read, and what it shows
 

@@ -6,7 +6,9 @@ mod Listed
 mod Listing
 mod MarksKnown
 mod Noting
+mod Numbers
 mod Places
 mod ReadPlaces
+mod Runs
 mod Unsettled
 mod Worked

@@ -1,20 +1,24 @@
 -- The order of all writes and some reads, as it is made read by read.
-use Rattle.std.proofs.Common.{◌≡◌, ℕ, ◌++◌, ◌&&◌, ◌||◌, Bool, true, false, not, List, [], ◌∷◌, length, replicate, refl, ap, ap₂, ◌∙◌}
-use Rattle.std.specs.List.{filter}
+use Rattle.std.proofs.Common.{◌≡◌, ℕ, ◌<◌, ◌++◌, ◌&&◌, ◌||◌, Bool, true, false, not, List, [], ◌∷◌, length, map, refl, sym, ap, ap₂, ◌∙◌}
+use Rattle.std.specs.Prelude.{Option, Some, slice_get}
+use Rattle.std.specs.List.{filter, list_any}
 use Rattle.std.specs.Ordering.{nat_cmp}
 use Rattle.std.specs.BTreeSet.{BTreeSet, IsOrdered, contains, keys}
-use Rattle.std.proofs.lemmas.Bool.{and_parts}
-use Rattle.std.proofs.lemmas.List.{append_assoc}
+use Rattle.std.proofs.lemmas.List.{append_assoc, map-append}
 use Rattle.std.proofs.lemmas.List.Elements.{filter_agree}
 use Rattle.anti_kind.specs.declared.entry.Entry.{Entry}
 use Rattle.anti_app.specs.declared.app.App.{App}
+use Rattle.anti_trace.specs.declared.mark.Mark.{Mark}
 use Rattle.anti_trace.proofs.Filters.{filter-filter}
 use Rattle.law_causal.specs.Reads.{places}
-use Rattle.law_causal.specs.Words.{wrote}
-use Rattle.law_serial.specs.Order.{is_in_past, is_some_id, listing, order_of, writes_at}
+use Rattle.law_serial.specs.Order.{is_in_past, listing, order_of, writes_at}
+use Rattle.anti_order.specs.Answers.{AreMarksOf, mark_at}
 use Rattle.anti_order.specs.inner.Fresh.{is_listed, still_to_list}
-use Rattle.anti_order.proofs.Listed.{keys_kept, none_listed, past_listed}
-use Rattle.anti_order.proofs.Places.{is_at_within}
+use Rattle.anti_order.specs.inner.Runs.{runs}
+use Rattle.anti_order.specs.inner.Writes.{number_at, write_places}
+use Rattle.anti_order.proofs.Listed.{is_key, past_listed}
+use Rattle.anti_order.proofs.Numbers.{all_numbered, marks_of_set}
+use Rattle.anti_order.proofs.Runs.{runs-map, runs_of_set}
 
 -- two tests that agree where a first one passes
 and_agrees : (w a b : Bool) → (w ≡ true → a ≡ b) → (w && a) ≡ (w && b)
@@ -44,42 +48,60 @@ module _ (writes : ℕ → Bool) (past : ℕ → ℕ → Bool) (all : List ℕ) 
 
 module _ (app : App) (trace : List Entry) where
   -- at the start
-  pub none_yet : (reads : List ℕ) (listed : List Bool) (n : ℕ) → listed ≡ replicate n false
-      → still_to_list app trace reads listed ≡ order_of app trace reads
-  none_yet reads listed n is =
-      listing_agrees (writes_at trace) (is_in_past app trace) (places trace) reads (is_listed listed) (λ i. false)
-      (λ i w. ap (λ (bs : List Bool). is_listed bs i) is ∙ none_listed n i)
+  pub none_yet : (reads : List ℕ) (listed : BTreeSet ℕ) → keys listed ≡ [] → still_to_list app trace reads listed ≡ order_of app trace reads
+  none_yet reads listed none =
+      listing_agrees (writes_at trace) (is_in_past app trace) (places trace) reads (is_listed trace listed) (λ i. false)
+      (λ i w. ap (λ (ns : List ℕ). list_any (is_key (number_at trace i)) ns) none)
 
-  -- one read, behind the writes of its past that were added to those listed
-  module _ (r : ℕ) (added : BTreeSet ℕ) (old new : List Bool) (ordered : IsOrdered nat_cmp added)
-      (members : (i : ℕ) → contains nat_cmp added i ≡ (writes_at trace i && (is_in_past app trace r i && not (is_listed old i))))
-      (listed : (i : ℕ) → is_listed new i ≡ (is_listed old i || contains nat_cmp added i)) where
-    abbrev test : ℕ → Bool
-    test = fresh (writes_at trace) (is_in_past app trace r) (is_listed old)
+  module _ (marks : List Mark) (are : AreMarksOf trace (write_places trace) marks) where
+    -- one read, behind the writes of its past that were added to those listed
+    module _ (r : ℕ) (added old new : BTreeSet ℕ) (ordered : IsOrdered nat_cmp added)
+        (within : (n : ℕ) → contains nat_cmp added n ≡ true → n < length marks)
+        (members : (i : ℕ) → writes_at trace i ≡ true
+        → contains nat_cmp added (number_at trace i) ≡ (is_in_past app trace r i && not (is_listed trace old i)))
+        (listed : (n : ℕ) → contains nat_cmp new n ≡ (contains nat_cmp old n || contains nat_cmp added n)) where
+      abbrev test : ℕ → Bool
+      test = fresh (writes_at trace) (is_in_past app trace r) (is_listed trace old)
 
-    block : keys added ≡ filter test (places trace)
-    block =
-        keys_kept test (length trace)
-        (λ i is.
-        is_at_within (λ a. is_some_id (wrote a)) trace i
-        (and_parts (writes_at trace i) (is_in_past app trace r i && not (is_listed old i)) is).0)
-        added ordered members
+      block : map (slice_get marks) (keys added) ≡ map (mark_at trace) (filter test (places trace))
+      block =
+          marks_of_set trace marks are added ordered within
+          ∙ ap (map (mark_at trace))
+          (filter-filter (λ i. contains nat_cmp added (number_at trace i)) (writes_at trace) (places trace)
+          ∙ filter_agree (λ i. writes_at trace i && contains nat_cmp added (number_at trace i)) test
+          (λ i.
+          and_agrees (writes_at trace i) (contains nat_cmp added (number_at trace i))
+          (is_in_past app trace r i && not (is_listed trace old i)) (members i))
+          (places trace))
 
-    past_is : (i : ℕ) → writes_at trace i ≡ true → is_listed new i ≡ (is_listed old i || is_in_past app trace r i)
-    past_is i w =
-        past_listed (writes_at trace i) (is_listed old i) (is_in_past app trace r i) (is_listed new i) (contains nat_cmp added i) w
-        (listed i) (members i)
+      past_is : (i : ℕ) → writes_at trace i ≡ true → is_listed trace new i ≡ (is_listed trace old i || is_in_past app trace r i)
+      past_is i w =
+          past_listed (is_listed trace old i) (is_in_past app trace r i) (is_listed trace new i)
+          (contains nat_cmp added (number_at trace i)) (listed (number_at trace i)) (members i w)
 
-    pub one_read : (order : List ℕ) (rs : List ℕ)
-        → ((order ++ keys added) ++ r ∷ []) ++ still_to_list app trace rs new ≡ order ++ still_to_list app trace (r ∷ rs) old
-    one_read order rs =
-        append_assoc (order ++ keys added) (r ∷ []) (still_to_list app trace rs new)
-        ∙ append_assoc order (keys added) (r ∷ still_to_list app trace rs new)
-        ∙ ap₂ (λ (is : List ℕ) (rest : List ℕ). order ++ (is ++ r ∷ rest)) block
-        (listing_agrees (writes_at trace) (is_in_past app trace) (places trace) rs (is_listed new)
-        (λ i. is_listed old i || is_in_past app trace r i) past_is)
+      pub one_read : (order : List (Option Mark)) (rs : List ℕ)
+          → ((order ++ map (slice_get marks) (keys added)) ++ mark_at trace r ∷ []) ++ map (mark_at trace) (still_to_list app trace rs new)
+          ≡ order ++ map (mark_at trace) (still_to_list app trace (r ∷ rs) old)
+      one_read order rs =
+          let past : List ℕ = filter test (places trace) in
+          let after : List ℕ =
+          listing (writes_at trace) (is_in_past app trace) (places trace) rs (λ i. is_listed trace old i || is_in_past app trace r i) in
+          append_assoc (order ++ map (slice_get marks) (keys added)) (mark_at trace r ∷ [])
+          (map (mark_at trace) (still_to_list app trace rs new))
+          ∙ append_assoc order (map (slice_get marks) (keys added)) (mark_at trace r ∷ map (mark_at trace) (still_to_list app trace rs new))
+          ∙ ap₂ (λ (ms : List (Option Mark)) (rest : List ℕ). order ++ (ms ++ mark_at trace r ∷ map (mark_at trace) rest)) block
+          (listing_agrees (writes_at trace) (is_in_past app trace) (places trace) rs (is_listed trace new)
+          (λ i. is_listed trace old i || is_in_past app trace r i) past_is)
+          ∙ ap (λ (ms : List (Option Mark)). order ++ ms) (sym (map-append (mark_at trace) past (r ∷ after)))
 
-  -- all other writes, at the end
-  pub all_others : (listed : List Bool)
-      → filter (λ i. not (is_listed listed i)) (filter (writes_at trace) (places trace)) ≡ still_to_list app trace [] listed
-  all_others listed = filter-filter (λ i. not (is_listed listed i)) (writes_at trace) (places trace)
+    -- all other writes, at the end
+    pub all_others : (listed : BTreeSet ℕ) → IsOrdered nat_cmp listed
+        → map Some (runs 0 (keys listed) marks) ≡ map (mark_at trace) (still_to_list app trace [] listed)
+    all_others listed ordered =
+        let ws = write_places trace in
+        sym (runs-map (λ (m : Mark). Some m) 0 (keys listed) marks)
+        ∙ ap (runs 0 (keys listed)) (sym are)
+        ∙ runs-map (mark_at trace) 0 (keys listed) ws
+        ∙ ap (map (mark_at trace))
+        (runs_of_set (number_at trace) ws listed (all_numbered trace) ordered
+        ∙ filter-filter (λ i. not (is_listed trace listed i)) (writes_at trace) (places trace))

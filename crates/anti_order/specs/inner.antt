@@ -1,3 +1,4 @@
 pub mod Fresh
 pub mod Grounds
+pub mod Runs
 pub mod Writes

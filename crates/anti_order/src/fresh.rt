@@ -1,5 +1,5 @@
-ghost use Rattle.std.specs.Prelude.{ℕ, ◌≡◌, ◌<◌, ◌&&◌, not, true, [], ◌∷◌, length, option_map, All, IfOk, OnOk};
-ghost use Rattle.std.specs.BTreeSet.{contains, keys};
+ghost use Rattle.std.specs.Prelude.{ℕ, ◌≡◌, ◌<◌, ◌&&◌, not, true, [], ◌∷◌, length, option_map, IfOk, OnOk};
+ghost use Rattle.std.specs.BTreeSet.{contains};
 ghost use Rattle.std.specs.Ordering.{nat_cmp};
 ghost use Rattle.anti_app.specs.declared.app.App.{App};
 ghost use Rattle.law_causal.specs.Reads.{is_at};
@@ -8,7 +8,7 @@ ghost use Rattle.anti_past.specs.Pasts.{ArePastsOf};
 ghost use Rattle.anti_proc.specs.Local.{id_at, row_ids, rows_ids};
 ghost use Rattle.law_serial.specs.Order.{is_in_past, writes_at};
 ghost use Rattle.anti_order.specs.inner.Fresh.{AddsFresh, carried_in, is_fresh, is_here, is_listed, past_in};
-ghost use Rattle.anti_order.specs.inner.Writes.{AreWritesOf};
+ghost use Rattle.anti_order.specs.inner.Writes.{AreWritesOf, number_at};
 
 use crate::writes::Writes;
 use anti_ids::{Lineage, NoMemory, WriteId};
@@ -18,16 +18,6 @@ use anti_trace::Trace;
 use std::alloc::Global;
 use std::collections::BTreeSet;
 
-/// Whether the write at a place is listed.
-pub fn is_listed(listed: &[bool], place: u32) -> bool
-    ensures { result ≡ is_listed listed.now place }
-{
-    match listed.get(place as usize) {
-        Some(is) => *is,
-        None => false,
-    }
-}
-
 // What is told of the read at a place.
 fn past_at(pasts: &[Option<Past>], read: u32) -> Option<&Past>
     ensures { option_map (λ past. past.now) result ≡ past_in pasts.now read }
@@ -35,38 +25,38 @@ fn past_at(pasts: &[Option<Past>], read: u32) -> Option<&Past>
     pasts.get(read as usize)?.as_ref()
 }
 
-// The place of the write of an id, where there is one that is not listed.
-fn fresh_place(writes: &Writes, listed: &[bool], id: &WriteId) -> Option<u32>
-    ensures { (i : ℕ) → is_here result i ≡ is_fresh writes.now listed.now (id.now ∷ []) i }
+// The number of the write of an id, where there is one that is not listed.
+fn fresh_number(writes: &Writes, listed: &BTreeSet<usize>, id: &WriteId) -> Option<usize>
+    ensures { (n : ℕ) → is_here result n ≡ is_fresh writes.now listed.now (id.now ∷ []) n }
 {
-    let place = *writes.by_id.get(id)?;
-    if is_listed(listed, place) {
+    let number = *writes.by_id.get(id)?;
+    if listed.contains(&number) {
         return None;
     }
-    Some(place)
+    Some(number)
 }
 
-// Adds the place of the write of an id, where there is one that is not listed.
+// Adds the number of the write of an id, where there is one that is not listed.
 fn add_write(
-    fresh: &mut BTreeSet<u32>,
+    fresh: &mut BTreeSet<usize>,
     writes: &Writes,
-    listed: &[bool],
+    listed: &BTreeSet<usize>,
     id: &WriteId,
 ) -> Result<(), NoMemory>
     ensures { OnOk result (AddsFresh writes.now listed.now (id.now ∷ []) fresh.old fresh.new) }
 {
-    let Some(place) = fresh_place(writes, listed, id) else {
+    let Some(number) = fresh_number(writes, listed, id) else {
         return Ok(());
     };
-    fresh.insert(place)?;
+    fresh.insert(number)?;
     Ok(())
 }
 
 // The same of each id of a lineage.
 fn add_lineage(
-    fresh: &mut BTreeSet<u32>,
+    fresh: &mut BTreeSet<usize>,
     writes: &Writes,
-    listed: &[bool],
+    listed: &BTreeSet<usize>,
     lineage: &Lineage,
 ) -> Result<(), NoMemory>
     ensures { OnOk result (AddsFresh writes.now listed.now lineage.now fresh.old fresh.new) }
@@ -79,9 +69,9 @@ fn add_lineage(
 
 // The same of the version that a row of a store shows; version 0 has no write.
 fn add_version(
-    fresh: &mut BTreeSet<u32>,
+    fresh: &mut BTreeSet<usize>,
     writes: &Writes,
-    listed: &[bool],
+    listed: &BTreeSet<usize>,
     store: u32,
     row: &Row,
 ) -> Result<(), NoMemory>
@@ -100,9 +90,9 @@ fn add_version(
 
 // The same of the ids that a row brings: its own, and those of the lineage that is stored beside it.
 fn add_row(
-    fresh: &mut BTreeSet<u32>,
+    fresh: &mut BTreeSet<usize>,
     writes: &Writes,
-    listed: &[bool],
+    listed: &BTreeSet<usize>,
     store: u32,
     row: &Row,
 ) -> Result<(), NoMemory>
@@ -114,9 +104,9 @@ fn add_row(
 
 // The same of rows.
 fn add_rows(
-    fresh: &mut BTreeSet<u32>,
+    fresh: &mut BTreeSet<usize>,
     writes: &Writes,
-    listed: &[bool],
+    listed: &BTreeSet<usize>,
     store: u32,
     rows: &[Row],
 ) -> Result<(), NoMemory>
@@ -130,9 +120,9 @@ fn add_rows(
 
 // The same of the rows that a read shows.
 fn add_shown(
-    fresh: &mut BTreeSet<u32>,
+    fresh: &mut BTreeSet<usize>,
     writes: &Writes,
-    listed: &[bool],
+    listed: &BTreeSet<usize>,
     read: &Entry,
 ) -> Result<(), NoMemory>
     requires { reads read.now.call ≡ true }
@@ -147,9 +137,9 @@ fn add_shown(
 
 // The same of all that is carried into a read.
 fn add_carried(
-    fresh: &mut BTreeSet<u32>,
+    fresh: &mut BTreeSet<usize>,
     writes: &Writes,
-    listed: &[bool],
+    listed: &BTreeSet<usize>,
     pasts: &[Option<Past>],
     read: u32,
 ) -> Result<(), NoMemory>
@@ -161,20 +151,21 @@ fn add_carried(
     }
 }
 
-/// The places of the writes of the past of a read that are not listed. The only error is want of memory.
+/// The numbers of the writes of the past of a read that are not listed. The only error is want of memory.
 pub fn fresh_writes(
     alloc: Global,
     trace: &Trace,
     writes: &Writes,
     pasts: &[Option<Past>],
-    listed: &[bool],
+    listed: &BTreeSet<usize>,
     read: u32,
-) -> Result<BTreeSet<u32>, NoMemory>
+) -> Result<BTreeSet<usize>, NoMemory>
     requires writes { AreWritesOf trace.now writes.now }
     requires read { is_at (λ e. reads e.call) trace.now read ≡ true }
-    ensures within { IfOk result (λ fresh. All (λ i. i < length trace.now) (keys fresh)) }
-    ensures members { (app : App) → ArePastsOf app trace.now pasts.now → (i : ℕ) → IfOk result (λ fresh. contains nat_cmp fresh i
-        ≡ (writes_at trace.now i && (is_in_past app trace.now read i && not (is_listed listed.now i)))) }
+    ensures within { (n : ℕ) → IfOk result (λ fresh. contains nat_cmp fresh n ≡ true → n < length writes.now.marks.items) }
+    ensures members { (app : App) → ArePastsOf app trace.now pasts.now → (i : ℕ) → writes_at trace.now i ≡ true
+        → IfOk result (λ fresh. contains nat_cmp fresh (number_at trace.now i)
+        ≡ (is_in_past app trace.now read i && not (is_listed trace.now listed.now i))) }
 {
     let mut fresh = BTreeSet::new(alloc);
     add_carried(&mut fresh, writes, listed, pasts, read)?;

@@ -13,7 +13,7 @@ ghost use Rattle.anti_order.specs.inner.Grounds.{AreGroundsOf, is_settled_at};
 ghost use Rattle.anti_order.specs.inner.Writes.{AreWritesOf};
 
 use crate::answer::OrderAnswer;
-use crate::marks::{mark_at, marks_of};
+use crate::marks::mark_at;
 use crate::order_listing::arranged;
 use crate::writes::Writes;
 use anti_app::App;
@@ -76,8 +76,7 @@ fn answer_lossless(
         return Ok(OrderAnswer::Unguarded(mark_at(trace, read)));
     }
     let order = arranged(alloc, trace, writes, pasts, reads)?;
-    let marks = marks_of(alloc, trace, order.as_slice())?;
-    Ok(OrderAnswer::Order(marks))
+    Ok(OrderAnswer::Order(order))
 }
 
 impl Grounds {

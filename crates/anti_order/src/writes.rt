@@ -6,17 +6,18 @@ ghost use Rattle.law_causal.specs.Words.{wrote};
 ghost use Rattle.anti_trace.specs.Legal.{IsLegalTrace};
 ghost use Rattle.anti_order.specs.inner.Writes.{AddsWrite, AreWritesOf};
 
+use crate::marks::mark_of;
 use anti_ids::{NoMemory, WriteId};
 use anti_kind::{Call, Entry, Reply};
-use anti_trace::Trace;
+use anti_trace::{Mark, Trace};
 use std::alloc::Global;
 use std::collections::BTreeMap;
 
-/// The writes of a trace: their places in its order, and the place of each by its id.
+/// The writes of a trace: their marks in its order, and the number of each there by its id, counted from 0.
 #[derive(Drop)]
 pub struct Writes {
-    pub(crate) places: Vec<u32>,
-    pub(crate) by_id: BTreeMap<WriteId, u32>,
+    pub(crate) marks: Vec<Mark>,
+    pub(crate) by_id: BTreeMap<WriteId, usize>,
 }
 
 // The id of the write that an entry is; `None` where it is none.
@@ -34,15 +35,16 @@ fn id_written(entry: &Entry) -> Option<WriteId>
 }
 
 impl Writes {
-    // Adds the write at a place, where the entry there is one.
-    fn add(&mut self, place: u32, entry: &Entry) -> Result<(), NoMemory>
-        ensures { OnOk result (AddsWrite place entry.now self.old self.new) }
+    // Adds the write that an entry is, where it is one.
+    fn add(&mut self, entry: &Entry) -> Result<(), NoMemory>
+        ensures { OnOk result (AddsWrite entry.now self.old self.new) }
     {
         let Some(id) = id_written(entry) else {
             return Ok(());
         };
-        self.places.push(place)?;
-        self.by_id.insert(id, place)?;
+        let number = self.marks.len();
+        self.marks.push(mark_of(entry))?;
+        self.by_id.insert(id, number)?;
         Ok(())
     }
 
@@ -52,11 +54,11 @@ impl Writes {
             → IfOk result (AreWritesOf trace.now) }
     {
         let mut writes = Writes {
-            places: Vec::new(alloc),
+            marks: Vec::new(alloc),
             by_id: BTreeMap::new(alloc),
         };
         for place in 0..trace.len() {
-            writes.add(place, trace.at(place))?;
+            writes.add(trace.at(place))?;
         }
         Ok(writes)
     }

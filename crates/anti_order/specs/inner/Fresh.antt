@@ -1,5 +1,5 @@
--- The writes that are not listed yet, as a program gathers their places.
-use Rattle.std.specs.Prelude.{ℕ, ◌≡◌, ◌==◌, ◌&&◌, ◌||◌, Bool, false, not, List, [], Option, Some, None, slice_get, slice_index_or}
+-- The writes that are not listed yet, as a program gathers their numbers.
+use Rattle.std.specs.Prelude.{ℕ, ◌≡◌, ◌==◌, ◌&&◌, ◌||◌, Bool, false, not, List, [], Option, Some, None, slice_get}
 use Rattle.std.specs.List.{list_any}
 use Rattle.std.specs.Option.{option_and_then, option_map_or}
 use Rattle.std.specs.Ordering.{nat_cmp}
@@ -13,32 +13,33 @@ use Rattle.law_causal.specs.Reads.{places}
 use Rattle.anti_past.specs.declared.before_reads.Past.{Past}
 use Rattle.law_serial.specs.Order.{is_in_past, listing, writes_at}
 use Rattle.anti_order.specs.declared.writes.Writes.{Writes}
+use Rattle.anti_order.specs.inner.Writes.{number_at}
 
--- whether the write at a place is listed; past the end none is
-abbrev pub is_listed : List Bool → ℕ → Bool
-is_listed listed i = slice_index_or listed i false
-
--- whether the place that was found is i
+-- whether the number that was found is n
 abbrev pub is_here : Option ℕ → ℕ → Bool
-is_here None i = false
-is_here (Some j) i = j == i
+is_here None n = false
+is_here (Some m) n = m == n
 
--- whether the write of an id stands at place i
-abbrev pub is_write_at : Writes → ℕ → WriteId → Bool
-is_write_at writes i w = is_here (tree.get id_cmp writes.by_id w) i
+-- whether the write of an id has the number n
+abbrev pub is_numbered : Writes → ℕ → WriteId → Bool
+is_numbered writes n w = is_here (tree.get id_cmp writes.by_id w) n
 
 -- whether the write of one of these ids does, and is not listed
-abbrev pub is_fresh : Writes → List Bool → List WriteId → ℕ → Bool
-is_fresh writes listed ids i = list_any (is_write_at writes i) ids && not (is_listed listed i)
+abbrev pub is_fresh : Writes → BTreeSet ℕ → List WriteId → ℕ → Bool
+is_fresh writes listed ids n = list_any (is_numbered writes n) ids && not (contains nat_cmp listed n)
 
--- to some places those of these writes were added
-abbrev pub AddsFresh : Writes → List Bool → List WriteId → BTreeSet ℕ → BTreeSet ℕ → Type 0
+-- to some numbers those of these writes were added
+abbrev pub AddsFresh : Writes → BTreeSet ℕ → List WriteId → BTreeSet ℕ → BTreeSet ℕ → Type 0
 AddsFresh writes listed ids old new =
-    (i : ℕ) → contains nat_cmp new i ≡ (contains nat_cmp old i || is_fresh writes listed ids i)
+    (n : ℕ) → contains nat_cmp new n ≡ (contains nat_cmp old n || is_fresh writes listed ids n)
+
+-- whether the write at a place is listed, by its number
+abbrev pub is_listed : List Entry → BTreeSet ℕ → ℕ → Bool
+is_listed trace listed i = contains nat_cmp listed (number_at trace i)
 
 -- The writes that are not listed, and some reads, in the order that explains these.
-abbrev pub still_to_list : App → List Entry → List ℕ → List Bool → List ℕ
-still_to_list app trace reads listed = listing (writes_at trace) (is_in_past app trace) (places trace) reads (is_listed listed)
+abbrev pub still_to_list : App → List Entry → List ℕ → BTreeSet ℕ → List ℕ
+still_to_list app trace reads listed = listing (writes_at trace) (is_in_past app trace) (places trace) reads (is_listed trace listed)
 
 -- what is told of the read at a place, and what is carried into it
 abbrev pub past_in : List (Option Past) → ℕ → Option Past

@@ -9,7 +9,7 @@ use Rattle.anti_order.proofs.Places.{is_at_entry}
 use Rattle.anti_order.proofs.fresh.fresh_writes.Goals as goal
 
 pub returns-clause-within : goal.returns-clause-within
-returns-clause-within c =
+returns-clause-within c = λ n.
     let writes = c.args.writes.now in
     let listed = c.args.listed.now in
     let e = c.at.result.now in
@@ -18,10 +18,10 @@ returns-clause-within c =
     let none = c.new-fresh.result in
     let some = c.add_shown.new.fresh in
     fresh_within c.args.trace.now writes c.requires.writes listed (carried ++ shown) none some c.new-fresh.ensures.empty
-    (adds_both writes listed carried shown none c.add_carried.new.fresh some c.in_ok-add_carried.ensures c.in_ok-add_shown.ensures)
+    (adds_both writes listed carried shown none c.add_carried.new.fresh some c.in_ok-add_carried.ensures c.in_ok-add_shown.ensures) n
 
 pub returns-clause-members : goal.returns-clause-members
-returns-clause-members c = λ app are.
+returns-clause-members c = λ app are i is.
     let trace = c.args.trace.now in
     let writes = c.args.writes.now in
     let listed = c.args.listed.now in
@@ -37,4 +37,4 @@ returns-clause-members c = λ app are.
     (brings_rows app e.object e.call e.reply read) in
     fresh_of_past trace writes c.requires.writes listed (carried ++ shown) none some c.new-fresh.ensures.empty
     (adds_both writes listed carried shown none c.add_carried.new.fresh some c.in_ok-add_carried.ensures c.in_ok-add_shown.ensures)
-    app r e c.at.ensures past
+    app r e c.at.ensures past i is

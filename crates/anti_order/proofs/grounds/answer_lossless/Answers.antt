@@ -1,7 +1,4 @@
-use Rattle.std.proofs.Common.{ℕ, ◌<◌, List, length, sym, ◌∙◌, subst}
-use Rattle.std.proofs.lemmas.List.Elements.{All-same}
-use Rattle.anti_order.specs.Answers.{AreMarksOf}
-use Rattle.anti_order.proofs.ReadPlaces.{order_within}
+use Rattle.std.proofs.Common.{sym, ◌∙◌}
 use Rattle.anti_order.proofs.Unsettled.{all_settled, first_within, is_first}
 use Rattle.anti_order.proofs.grounds.answer_lossless.Goals as goal
 
@@ -16,15 +13,9 @@ returns-in-Some c = λ app lossless are. (
   is_first app c.args.trace.now c.args.pasts.now are c.args.reads.now c.requires.reads c.in-Some.read (sym c.in-Some.ensures) c.mark_at.result c.mark_at.ensures,
 )
 
-pub marks_of-requires : goal.marks_of-requires
-marks_of-requires c =
-    let known = c.requires.pasts in
-    All-same (λ i. i < length c.args.trace.now) c.as_slice.result.now _ (c.as_slice.ensures.value ∙ c.in_ok-order.ensures known.0 known.1)
-    (order_within known.0 c.args.trace.now c.args.reads.now c.requires.reads)
-
 pub returns : goal.returns
 returns c = λ app lossless are. (
   lossless,
   all_settled app c.args.trace.now c.args.pasts.now are c.args.reads.now c.requires.reads (sym c.first_unsettled.ensures ∙ c.in_default.is),
-  subst (λ (is : List ℕ). AreMarksOf c.args.trace.now is c.in_ok-marks.marks.items) (c.as_slice.ensures.value ∙ c.in_ok-order.ensures app are) c.in_ok-marks.ensures,
+  c.in_ok-order.ensures app are,
 )

@@ -1,10 +1,18 @@
-use Rattle.std.proofs.Common.{◌≡◌, ◌++◌, not, drop}
-use Rattle.std.specs.List.{filter}
-use Rattle.anti_order.specs.inner.Fresh.{is_listed}
+use Rattle.std.proofs.Common.{◌≡◌, ◌<◌, ◌≤◌, ◌++◌, drop, length}
+use Rattle.std.specs.Prelude.{All}
+use Rattle.std.specs.BTreeSet.{IsOrdered, keys}
+use Rattle.std.specs.Ordering.{nat_cmp}
+use Rattle.anti_order.specs.inner.Runs.{runs}
+use Rattle.anti_order.proofs.Runs.{AreFrom}
 use Rattle.anti_order.proofs.order_listing.Arranging.with_rest.Given as goal
 
--- behind the order so far come those of the places that are left
-abbrev pub invariant-loop-place : goal.invariant-loop-place
-invariant-loop-place l =
-    l.order.items ++ filter (λ i. not (is_listed l.listed.items i)) (drop l.place-index l.places)
-    ≡ l.fn.self.order.items ++ filter (λ i. not (is_listed l.fn.self.listed.items i)) l.places
+-- behind the order so far come the runs that are left
+abbrev pub invariant-loop-number : goal.invariant-loop-number
+invariant-loop-number l = record {
+  order : l.order.items ++ runs l.from l.number-iterator (drop l.from l.marks)
+      ≡ l.fn.self.order.items ++ runs 0 (keys l.fn.self.listed) l.marks;
+  ordered : IsOrdered nat_cmp l.fn.self.listed;
+  above : AreFrom l.from l.number-iterator;
+  within : All (λ n. n < length l.marks) l.number-iterator;
+  low : l.from ≤ length l.marks;
+}
