@@ -55,7 +55,7 @@ fn add_lineage(text: &mut List<u8>, stores: &[Name], lineage: &Lineage) -> Resul
         if !is_first {
             text.add(b',')?;
         }
-        add_id(text, stores, &id)?;
+        add_id(text, stores, id)?;
         is_first = false;
     }
     Ok(())

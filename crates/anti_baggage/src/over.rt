@@ -43,7 +43,7 @@ pub fn is_over(stores: &[Name], lineage: &Lineage) -> bool
     ensures { IsTrue result → IsOver stores.now lineage.now }
 {
     for id in lineage.iter() {
-        if !is_id_over(stores, &id) {
+        if !is_id_over(stores, id) {
             return false;
         }
     }

@@ -1,22 +1,12 @@
-ghost use Rattle.std.specs.Prelude.{◌≡◌, Some, IsTrue};
+ghost use Rattle.std.specs.Prelude.{◌≡◌, IsTrue};
 
-use anti_ids::{Lineage, Name, WriteId};
+use anti_ids::{Lineage, Name};
 
 /// Whether two lists have the same names.
 pub fn are_same_names(one: &[Name], other: &[Name]) -> bool
     ensures { IsTrue result → one.now ≡ other.now }
 {
     one == other
-}
-
-// Whether it is this id that comes next. They are tested for being equal, which is cheaper than to find their order.
-fn is_next(next: Option<WriteId>, id: &WriteId) -> bool
-    ensures { IsTrue result → next ≡ Some id.now }
-{
-    match next {
-        Some(next) => next == *id,
-        None => false,
-    }
 }
 
 /// Whether two lineages have the same ids.
@@ -28,7 +18,11 @@ pub fn are_same_ids(one: &Lineage, other: &Lineage) -> bool
     }
     let mut others = other.iter();
     for id in one.iter() {
-        if !is_next(others.next(), &id) {
+        let Some(next) = others.next() else {
+            return false;
+        };
+        // They are tested for being equal, which is cheaper than to find their order.
+        if next != id {
             return false;
         }
     }

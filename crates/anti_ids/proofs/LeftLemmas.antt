@@ -1,19 +1,19 @@
 -- What is left of the ids of a block, as some of them are gone.
-use Rattle.std.proofs.Common.{◌≡◌, ℕ, zero, suc, ◌+◌, ◌<◌, ◌≤◌, List, [], ◌∷◌, Bool, true, false, not, ◌||◌, length, get_or, refl, sym, ap, ◌∙◌, subst, inl, inr, arith}
+use Rattle.std.proofs.Common.{◌≡◌, ℕ, zero, suc, ◌+◌, ◌<◌, ◌≤◌, List, [], ◌∷◌, Bool, true, false, not, ◌||◌, ◌&&◌, length, get_or, refl, sym, ap, ◌∙◌, subst, inl, inr, arith}
 use Rattle.std.specs.Prelude.{◌≢◌}
 use Rattle.std.specs.declared.cmp.Ordering.TheVariants.{Less}
 use Rattle.std.proofs.lemmas.Bool.{cond_both, cond-true, cond-false, cases_Bool, or_parts, or_from, or_left}
 use Rattle.std.proofs.lemmas.Option.{get_or_from_slice_get}
 use Rattle.anti_ids.specs.Each.{Each}
 use Rattle.anti_ids.specs.declared.id.WriteId.{WriteId}
-use Rattle.anti_ids.specs.Ids.{id_cmp, is_id, has_id, without_id}
+use Rattle.anti_ids.specs.Ids.{id_cmp, is_id, has_id, with_id, without_id}
 use Rattle.anti_ids.specs.Invariants.{IsAscending, IsLineage}
 use Rattle.anti_ids.specs.declared.held_ids.HeldIds.{HeldIds}
 use Rattle.anti_ids.specs.declared.held_ids.HeldIds.TheVariants.{Own, Whole, Less as Shared}
 use Rattle.anti_ids.specs.inner.Places.{StandsAt}
 use Rattle.anti_ids.specs.inner.Left.{is_gone, left_of}
 use Rattle.anti_ids.specs.inner.Held.{base_ids, held_ids}
-use Rattle.anti_ids.proofs.IdLemmas.{is_id-itself, not_after, not_among}
+use Rattle.anti_ids.proofs.IdLemmas.{ascending_with, has_id-with_id, has_id-without_id, is_id-itself, not_after, not_among, same_id, same_ids}
 use Rattle.anti_ids.proofs.Places.{each_at}
 
 -- where none is gone all are left
@@ -23,10 +23,10 @@ all_left words k (i ∷ is) none =
     cond-false (is_gone words k) (left_of words (k + 1) is) (i ∷ left_of words (k + 1) is) (none k) ∙ ap (λ (x : List WriteId). i ∷ x) (all_left words (k + 1) is none)
 
 -- the first is gone, or is left
-first_gone : (words : List ℕ) (k : ℕ) (i : WriteId) (is : List WriteId) → is_gone words k ≡ true → left_of words k (i ∷ is) ≡ left_of words (k + 1) is
+pub first_gone : (words : List ℕ) (k : ℕ) (i : WriteId) (is : List WriteId) → is_gone words k ≡ true → left_of words k (i ∷ is) ≡ left_of words (k + 1) is
 first_gone words k i is gone = cond-true (is_gone words k) (left_of words (k + 1) is) (i ∷ left_of words (k + 1) is) gone
 
-first_left : (words : List ℕ) (k : ℕ) (i : WriteId) (is : List WriteId) → is_gone words k ≡ false → left_of words k (i ∷ is) ≡ i ∷ left_of words (k + 1) is
+pub first_left : (words : List ℕ) (k : ℕ) (i : WriteId) (is : List WriteId) → is_gone words k ≡ false → left_of words k (i ∷ is) ≡ i ∷ left_of words (k + 1) is
 first_left words k i is left = cond-false (is_gone words k) (left_of words (k + 1) is) (i ∷ left_of words (k + 1) is) left
 
 -- What holds of a set holds of what is left of it.
@@ -132,6 +132,11 @@ left_without i words changed k (j ∷ js) (suc at) n d asc within here place gon
           ∙ sym (ap (λ (x : List WriteId). without_id i x) (first_left words k j js left) ∙ cond-true (not (is_id i j)) (j ∷ without_id i (left_of words (k + 1) js)) (without_id i (left_of words (k + 1) js)) (ap not (not_after i j low)))
     ]
 
+in_again : (is has : Bool) → (is ≡ true → has ≡ true) → (is || (has && not is)) ≡ has
+in_again true has there = sym (there refl)
+in_again false true there = refl
+in_again false false there = refl
+
 -- an id that has its place in a block is left where it is not gone, and one more gone takes it out
 module _ (i : WriteId) (ids : List WriteId) (at : ℕ) (asc : IsAscending ids) (place : StandsAt i ids at) where
   here : get_or ids at i ≡ i
@@ -143,6 +148,20 @@ module _ (i : WriteId) (ids : List WriteId) (at : ℕ) (asc : IsAscending ids) (
   pub left_without_one : (words changed : List ℕ) → is_gone changed at ≡ true → ((m : ℕ) → m ≢ at → is_gone changed m ≡ is_gone words m)
       → left_of changed 0 ids ≡ without_id i (left_of words 0 ids)
   left_without_one words changed gone_now others = left_without i words changed 0 ids at at i asc place.within here (omega arith) gone_now others
+
+  -- one that is gone no more comes in
+  pub left_with_one : (words changed : List ℕ) → is_gone words at ≡ true → is_gone changed at ≡ false → ((m : ℕ) → m ≢ at → is_gone changed m ≡ is_gone words m)
+      → left_of changed 0 ids ≡ with_id i (left_of words 0 ids)
+  left_with_one words changed gone back others =
+      let whole = left_of changed 0 ids in
+      let rising : IsAscending whole = ascending_left changed 0 ids asc in
+      let out : left_of words 0 ids ≡ without_id i whole = left_without_one changed words gone (λ m apart. sym (others m apart)) in
+      let there : has_id i whole ≡ true = left_where changed ∙ ap not back in
+      let members : (j : WriteId) → has_id j whole ≡ has_id j (with_id i (without_id i whole)) = λ j.
+      sym (has_id-with_id j i (without_id i whole) ∙ ap (λ (b : Bool). is_id j i || b) (has_id-without_id j i whole)
+      ∙ in_again (is_id j i) (has_id j whole) (λ is. ap (λ (x : WriteId). has_id x whole) (same_id j i is) ∙ there)) in
+      same_ids whole (with_id i (without_id i whole)) rising (ascending_with i (without_id i whole) (subst IsAscending out (ascending_left words 0 ids asc))) members
+      ∙ ap (λ (x : List WriteId). with_id i x) (sym out)
 
 -- how a lineage is held does not change that it is one
 pub lineage_held : (h : HeldIds) → IsLineage (base_ids h) → IsLineage (held_ids h)

@@ -7,3 +7,5 @@ pub mod LeftLemmas
 pub mod GoneLemmas
 pub mod Decimals
 mod StoreLemmas
+mod WalkLemmas
+mod RangeLemmas

@@ -4,4 +4,5 @@ pub mod Places
 pub mod Parts
 pub mod Left
 pub mod Held
+pub mod Stores
 pub mod Numerals

@@ -1,14 +1,13 @@
 // Ids in ascending order, as lineages keep them.
-ghost use Rattle.std.specs.Prelude.{◌≡◌, ◌↔◌, ◌+◌, ◌<◌, ◌≤◌, ◌∷◌, ◌++◌, true, not, length, take, drop, vec_len, vec_capacity, IsTrue, IfOk};
+ghost use Rattle.std.specs.Prelude.{◌≡◌, ◌↔◌, ◌+◌, ◌<◌, ◌≤◌, ◌∷◌, ◌++◌, length, take, drop, vec_len, vec_capacity, IsTrue};
 ghost use Rattle.std.specs.declared.cmp.Ordering.TheVariants.{Less};
 ghost use Rattle.anti_ids.specs.Each.{Each};
 ghost use Rattle.anti_ids.specs.Invariants.{IsAscending, IsLineage};
-ghost use Rattle.anti_ids.specs.Ids.{has_id, id_cmp, ids_of, with_ids};
+ghost use Rattle.anti_ids.specs.Ids.{has_id, id_cmp, with_ids};
 ghost use Rattle.anti_ids.specs.inner.Places.{IsPlace};
 
 use crate::id::WriteId;
 use crate::ids::Ids;
-use std::alloc::{AllocError, Global};
 
 // Whether an id goes behind all others.
 fn goes_last(ids: &[WriteId], id: &WriteId) -> bool
@@ -48,7 +47,7 @@ pub(crate) fn count_new(ids: &[WriteId], further: Ids) -> usize
 {
     let mut count = 0;
     for id in further {
-        if !is_among(ids, &id) {
+        if !is_among(ids, id) {
             count += 1;
         }
     }
@@ -76,27 +75,8 @@ pub(crate) fn add_all(ids: &mut Vec<WriteId>, further: Ids)
     ensures capacity { vec_capacity ids.old ≤ vec_capacity ids.new }
 {
     for id in further {
-        if let Err(at) = place_of(ids.as_slice(), &id) {
-            put_at(ids, at, id);
+        if let Err(at) = place_of(ids.as_slice(), id) {
+            put_at(ids, at, *id);
         }
     }
-}
-
-// Whether all ids are of one store.
-pub(crate) fn are_of(ids: Ids, store: u32) -> bool
-    ensures { IsTrue result → ids_of store ids.entry ≡ ids.entry }
-{
-    for id in ids {
-        if id.store != store {
-            return false;
-        }
-    }
-    true
-}
-
-// The ids of one store, of ids.
-pub(crate) fn of_store(alloc: Global, ids: Ids, store: u32) -> Result<Vec<WriteId>, AllocError>
-    ensures { IfOk result (λ v. v.items ≡ ids_of store ids.entry) }
-{
-    ids.filter(|id| id.store == store).collect(alloc)
 }

@@ -1,4 +1,4 @@
-ghost use Rattle.std.specs.Prelude.{◌≡◌, ◌<◌, ◌≤◌, ◌∷◌, ◌++◌, length, take, drop, slice_get, OnOk, OnErr, IfOk};
+ghost use Rattle.std.specs.Prelude.{◌≡◌, ◌+◌, ◌<◌, ◌≤◌, ◌∷◌, ◌++◌, length, take, drop, slice_get, OnOk, OnErr, IfOk};
 ghost use Rattle.std.specs.Arc.{arc_value};
 ghost use Rattle.anti_ids.specs.Invariants.{IsAscending};
 ghost use Rattle.anti_ids.specs.inner.Parts.{joined, put_at};
@@ -10,28 +10,69 @@ use crate::id_part::IdPart;
 use crate::id_parts;
 use crate::memory::NoMemory;
 use crate::walk::Walk;
-use std::alloc::Global;
+use std::alloc::{AllocError, Global};
 use std::marker::Model;
 use std::sync::Arc;
 
-// A list of ids that any number of owners share. It stands in parts, which it shares with the blocks that it was made of.
+// A list of ids that any number of owners share. It stands in parts, which it shares with the blocks that it was made of, and may be
+// a range of the ids there.
 #[derive(Drop)]
 pub(crate) struct Block {
     parts: Arc<Vec<IdPart>>,
+    // How many ids stand in the parts.
+    all: usize,
+    // From which of them on how many are the block's.
+    from: usize,
     len: usize,
 }
 
 impl Model for Block {
-    ghost use Rattle.std.specs.Prelude.{◌≡◌, List, length};
+    ghost use Rattle.std.specs.Prelude.{◌≡◌, ◌+◌, ◌^◌, ◌<◌, ◌≤◌, List, length, take, drop};
     ghost use Rattle.std.specs.Arc.{arc_value};
     ghost use Rattle.anti_ids.specs.declared.id.WriteId.{WriteId};
     ghost use Rattle.anti_ids.specs.inner.Parts.{joined};
 
     ghost Value = { List WriteId };
 
-    ghost view = { λ b. joined (arc_value b.parts).items };
+    ghost view = { λ b. take b.len (drop b.from (joined (arc_value b.parts).items)) };
 
-    ghost invariant = { λ b. length (joined (arc_value b.parts).items) ≡ b.len };
+    ghost invariant = { λ b. (length (joined (arc_value b.parts).items) ≡ b.all) × (b.from + b.len ≤ b.all) × (b.all < 2 ^ 64) };
+}
+
+// Parts of so many ids with an id at an index, in a list of their own.
+fn parts_with(
+    parts: &Arc<Vec<IdPart>>,
+    len: usize,
+    at: usize,
+    id: WriteId,
+) -> Result<Arc<Vec<IdPart>>, NoMemory>
+    requires len { length (joined (arc_value parts.now).items) ≡ len }
+    requires within { at ≤ len }
+    ensures { IfOk result (λ more. joined (arc_value more).items ≡ put_at at id (joined (arc_value parts.now).items)) }
+{
+    let alloc = *parts.allocator();
+    let mut parts = IdPart::copy_all(parts.as_slice(), 1, alloc)?;
+    id_parts::put(&mut parts, len, at, id)?;
+    match Arc::new(alloc, parts) {
+        Ok(parts) => Ok(parts),
+        Err(_) => Err(NoMemory),
+    }
+}
+
+// Puts an id at an index of parts of so many ids: in place where nobody else holds them, else in a list of their own.
+fn put(parts: &mut Arc<Vec<IdPart>>, len: usize, at: usize, id: WriteId) -> Result<(), NoMemory>
+    requires len { length (joined (arc_value parts.old).items) ≡ len }
+    requires within { at ≤ len }
+    ensures ok { OnOk result (joined (arc_value parts.new).items ≡ put_at at id (joined (arc_value parts.old).items)) }
+    ensures err { OnErr result (joined (arc_value parts.new).items ≡ joined (arc_value parts.old).items) }
+{
+    match Arc::get_mut(parts) {
+        Some(parts) => id_parts::put(parts, len, at, id),
+        None => {
+            *parts = parts_with(parts, len, at, id)?;
+            Ok(())
+        }
+    }
 }
 
 impl Block {
@@ -42,7 +83,25 @@ impl Block {
         match Arc::new(alloc, id_parts::parts_of(alloc, ids)?) {
             Ok(parts) => Ok(Block {
                 parts,
+                all: ids.len(),
+                from: 0,
                 len: ids.len(),
+            }),
+            Err(_) => Err(NoMemory),
+        }
+    }
+
+    // A range of the block for one more owner. It takes no memory.
+    pub(crate) fn range(&self, from: usize, len: usize) -> Result<Block, NoMemory>
+        requires { from + len ≤ length self.now }
+        ensures { IfOk result (λ b. b ≡ take len (drop from self.now)) }
+    {
+        match Arc::try_clone(&self.parts) {
+            Ok(parts) => Ok(Block {
+                parts,
+                all: self.all,
+                from: self.from + from,
+                len,
             }),
             Err(_) => Err(NoMemory),
         }
@@ -52,13 +111,7 @@ impl Block {
     pub(crate) fn share(&self) -> Result<Block, NoMemory>
         ensures { IfOk result (λ b. b ≡ self.now) }
     {
-        match Arc::try_clone(&self.parts) {
-            Ok(parts) => Ok(Block {
-                parts,
-                len: self.len,
-            }),
-            Err(_) => Err(NoMemory),
-        }
+        self.range(0, self.len)
     }
 
     // What its memory is of.
@@ -77,34 +130,41 @@ impl Block {
         requires { index < length self.now }
         ensures { slice_get self.now index ≡ Some result }
     {
-        id_parts::at(self.parts.as_slice(), self.len, index)
+        id_parts::at(self.parts.as_slice(), self.all, self.from + index)
     }
 
     // The ids one after another.
     pub(crate) fn walk(&self) -> Walk
         ensures { result ≡ self.now }
     {
-        Walk::through(self.parts.as_slice())
+        let mut walk = Walk::through(self.parts.as_slice(), self.from + self.len);
+        walk.leave_out(self.from);
+        walk
     }
 
-    // Where an id stands, or where it goes as it is not there.
+    // Where an id stands, or where it goes as it is not there. A range is gone along.
     pub(crate) fn place_of(&self, id: &WriteId) -> Result<usize, usize>
         requires { IsAscending self.now }
         ensures { IsPlace id.now self.now result }
     {
+        if self.len < self.all {
+            return self.walk().place_of(id);
+        }
         id_parts::place_of(self.parts.as_slice(), self.len, id)
     }
 
-    // Its parts with an id at an index, in a list of their own.
-    fn parts_with(&self, at: usize, id: WriteId) -> Result<Arc<Vec<IdPart>>, NoMemory>
+    // A block of its own with an id at an index.
+    fn apart_with(&self, at: usize, id: WriteId) -> Result<Block, NoMemory>
         requires { at ≤ length self.now }
-        ensures { IfOk result (λ parts. joined (arc_value parts).items ≡ put_at at id self.now) }
+        ensures { IfOk result (λ b. b ≡ put_at at id self.now) }
     {
         let alloc = self.allocator();
-        let mut parts = IdPart::copy_all(self.parts.as_slice(), 1, alloc)?;
-        id_parts::put(&mut parts, self.len, at, id)?;
-        match Arc::new(alloc, parts) {
-            Ok(parts) => Ok(parts),
+        let Ok(mut ids): Result<Vec<WriteId>, AllocError> = self.walk().copied().collect(alloc)
+        else {
+            return Err(NoMemory);
+        };
+        match ids.insert(at, id) {
+            Ok(()) => Block::of(alloc, ids.as_slice()),
             Err(_) => Err(NoMemory),
         }
     }
@@ -118,11 +178,13 @@ impl Block {
         let Some(len) = self.len.checked_add(1) else {
             return Err(NoMemory);
         };
-        match Arc::get_mut(&mut self.parts) {
-            Some(parts) => id_parts::put(parts, self.len, at, id)?,
-            None => self.parts = self.parts_with(at, id)?,
+        if self.len < self.all {
+            *self = self.apart_with(at, id)?;
+            return Ok(());
         }
+        put(&mut self.parts, self.len, at, id)?;
         self.len = len;
+        self.all = len;
         Ok(())
     }
 }

@@ -38,4 +38,14 @@ impl Gone {
         words[at / 64] |= 1 << (at % 64);
         Gone { words }
     }
+    // The same, and the id at an index is not gone.
+    pub(crate) fn without(self, at: usize) -> Gone
+        requires { at < MOST_IDS }
+        ensures back { is_gone result.words at ≡ false }
+        ensures others { (other : ℕ) → other ≢ at → is_gone result.words other ≡ is_gone self.words other }
+    {
+        let mut words = self.words;
+        words[at / 64] &= !(1 << (at % 64));
+        Gone { words }
+    }
 }

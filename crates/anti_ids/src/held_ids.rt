@@ -1,10 +1,10 @@
-ghost use Rattle.std.specs.Prelude.{[], ◌≡◌, ◌+◌, ◌<◌, ◌≤◌, false, not, length, slice_get, vec_capacity, OnOk, OnErr, IfOk, IfErr, IsErrOf, IsTrue};
+ghost use Rattle.std.specs.Prelude.{◌≡◌, ◌+◌, ◌<◌, ◌≤◌, false, not, length, slice_get, vec_capacity, OnOk, OnErr, IfOk, IfErr, IsErrOf, IsTrue};
 ghost use Rattle.anti_ids.specs.Invariants.{IsLineage};
 ghost use Rattle.anti_ids.specs.Ids.{has_id, ids_of, is_id, with_id, with_ids, without_id};
 ghost use Rattle.anti_ids.specs.inner.Held.{base_ids, held_ids};
-ghost use Rattle.anti_ids.specs.inner.Left.{left_of};
+ghost use Rattle.anti_ids.specs.inner.Left.{left_for, left_of};
 
-use crate::ascending::{are_of, of_store, place_of};
+use crate::ascending::place_of;
 use crate::block::Block;
 use crate::gone::Gone;
 use crate::id::WriteId;
@@ -35,11 +35,25 @@ fn nth(ids: Ids, index: usize) -> WriteId
     let mut before = index;
     for id in ids {
         if before == 0 {
-            return id;
+            return *id;
         }
         before -= 1;
     }
     unreachable!() // the index is below their number
+}
+
+// The ids that are left of a block, the first of which stands at an index of those that may be gone.
+fn left_in(alloc: Global, block: &Block, at: usize, gone: &Gone) -> Result<Vec<WriteId>, NoMemory>
+    requires { at + length block.now ≤ MOST_IDS }
+    ensures { IfOk result (λ v. v.items ≡ left_of gone.now.words at block.now) }
+{
+    match Ids::over(block.walk(), at, Some(gone))
+        .copied()
+        .collect(alloc)
+    {
+        Ok(ids) => Ok(ids),
+        Err(_) => Err(NoMemory),
+    }
 }
 
 impl HeldIds {
@@ -54,14 +68,14 @@ impl HeldIds {
         }
     }
 
-    // Those of them that are gone.
-    fn gone(&self) -> Gone
-        ensures { left_of result.words 0 (base_ids self.now) ≡ held_ids self.now }
+    // Those of them that are gone, where some may be.
+    fn gone(&self) -> Option<&Gone>
+        ensures { left_for result 0 (base_ids self.now) ≡ held_ids self.now }
     {
         match self {
-            HeldIds::Own(_) => Gone::none(),
-            HeldIds::Whole(_) => Gone::none(),
-            HeldIds::Less(_, gone) => *gone,
+            HeldIds::Own(_) => None,
+            HeldIds::Whole(_) => None,
+            HeldIds::Less(_, gone) => Some(gone),
         }
     }
 
@@ -71,7 +85,7 @@ impl HeldIds {
         ensures ids { result ≡ held_ids self.now }
         ensures lineage { IsLineage (held_ids self.now) }
     {
-        Ids::over(self.walk(), self.gone())
+        Ids::over(self.walk(), 0, self.gone())
     }
 
     // What further memory is of.
@@ -141,32 +155,27 @@ impl HeldIds {
         }
     }
 
-    // Whether a store is between that of the first id and that of the last; else no id is of it.
-    fn reaches(&self, store: u32) -> bool
-        requires { IsLineage (base_ids self.now) }
-        ensures { result ≡ false → ids_of store (held_ids self.now) ≡ [] }
-    {
-        let Some(first) = self.ids().next() else {
-            return false;
-        };
-        let last = self.at(self.len() - 1);
-        first.store <= store && store <= last.store
-    }
-
-    // The ids of one store. They share their memory with all of the ids, where these are of that store, and with copies.
+    // The ids of one store. They share their memory with all of the ids, where none is gone, and with copies.
     pub(crate) fn of_store(&self, alloc: Global, store: u32) -> Result<HeldIds, NoMemory>
         requires { IsLineage (base_ids self.now) }
         ensures ids { IfOk result (λ h. held_ids h ≡ ids_of store (held_ids self.now)) }
         ensures lineage { IfOk result (λ h. IsLineage (base_ids h)) }
     {
-        if are_of(self.ids(), store) {
-            return self.copy(alloc);
-        }
-        if !self.reaches(store) {
+        let (from, len) = self.walk().range_of(store);
+        if len == 0 {
             return Ok(HeldIds::Own(Vec::new(alloc)));
         }
-        let ids = of_store(alloc, self.ids(), store)?;
-        HeldIds::Own(ids).copy(alloc)
+        match self {
+            HeldIds::Own(ids) => {
+                let own = ids.as_slice().split_at(from).1.split_at(len).0;
+                Ok(HeldIds::Whole(Block::of(alloc, own)?))
+            }
+            HeldIds::Whole(block) => Ok(HeldIds::Whole(block.range(from, len)?)),
+            HeldIds::Less(block, gone) => {
+                let ids = left_in(alloc, &block.range(from, len)?, from, gone)?;
+                HeldIds::Own(ids).copy(alloc)
+            }
+        }
     }
 
     // The ids in a list of their own, with room for more.
@@ -175,7 +184,7 @@ impl HeldIds {
         ensures ids { IfOk result (λ v. v.items ≡ held_ids self.now) }
         ensures room { IfOk result (λ v. length (held_ids self.now) + more ≤ vec_capacity v) }
     {
-        let mut ids: Vec<WriteId> = match self.ids().collect(self.allocator()) {
+        let mut ids: Vec<WriteId> = match self.ids().copied().collect(self.allocator()) {
             Ok(ids) => ids,
             Err(_) => return Err(NoMemory),
         };
@@ -223,17 +232,41 @@ impl HeldIds {
         }
     }
 
-    // Takes an id out, and tells whether it was there. It takes no memory.
+    // Takes an id out, and tells whether it was there. It takes no memory, and where the id is not there it moves nothing.
     pub(crate) fn take_out(&mut self, id: &WriteId) -> bool
         requires { IsLineage (base_ids self.old) }
         ensures ids { held_ids self.new ≡ without_id id.now (held_ids self.old) }
         ensures found { result ≡ has_id id.now (held_ids self.old) }
         ensures lineage { IsLineage (base_ids self.new) }
     {
+        if !self.has(id) {
+            return false;
+        }
         let nothing = HeldIds::Own(Vec::new(self.allocator()));
         let (held, found) = mem::replace(self, nothing).without(id);
         *self = held;
         found
+    }
+
+    // Brings back an id that is gone from the block that it stands in, and tells whether that is so. It takes no memory.
+    pub(crate) fn bring_back(&mut self, id: &WriteId) -> bool
+        requires { IsLineage (base_ids self.old) }
+        ensures ids { IsTrue result → held_ids self.new ≡ with_id id.now (held_ids self.old) }
+        ensures new { IsTrue result → has_id id.now (held_ids self.old) ≡ false }
+        ensures same { result ≡ false → self.new ≡ self.old }
+        ensures lineage { IsLineage (base_ids self.new) }
+    {
+        let HeldIds::Less(block, gone) = self else {
+            return false;
+        };
+        let Ok(at) = block.place_of(id) else {
+            return false;
+        };
+        if !gone.has(at) {
+            return false;
+        }
+        *gone = gone.without(at);
+        true
     }
 
     // The ids in a list that nobody else holds, with room for more. Without memory for it they are handed back.

@@ -36,10 +36,13 @@ impl Ord for WriteId {
     ghost matches_eq = { Prim.search (comparing, rules) depth 9 };
 
     fn cmp(&self, other: &WriteId) -> Ordering {
-        self.store
-            .cmp(&other.store)
-            .then(self.version.cmp(&other.version))
-            .then_with(|| self.key.cmp(&other.key))
+        if self.store != other.store {
+            return self.store.cmp(&other.store);
+        }
+        if self.version != other.version {
+            return self.version.cmp(&other.version);
+        }
+        self.key.cmp(&other.key)
     }
 }
 

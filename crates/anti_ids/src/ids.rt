@@ -1,6 +1,6 @@
-ghost use Rattle.std.specs.Prelude.{◌≡◌, ◌≤◌, length};
-ghost use Rattle.std.specs.Iterator.{YieldsFirst, item_count};
-ghost use Rattle.anti_ids.specs.inner.Left.{left_of};
+ghost use Rattle.std.specs.Prelude.{◌≡◌, ◌+◌, ◌≤◌, length};
+ghost use Rattle.std.specs.Iterator.{YieldsFirstRef, item_count};
+ghost use Rattle.anti_ids.specs.inner.Left.{left_for};
 
 use crate::gone::Gone;
 use crate::id::WriteId;
@@ -14,42 +14,46 @@ pub struct Ids<'a> {
     // What stands in memory, and the index there of the first.
     walk: Walk<'a>,
     at: usize,
-    gone: Gone,
+    // Which of all these are gone, where some may be.
+    gone: Option<&'a Gone>,
 }
 
 impl<'a> Model for Ids<'a> {
     ghost use Rattle.std.specs.Prelude.{List, ◌+◌, ◌≤◌, length};
     ghost use Rattle.anti_ids.specs.declared.id.WriteId.{WriteId};
     ghost use Rattle.anti_ids.specs.declared.limits.TheConstants.{MOST_IDS};
-    ghost use Rattle.anti_ids.specs.inner.Left.{left_of};
+    ghost use Rattle.anti_ids.specs.inner.Left.{left_for};
 
     ghost Value = { List WriteId };
 
-    ghost view = { λ ids. left_of ids.gone.words ids.at ids.walk };
+    ghost view = { λ ids. left_for ids.gone ids.at ids.walk };
 
     ghost invariant = { λ ids. ids.at + length ids.walk ≤ MOST_IDS };
 }
 
 impl<'a> Ids<'a> {
-    // Over the ids in memory that are not gone.
-    pub(crate) fn over(walk: Walk<'a>, gone: Gone) -> Ids<'a>
-        requires { length walk ≤ MOST_IDS }
-        ensures { result ≡ left_of gone.words 0 walk.entry }
+    // Over the ids in memory that are not gone, of which the first stands at an index.
+    pub(crate) fn over(walk: Walk<'a>, at: usize, gone: Option<&'a Gone>) -> Ids<'a>
+        requires { at + length walk ≤ MOST_IDS }
+        ensures { result ≡ left_for gone.entry at walk.entry }
     {
-        Ids { walk, at: 0, gone }
+        Ids { walk, at, gone }
     }
 }
 
 impl<'a> Iterator for Ids<'a> {
-    type Item = WriteId;
+    type Item = &'a WriteId;
 
-    ghost next_gives = { YieldsFirst (λ ids. ids) };
+    ghost next_gives = { YieldsFirstRef (λ ids. ids) };
 
     ghost remaining = { item_count (λ ids. ids) };
 
-    fn next(&mut self) -> Option<WriteId> {
+    fn next(&mut self) -> Option<&'a WriteId> {
+        let Some(gone) = self.gone else {
+            return self.walk.next();
+        };
         while let Some(id) = self.walk.next() {
-            let is_gone = self.gone.has(self.at);
+            let is_gone = gone.has(self.at);
             self.at += 1;
             if !is_gone {
                 return Some(id);

@@ -1,5 +1,5 @@
 ghost use Rattle.std.specs.Prelude.{◌≡◌, ◌+◌, ◌<◌, ◌≤◌, [], ◌∷◌, ◌++◌, length, slice_get, slice_set, ◌==◌, OnOk, OnErr, IsOk, IfOk, IfErr, IfNone, IfSome};
-ghost use Rattle.anti_ids.specs.List.{empty};
+ghost use Rattle.anti_ids.specs.List.{empty, plain};
 ghost use Rattle.anti_ids.specs.ListCalls.{pushed, reserved, extended};
 
 use crate::copies::Copies;
@@ -155,6 +155,14 @@ impl<T: Drop> List<T> {
             return Err(NoMemory);
         }
         Ok(List { items, spare: room })
+    }
+}
+
+impl<T> From<Vec<T>> for List<T> {
+    ghost from_gives = { λ items list. list ≡ plain items.items };
+
+    fn from(items: Vec<T>) -> List<T> {
+        List { items, spare: 0 }
     }
 }
 

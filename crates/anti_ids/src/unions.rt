@@ -11,7 +11,6 @@ use crate::ids::Ids;
 use crate::limits::MOST_IDS;
 use crate::lineage::LineageRefused;
 use crate::memory::NoMemory;
-use std::cmp::Ordering;
 
 // Adds an id to a block, and tells whether it is new.
 fn add_to(block: &mut Block, id: WriteId) -> Result<bool, LineageRefused>
@@ -46,21 +45,27 @@ fn add_each(block: &mut Block, further: Ids) -> Result<(), LineageRefused>
     ensures full { IsErrOf result LineageRefused.Full → MOST_IDS < length (with_ids further.entry block.old) }
 {
     for id in further {
-        add_to(block, id)?;
+        add_to(block, *id)?;
     }
     Ok(())
 }
 
-// Goes past the ids that are less than an id, and tells whether that one comes then.
+// Whether an id is known to come behind another, by the store and the version alone: names are dear to compare.
+fn is_behind(other: &WriteId, id: &WriteId) -> bool {
+    other.store > id.store || other.store == id.store && other.version > id.version
+}
+
+// Goes past ids up to an id, or to the first that is known to come behind it, and tells whether that id came.
 fn comes(ids: &mut Ids, id: &WriteId) -> bool
     ensures there { IsTrue result → has_id id.now ids.old ≡ true }
     ensures rest { (i : WriteId) → has_id i ids.new ≡ true → has_id i ids.old ≡ true }
 {
     while let Some(next) = ids.next() {
-        match next.cmp(id) {
-            Ordering::Less => {}
-            Ordering::Equal => return true,
-            Ordering::Greater => return false,
+        if is_behind(next, id) {
+            return false;
+        }
+        if next.version == id.version && next == id {
+            return true;
         }
     }
     false
@@ -74,7 +79,7 @@ impl HeldIds {
     {
         let mut held = self.ids();
         for id in ids {
-            if !comes(&mut held, &id) {
+            if !comes(&mut held, id) {
                 return false;
             }
         }
@@ -112,6 +117,9 @@ impl HeldIds {
         }
         if self.has(&id) {
             return Ok(false);
+        }
+        if self.bring_back(&id) {
+            return Ok(true);
         }
         let mut block = self.block_to_grow()?;
         let is_new = add_to(&mut block, id)?;

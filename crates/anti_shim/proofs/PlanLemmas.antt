@@ -1,10 +1,8 @@
 -- The planned looks, one store after another.
 use Rattle.std.specs.Prelude.{AllPairs, Option}
-use Rattle.std.proofs.Common.{◌≡◌, ℕ, suc, ◌+◌, ◌<◌, List, [], ◌∷◌, ◌++◌, true, false, length, get_or, drop, All, refl, ap, sym, ◌∙◌, ◌==◌, arith}
-use Rattle.std.proofs.lemmas.List.{at_drop_more, append_assoc}
+use Rattle.std.proofs.Common.{◌≡◌, ℕ, suc, ◌<◌, List, [], ◌∷◌, All, refl, ◌==◌, arith}
 use Rattle.std.proofs.lemmas.List.Elements.{All-nil, All-cons, All-head, All-tail, All-weaker}
 use Rattle.std.proofs.lemmas.List.Kept.{AllPairs-cons}
-use Rattle.std.proofs.lemmas.Bool.Decides.{nat_tests}
 use Rattle.anti_ids.specs.declared.id.WriteId.{WriteId}
 use Rattle.anti_ids.specs.Ids.{ids_of}
 use Rattle.anti_shim.specs.declared.looks.PlannedLook.{PlannedLook}
@@ -12,42 +10,6 @@ use Rattle.anti_kind.specs.Objects.{Start}
 use Rattle.anti_shim.specs.Plans.{with_look, plan}
 use Rattle.anti_shim.specs.Sights.{HasReplica, IsHere}
 use Rattle.anti_shim.proofs.LookLemmas.{IsRight, all_kept}
-
-with_none : (store : ℕ) (ids : List WriteId) (further : List PlannedLook) → (length ids == 0) ≡ true → with_look store ids further ≡ further
-with_none store [] further e = refl
-with_none store (id ∷ ids) further e = absurd (grind (arith, nat_tests))
-
-with_some : (store : ℕ) (ids : List WriteId) (further : List PlannedLook) → (length ids == 0) ≡ false → with_look store ids further ≡ record { store = store; ids = ids } ∷ further
-with_some store [] further e = absurd (cc)
-with_some store (id ∷ ids) further e = refl
-
--- the plan of the stores from an index on, as that of the store there and of those behind it
-plan_more : (here : List ℕ) (at store : ℕ) (lineage : List WriteId) → at < length here → store ≡ get_or here at store
-    → plan (drop at here) lineage ≡ with_look store (ids_of store lineage) (plan (drop (at + 1) here) lineage)
-plan_more here at store lineage lt is =
-    at_drop_more (λ (stores : List ℕ). plan stores lineage) here at store lt
-    ∙ ap (λ (s : ℕ). with_look s (ids_of s lineage) (plan (drop (at + 1) here) lineage)) (sym is)
-
--- a store of which there are no ids
-pub none_planned : (here : List ℕ) (at store : ℕ) (lineage ids : List WriteId) (looks : List PlannedLook) → at < length here → store ≡ get_or here at store
-    → ids ≡ ids_of store lineage → (length ids == 0) ≡ true
-    → looks ++ plan (drop at here) lineage ≡ plan here lineage → looks ++ plan (drop (at + 1) here) lineage ≡ plan here lineage
-none_planned here at store lineage ids looks lt is of none e =
-    ap (λ (further : List PlannedLook). looks ++ further) (sym (plan_more here at store lineage lt is
-    ∙ ap (λ (js : List WriteId). with_look store js (plan (drop (at + 1) here) lineage)) (sym of)
-    ∙ with_none store ids (plan (drop (at + 1) here) lineage) none)) ∙ e
-
--- a store of which there are ids
-pub one_planned : (here : List ℕ) (at store : ℕ) (lineage ids : List WriteId) (looks : List PlannedLook) → at < length here → store ≡ get_or here at store
-    → ids ≡ ids_of store lineage → (length ids == 0) ≡ false
-    → looks ++ plan (drop at here) lineage ≡ plan here lineage
-    → (looks ++ record { store = store; ids = ids } ∷ []) ++ plan (drop (at + 1) here) lineage ≡ plan here lineage
-one_planned here at store lineage ids looks lt is of some e =
-    append_assoc looks (record { store = store; ids = ids } ∷ []) (plan (drop (at + 1) here) lineage)
-    ∙ ap (λ (further : List PlannedLook). looks ++ further) (sym (plan_more here at store lineage lt is
-    ∙ ap (λ (js : List WriteId). with_look store js (plan (drop (at + 1) here) lineage)) (sym of)
-    ∙ with_some store ids (plan (drop (at + 1) here) lineage) some))
-    ∙ e
 
 -- What holds of each planned look.
 

@@ -1,5 +1,6 @@
 -- The looks that are planned, one store after another.
-use Rattle.std.proofs.Common.{◌≡◌, ℕ, ◌+◌, ◌-◌, ◌<◌, ◌++◌, ◌∷◌, List, [], length, drop, get_or, false, ◌==◌, refl, sym, ap, ◌∙◌, append_assoc, arith}
+use Rattle.std.proofs.Common.{◌≡◌, ℕ, ◌+◌, ◌-◌, ◌<◌, ◌++◌, ◌∷◌, List, [], length, drop, get_or, true, false, ◌==◌, refl, sym, ap, ◌∙◌, append_assoc, arith}
+use Rattle.std.proofs.lemmas.Bool.Decides.{nat_tests}
 use Rattle.std.proofs.lemmas.List.{drop_more}
 use Rattle.anti_ids.specs.declared.id.WriteId.{WriteId}
 use Rattle.anti_ids.specs.Ids.{ids_of}
@@ -7,6 +8,12 @@ use Rattle.anti_ids.specs.List.{Listed}
 use Rattle.anti_ids.specs.ListCalls.{pushed}
 use Rattle.anti_shim.specs.declared.looks.PlannedLook.{PlannedLook}
 use Rattle.anti_shim.specs.Plans.{plan, with_look}
+
+-- no look is planned for no ids
+pub planned_none : (here : List ℕ) (lineage : List WriteId) → (length lineage == 0) ≡ true → plan here lineage ≡ []
+planned_none [] lineage none = refl
+planned_none (store ∷ stores) [] none = planned_none stores [] none
+planned_none (store ∷ stores) (i ∷ is) none = absurd (grind (arith, nat_tests))
 
 -- a store of which there are ids is looked at before the others
 look_first : (store : ℕ) (ids : List WriteId) (further : List PlannedLook) → (length ids == 0) ≡ false → with_look store ids further ≡ record { store = store; ids = ids } ∷ further

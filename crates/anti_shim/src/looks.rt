@@ -33,6 +33,9 @@ pub fn plan(alloc: Global, here: &[u32], lineage: &Lineage) -> Result<Looks, NoM
     ensures { IfOk result (λ looks. looks ≡ plain (plan here.now lineage.now)) }
 {
     let mut looks = List::new(alloc);
+    if lineage.is_empty() {
+        return Ok(looks);
+    }
     for store in here {
         let ids = lineage.ids_of(alloc, *store)?;
         if ids.is_empty() {

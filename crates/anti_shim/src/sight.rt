@@ -55,7 +55,7 @@ pub(crate) fn see<P: Port, A: Asks<P>>(
         unreachable!()
     };
     match unwritten.get().iter().next() {
-        Some(id) => Err(ShimFault::Unwritten(id)),
+        Some(id) => Err(ShimFault::Unwritten(*id)),
         None => Ok(Sight {
             store,
             place,

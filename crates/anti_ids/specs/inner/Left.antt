@@ -1,6 +1,8 @@
 -- Which ids of a block are left for one of its owners.
-use Rattle.std.specs.Prelude.{ℕ, ◌+◌, ◌/◌, ◌%◌, List, [], ◌∷◌, ◌==◌, Bool, get_or, if◌then◌else◌}
+use Rattle.std.specs.Prelude.{ℕ, ◌+◌, ◌/◌, ◌%◌, List, [], ◌∷◌, ◌==◌, Bool, get_or, Option, None, Some, if◌then◌else◌}
+use Rattle.std.specs.Borrow.{Bor}
 use Rattle.std.specs.Int.{bit_at}
+use Rattle.anti_ids.specs.declared.gone.Gone.{Gone}
 use Rattle.anti_ids.specs.declared.id.WriteId.{WriteId}
 
 -- whether the id at an index is gone, by a bit of four words of 64
@@ -11,3 +13,8 @@ is_gone words at = bit_at (get_or words (at / 64) 0) (at % 64) == 1
 abbrev pub left_of : List ℕ → ℕ → List WriteId → List WriteId
 left_of words at [] = []
 left_of words at (i ∷ is) = if is_gone words at then left_of words (at + 1) is else (i ∷ left_of words (at + 1) is)
+
+-- the same, where some may be gone; else all are left
+abbrev pub left_for : Option (Bor Gone) → ℕ → List WriteId → List WriteId
+left_for None at ids = ids
+left_for (Some gone) at ids = left_of gone.now.words at ids

@@ -1,7 +1,7 @@
-use Rattle.std.proofs.Common.{◌≡◌, ◌++◌, ◌∷◌, [], true, false, List, sym, ap, ◌∙◌, arith, rules}
+use Rattle.std.proofs.Common.{◌≡◌, ◌++◌, ◌∷◌, [], true, false, List, length, map, sym, ap, ◌∙◌, arith, rules}
 use Rattle.std.specs.Prelude.{codes}
 use Rattle.std.specs.List.{join_by}
-use Rattle.std.proofs.lemmas.List.{append_assoc, length_push}
+use Rattle.std.proofs.lemmas.List.{append_assoc, length_push, map-append}
 use Rattle.anti_ids.specs.declared.id.WriteId.{WriteId}
 use Rattle.anti_ids.specs.Ascii.{comma}
 use Rattle.anti_ids.specs.List.{plain}
@@ -15,8 +15,9 @@ pub loop-id-preserved : goal.loop-id-preserved
 loop-id-preserved c =
     let front = c.append.new.self.items in
     let f = id_text c.args.stores.now in
-    let ids = c.loop-id.yielded in
-    let id = c.in-Some.id in
+    let ids = map (λ i. i.now) c.loop-id.yielded in
+    let id = c.in-Some.id.now in
+    let longer : map (λ i. i.now) (c.loop-id.yielded ++ c.in-Some.id ∷ []) ≡ ids ++ id ∷ [] = map-append (λ i. i.now) c.loop-id.yielded (c.in-Some.id ∷ []) in
     let before = join_by f (codes ",") ids in
     let step : c.loop-id.id-iterator ≡ id ∷ c.next.new.self = search rules in
     let now : c.if-not-is_first.text.items ++ f id ≡ front ++ join_by f (codes ",") (ids ++ id ∷ []) =
@@ -31,8 +32,9 @@ loop-id-preserved c =
           goes_on front before c.if-not-is_first.text.items (f id) _ (ap (λ t. t.items) written) (first_joined f (codes ",") ids id (c.loop-id.invariant.first begun))
     ] in
     record {
-      written = c.in_ok-add_id.ensures.ok ∙ ap plain now;
-      all = append_assoc ids (id ∷ []) c.next.new.self ∙ sym (ap (λ (x : List WriteId). ids ++ x) step) ∙ c.loop-id.invariant.all;
+      written = c.in_ok-add_id.ensures.ok ∙ ap plain (now ∙ ap (λ (x : List WriteId). front ++ join_by f (codes ",") x) (sym longer));
+      all = ap (λ (x : List WriteId). x ++ c.next.new.self) longer ∙ append_assoc ids (id ∷ []) c.next.new.self
+          ∙ sym (ap (λ (x : List WriteId). ids ++ x) step) ∙ c.loop-id.invariant.all;
       first = λ e. absurd (cc);
-      later = λ e. omega (arith, length_push ids id);
+      later = λ e. omega (arith, ap length longer, length_push ids id);
     }

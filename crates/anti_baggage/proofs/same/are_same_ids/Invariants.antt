@@ -1,9 +1,9 @@
-use Rattle.std.proofs.Common.{◌≡◌, ◌++◌}
+use Rattle.std.proofs.Common.{◌≡◌, length}
 use Rattle.anti_baggage.proofs.same.are_same_ids.Given as goal
 
--- the ids so far are the first of both
+-- as many are to come of both, and where those are the same, all are
 abbrev pub invariant-loop-id : goal.invariant-loop-id
 invariant-loop-id l = record {
-  one : l.yielded ++ l.id-iterator ≡ l.one;
-  other : l.yielded ++ l.others ≡ l.other;
+  count : length l.id-iterator ≡ length l.others;
+  same : l.id-iterator ≡ l.others → l.one ≡ l.other;
 }

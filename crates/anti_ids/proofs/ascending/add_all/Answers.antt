@@ -13,21 +13,21 @@ pub put_at-requires-clause-room : goal.put_at-requires-clause-room
 put_at-requires-clause-room c =
     let ids = c.loop-id.ids.items in
     let whole = with_ids c.args.further c.args.ids.now.items in
-    let step : c.loop-id.id-iterator ≡ c.in-Some.id ∷ c.next.new.self = search rules in
+    let step : c.loop-id.id-iterator ≡ c.in-Some.id.now ∷ c.next.new.self = search rules in
     let all : with_ids c.loop-id.id-iterator ids ≡ whole = search rules in
-    let rest : with_ids c.next.new.self (with_id c.in-Some.id ids) ≡ whole = one_added c.loop-id.id-iterator c.next.new.self ids whole c.in-Some.id step all in
-    let absent : has_id c.in-Some.id ids ≡ false = search rules in
-    omega (arith, length-with_id c.in-Some.id ids absent, le-length-with_ids c.next.new.self (with_id c.in-Some.id ids), ap length rest, c.loop-id.ids.ok.0, c.requires.room, c.loop-id.invariant.room)
+    let rest : with_ids c.next.new.self (with_id c.in-Some.id.now ids) ≡ whole = one_added c.loop-id.id-iterator c.next.new.self ids whole c.in-Some.id.now step all in
+    let absent : has_id c.in-Some.id.now ids ≡ false = search rules in
+    omega (arith, length-with_id c.in-Some.id.now ids absent, le-length-with_ids c.next.new.self (with_id c.in-Some.id.now ids), ap length rest, c.loop-id.ids.ok.0, c.requires.room, c.loop-id.invariant.room)
 
 pub loop-id-preserved-in-Err : goal.loop-id-preserved-in-Err
 loop-id-preserved-in-Err c =
     let ids = c.loop-id.ids.items in
     let whole = with_ids c.into_iter-id-iterator.result c.args.ids.now.items in
-    let step : c.loop-id.id-iterator ≡ c.in-Some.id ∷ c.next.new.self = search rules in
-    let now : c.put_at.new.ids.items ≡ with_id c.in-Some.id ids = search rules in
-    let rest : with_ids c.next.new.self (with_id c.in-Some.id ids) ≡ whole = one_added c.loop-id.id-iterator c.next.new.self ids whole c.in-Some.id step c.loop-id.invariant.rest in
+    let step : c.loop-id.id-iterator ≡ c.in-Some.id.now ∷ c.next.new.self = search rules in
+    let now : c.put_at.new.ids.items ≡ with_id c.in-Some.id.now ids = search rules in
+    let rest : with_ids c.next.new.self (with_id c.in-Some.id.now ids) ≡ whole = one_added c.loop-id.id-iterator c.next.new.self ids whole c.in-Some.id.now step c.loop-id.invariant.rest in
     record {
-      ascending = subst IsAscending (sym now) (ascending_with c.in-Some.id ids c.loop-id.invariant.ascending);
+      ascending = subst IsAscending (sym now) (ascending_with c.in-Some.id.now ids c.loop-id.invariant.ascending);
       rest = ap (λ (x : List WriteId). with_ids c.next.new.self x) now ∙ rest;
       room = search rules;
     }

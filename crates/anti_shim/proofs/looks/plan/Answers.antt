@@ -1,7 +1,7 @@
 use Rattle.std.proofs.Common.{arith, ◌≡◌, length, get_or, false, ◌==◌, rules}
 use Rattle.std.proofs.lemmas.Grind.{common_steps}
 use Rattle.anti_ids.specs.ListCalls.{pushed}
-use Rattle.anti_shim.proofs.Planned.{planned_more}
+use Rattle.anti_shim.proofs.Planned.{planned_more, planned_none}
 use Rattle.anti_shim.proofs.looks.plan.Goals as goal
 
 pub loop-store-preserved : goal.loop-store-preserved
@@ -11,8 +11,13 @@ loop-store-preserved c =
     let more = planned_more c.args.here.now c.args.lineage.now c.loop-store.store-index 0 c.in_ok-ids.ids c.loop-store.looks c.add_look.new.looks (search rules) c.in_ok-ids.ensures.ok some c.loop-store.invariant.looks c.loop-store.invariant.room added in
     record { looks = more.0; room = more.1 }
 
+pub returns-then-is_empty : goal.returns-then-is_empty
+returns-then-is_empty c =
+    let none = planned_none c.args.here.now c.args.lineage.now (search rules) in
+    grind (arith, common_steps)
+
 pub returns : goal.returns
 returns c = grind (arith, common_steps)
 
-pub loop-store-preserved-then-is_empty : goal.loop-store-preserved-then-is_empty
-loop-store-preserved-then-is_empty c = grind (arith, common_steps)
+pub loop-store-preserved-then-is_empty-2 : goal.loop-store-preserved-then-is_empty-2
+loop-store-preserved-then-is_empty-2 c = grind (arith, common_steps)

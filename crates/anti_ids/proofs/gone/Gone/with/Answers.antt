@@ -6,4 +6,4 @@ pub returns-clause-gone : goal.returns-clause-gone
 returns-clause-gone c = gone_now c.args.self.words c.args.at (search rules)
 
 pub returns-clause-others : goal.returns-clause-others
-returns-clause-others c = λ other apart. others_as_before c.args.self.words c.args.at other (search rules) apart
+returns-clause-others c = others_as_before c.args.self.words c.args.at (search rules)

@@ -1,0 +1,20 @@
+use Rattle.std.proofs.Common.{◌≡◌, List, true, not, ap, sym, ◌∙◌, rules}
+use Rattle.anti_ids.specs.declared.id.WriteId.{WriteId}
+use Rattle.anti_ids.specs.Ids.{has_id, with_id}
+use Rattle.anti_ids.specs.inner.Left.{is_gone, left_of}
+use Rattle.anti_ids.specs.inner.Held.{held_ids}
+use Rattle.anti_ids.proofs.LeftLemmas.{left_where, left_with_one}
+use Rattle.anti_ids.proofs.held_ids.HeldIds.bring_back.Goals as goal
+
+pub returns-clause-ids : goal.returns-clause-ids
+returns-clause-ids c = λ back.
+    let held : held_ids c.args.self.now ≡ left_of c.in-Less.gone.words 0 c.in-Less.block = search rules in
+    let was : is_gone c.in-Less.gone.words c.in-Ok.at ≡ true = search rules in
+    left_with_one c.args.id.now c.in-Less.block c.in-Ok.at (search rules) c.in-Ok.ensures c.in-Less.gone.words c.without.result.words was c.without.ensures.back c.without.ensures.others
+    ∙ ap (λ (x : List WriteId). with_id c.args.id.now x) (sym held)
+
+pub returns-clause-new : goal.returns-clause-new
+returns-clause-new c = λ back.
+    let held : held_ids c.args.self.now ≡ left_of c.in-Less.gone.words 0 c.in-Less.block = search rules in
+    let was : is_gone c.in-Less.gone.words c.in-Ok.at ≡ true = search rules in
+    ap (λ (x : List WriteId). has_id c.args.id.now x) held ∙ left_where c.args.id.now c.in-Less.block c.in-Ok.at (search rules) c.in-Ok.ensures c.in-Less.gone.words ∙ ap not was
