@@ -1,8 +1,8 @@
 -- The backlogs beside a history: how far a region has everything, by its backlog, and what a write and a shipment make of them.
-use Rattle.std.proofs.Common.{◌≡◌, ℕ, ◌+◌, ◌*◌, ◌/◌, ◌<◌, ◌≤◌, Bool, true, false, List, [], ◌∷◌, ◌++◌, length, map, get_or, set, replicate, refl, sym, ap, ◌∙◌, ⊎_elim, ◌==◌, true≢false, arith}
+use Rattle.std.proofs.Common.{◌≡◌, ℕ, ◌+◌, ◌*◌, ◌/◌, ◌<◌, ◌≤◌, Bool, true, false, List, [], ◌∷◌, ◌++◌, length, map, get_or, set, replicate, sym, ap, ◌∙◌, ⊎_elim, ◌==◌, true≢false, arith}
 use Rattle.std.specs.List.{prefix_len, list_any, range_with_len}
 use Rattle.std.proofs.lemmas.Bool.{cases_eq, cases_lt}
-use Rattle.std.proofs.lemmas.List.{length_push, length-map, map-set, get_or-map, get_or-replicate, length-set}
+use Rattle.std.proofs.lemmas.List.{length_push, length-map, map-set, get_or-map, length-set}
 use Rattle.std.proofs.lemmas.List.Sums.{prefix_len_passes, prefix_len_stops}
 use Rattle.std.proofs.lemmas.List.Folds.{list_all_at}
 use Rattle.std.proofs.lemmas.List.FromFn.{get_or-range_with_len, length-range_with_len}
@@ -11,20 +11,21 @@ use Rattle.anti_kind.specs.declared.entry.Entry.{Entry}
 use Rattle.anti_kind.specs.declared.row.Row.{Row}
 use Rattle.anti_kind.specs.Stored.{rows, is_whole}
 use Rattle.anti_kind.specs.Shipments.{upto_of}
-use Rattle.anti_kind.specs.Store.{Store, is_replica}
+use Rattle.anti_kind.specs.Store.{Store}
 use Rattle.anti_kind.specs.Objects.{store, IsLegal}
 use Rattle.anti_kind.proofs.Rows.{version_at}
 use Rattle.anti_replicas.specs.declared.replicas.Replicas.{Replicas}
 use Rattle.anti_replicas.specs.declared.kept_write.KeptWrite.{KeptWrite}
 use Rattle.anti_replicas.specs.declared.newest.Newest.{Newest}
 use Rattle.anti_replicas.specs.inner.Backlogs.{passed, remove_first, without, places_off, group_whole, wholes, IsBehind, AreBehind, HaveNext}
-use Rattle.anti_replicas.specs.inner.Marks.{mark_at, came, has_all}
+use Rattle.anti_replicas.specs.inner.Marks.{came, has_all}
 use Rattle.anti_replicas.specs.inner.Standing.{AreKept}
 use Rattle.anti_replicas.specs.Stores.{At}
+use Rattle.anti_replicas.proofs.Masks.{unmarked}
 use Rattle.anti_replicas.proofs.Numbers.{prefix_alike}
 use Rattle.anti_replicas.proofs.Groups.{groups, groups_length, group_there, group_was, groups_set, groups_same, groups_prefix}
 use Rattle.anti_replicas.proofs.Backlogs.{off_set, off_passed, wholes_kept, wholes_same, wholes_prefix}
-use Rattle.anti_replicas.proofs.Bringing.{whole_of, upto_nothing, upto_within}
+use Rattle.anti_replicas.proofs.Bringing.{whole_of}
 
 -- How far a region has everything, by the marks.
 module _ (s : Store) (h : List Entry) (newest : Newest) (ks : List KeptWrite) (legal : IsLegal (store s) h) (rows_are : map (λ (k : KeptWrite). k.row) ks ≡ rows h) (kept : AreKept s h newest ks) (g : ℕ) (low : g < 8) where
@@ -41,7 +42,7 @@ module _ (s : Store) (h : List Entry) (newest : Newest) (ks : List KeptWrite) (l
       (λ i d e short. kept_whole i d e short)
 
 -- the versions of the groups that a backlog has passed are whole
-known_is : (g : ℕ) (ks : List KeptWrite) (backlog : Queued ℕ) → IsBehind g ks backlog → passed backlog.items backlog.next * 8 ≤ prefix_len (has_all g) ks
+pub known_is : (g : ℕ) (ks : List KeptWrite) (backlog : Queued ℕ) → IsBehind g ks backlog → passed backlog.items backlog.next * 8 ≤ prefix_len (has_all g) ks
 known_is g ks backlog behind =
     let bs : List Bool = map (has_all g) ks in
     let count : passed backlog.items backlog.next ≡ prefix_len (λ b. b) (wholes g ks backlog.next) =
@@ -49,20 +50,6 @@ known_is g ks backlog behind =
     ∙ ap (passed (places_off 1 (wholes g ks backlog.next))) (sym (groups_length bs backlog.next))
     ∙ off_passed (wholes g ks backlog.next) in
     omega (arith, count, groups_prefix bs backlog.next, wholes_prefix g ks)
-
-pub known_behind : (m : Replicas) (s : Store) (h : List Entry) → At m s h → (g : ℕ) (d : Queued ℕ) → g < 8
-    → passed (get_or m.backlogs.items g d).items (get_or m.backlogs.items g d).next * 8 ≤ prefix_len (has_all g) m.kept.items
-known_behind m s h at g d low = by_replica (is_replica s g) refl where
-  by_replica : (b : Bool) → is_replica s g ≡ b → passed (get_or m.backlogs.items g d).items (get_or m.backlogs.items g d).next * 8 ≤ prefix_len (has_all g) m.kept.items
-  by_replica true replica = known_is g m.kept.items (get_or m.backlogs.items g d) (at.state.behind.behind g d low replica)
-  by_replica false off = omega (arith, ap (λ (b : Queued ℕ). passed b.items b.next) (at.state.behind.none g d low off))
-
--- a region into whose backlog no group was put has nothing
-pub none_put : (m : Replicas) (s : Store) (h : List Entry) → At m s h → (g : ℕ) (d : Queued ℕ) → g < 8 → (get_or m.backlogs.items g d).next ≡ 0 → 0 ≡ upto_of s.kind h g
-none_put m s h at g d low none = by_replica (is_replica s g) refl where
-  by_replica : (b : Bool) → is_replica s g ≡ b → 0 ≡ upto_of s.kind h g
-  by_replica true replica = omega (arith, upto_within m s h at g, (at.state.behind.behind g d low replica).least, none)
-  by_replica false off = upto_nothing m s h at g off
 
 pub upto_marks : (m : Replicas) (s : Store) (h : List Entry) → At m s h → (g : ℕ) → g < 8 → prefix_len (has_all g) m.kept.items ≡ upto_of s.kind h g
 upto_marks m s h at g low = upto_by s h m.newest m.kept.items at.legal at.state.rows_are at.state.kept_are g low
@@ -86,12 +73,11 @@ module _ (p : KeptWrite → Bool) (ks : List KeptWrite) (i : ℕ) (d : KeptWrite
 -- A write.
 
 -- a write that came nowhere yet is whole nowhere
-pub fresh_elsewhere : (row : Row) (parts g : ℕ) → 1 ≤ parts → g < 8 → (let k : KeptWrite = record { row = row; marks = replicate 32 false; parts = parts } in has_all g k) ≡ false
-fresh_elsewhere row parts g some low =
-    let k : KeptWrite = record { row = row; marks = replicate 32 false; parts = parts } in
-    let one : get_or (range_with_len 1 parts) 0 0 ≡ 1 + 0 = get_or-range_with_len 1 parts 0 0 (omega arith) in
-    list_all_at (came k g) (range_with_len 1 parts) 0 0 (omega (arith, length-range_with_len 1 parts))
-    (ap (came k g) one ∙ get_or-replicate 32 (mark_at g 1) false false (omega arith))
+pub fresh_elsewhere : (k : KeptWrite) (g : ℕ) → k.marks ≡ replicate 8 0 → 1 ≤ k.parts → g < 8 → has_all g k ≡ false
+fresh_elsewhere k g none some low =
+    let one : get_or (range_with_len 1 k.parts) 0 0 ≡ 1 + 0 = get_or-range_with_len 1 k.parts 0 0 (omega arith) in
+    list_all_at (came k g) (range_with_len 1 k.parts) 0 0 (omega (arith, length-range_with_len 1 k.parts))
+    (ap (came k g) one ∙ unmarked k g 1 none low)
 
 pub behind_kept : (regions : List ℕ) (ks : List KeptWrite) (k : KeptWrite) (backlogs : List (Queued ℕ))
     → ((g : ℕ) → g < 8 → list_any (λ region. region == g) regions ≡ true → has_all g k ≡ false)

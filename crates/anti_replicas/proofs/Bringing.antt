@@ -1,13 +1,12 @@
 -- What was shipped, by the marks, what never was, and what comes next.
 use Rattle.std.proofs.Common.{◌≡◌, ℕ, ◌+◌, ◌-◌, ◌<◌, ◌≤◌, Bool, true, false, not, ◌&&◌, ◌||◌, List, [], length, get_or, Option, Some, None, find, refl, sym, ap, ◌∙◌, ◌⊎◌, ⊎_elim, ◌==◌, leb, eqb-true, leb-true, arith}
-use Rattle.std.specs.Prelude.{bytes_eq, slice_get, flat_map}
-use Rattle.std.specs.List.{list_all, range_with_len}
+use Rattle.std.specs.Prelude.{slice_get, flat_map}
+use Rattle.std.specs.List.{list_all, list_any, range_with_len}
 use Rattle.std.specs.Option.{option_map}
 use Rattle.std.proofs.lemmas.Bool.{both_ways, and_parts, and_from, and_left, and_right, or_left, or_right, or_from, false_from_ne_true, cases_lt, le-leb, lt-leb}
 use Rattle.std.proofs.lemmas.List.Folds.{Any-from_list_any, list_all_at}
 use Rattle.std.proofs.lemmas.List.Sums.{prefix_len-le-length, prefix_len_passes, prefix_len_stops, AllPass-from_list_all, list_all-from_AllPass}
 use Rattle.std.proofs.lemmas.Option.{slice_get_within, slice_get-get_or, get_or_from_slice_get}
-use Rattle.anti_ids.specs.declared.id.WriteId.{WriteId}
 use Rattle.anti_kind.specs.Kinds.{facts_of}
 use Rattle.anti_kind.specs.declared.entry.Entry.{Entry}
 use Rattle.anti_kind.specs.declared.row.Row.{Row}
@@ -18,26 +17,29 @@ use Rattle.anti_kind.specs.Shipments.{upto_of, shipment, shipments, next_shipmen
 use Rattle.anti_kind.specs.Store.{Store, absent, has_part, is_replica, is_next, can_ship}
 use Rattle.anti_kind.specs.Objects.{store, IsLegal}
 use Rattle.anti_kind.proofs.Rows.{version_at, row_of_at}
-use Rattle.anti_kind.proofs.Showing.{greatest_least}
 use Rattle.anti_kind.proofs.Shipped.{shipped_sound, version_within}
 use Rattle.anti_replicas.specs.declared.replicas.Replicas.{Replicas}
 use Rattle.anti_replicas.specs.declared.kept_write.KeptWrite.{KeptWrite}
 use Rattle.anti_replicas.specs.declared.newest.Newest.{Newest}
+use Rattle.anti_replicas.specs.inner.Backlogs.{AreBelow}
 use Rattle.anti_replicas.specs.inner.Marks.{came, first_missing, has_all}
 use Rattle.anti_replicas.specs.inner.Standing.{IsKept}
 use Rattle.anti_replicas.specs.Stores.{At}
 use Rattle.anti_replicas.proofs.Numbers.{all_numbers, find_alike, find_numbers, prefix_none, none_fails, some_fails, find_nothing, find_map, find_first, find_nowhere}
 use Rattle.anti_replicas.proofs.Places.{and_true}
-use Rattle.anti_replicas.proofs.Reading.{row_is, count_is, kept_is, row_there, row_absent, version_is}
+use Rattle.anti_replicas.proofs.Reading.{row_is, count_is, kept_is, row_there, row_absent}
 use Rattle.anti_replicas.proofs.Shows.{greatest_none, whole_none}
 
--- a replica's region is below 8
-pub replica_below : (m : Replicas) (s : Store) (h : List Entry) → At m s h → (g : ℕ) → is_replica s g ≡ true → g < 8
-replica_below m s h at g is =
-    let found = Any-from_list_any (λ region. region == g) s.regions is in
+-- A replica's region is below 8.
+pub listed_below : (regions : List ℕ) → AreBelow regions → (g : ℕ) → list_any (λ region. region == g) regions ≡ true → g < 8
+listed_below regions below g is =
+    let found = Any-from_list_any (λ region. region == g) regions is in
     let same : found.1 ≡ g = eqb-true found.1 g found.4 in
-    let below : found.1 < 8 = omega (arith, at.sane.below found.0 found.1 found.2, found.3) in
+    let low : found.1 < 8 = omega (arith, below found.0 found.1 found.2, found.3) in
     omega arith
+
+pub replica_below : (m : Replicas) (s : Store) (h : List Entry) → At m s h → (g : ℕ) → is_replica s g ≡ true → g < 8
+replica_below m s h at g is = listed_below s.regions at.sane.below g is
 
 pub part_of_some : (kind : StoreKind) (r : Row) (p : ℕ) → has_part kind (Some r) p ≡ true → (1 ≤ p) × (p ≤ parts_of kind r.value)
 part_of_some kind r p has =
@@ -59,14 +61,18 @@ module _ (s : Store) (h : List Entry) (newest : Newest) (v : ℕ) (k : KeptWrite
       find_numbers (λ p. not (came k g p)) (λ p. not (is_shipped h g k.row.version p)) k.parts (λ p first last. ap not (mark_of p first last))
       ∙ ap (λ (n : ℕ). find (λ p. not (is_shipped h g k.row.version p)) (range_with_len 1 n)) kept.parts
 
+-- some write, where one has to be named
+pub no_kept : KeptWrite
+no_kept = record { row = absent []; marks = []; parts = 0; number = 0 }
+
 module _ (m : Replicas) (s : Store) (h : List Entry) (at : At m s h) where
   -- the part that is there of a version
   pub its_part : (v p : ℕ) → has_part s.kind (row_of h v) p ≡ true → (1 ≤ v) × (v ≤ length m.kept.items) × (1 ≤ p) × (p ≤ 4)
   its_part v p has =
       let in' = version_within s h at.legal v p has in
       let within : v - 1 < length m.kept.items = omega (arith, count_is m s h at.state, in'.0, in'.1) in
-      let k : KeptWrite = get_or m.kept.items (v - 1) (record { row = absent []; marks = []; parts = 0 }) in
-      let is : slice_get m.kept.items (v - 1) ≡ Some k = slice_get-get_or m.kept.items (v - 1) (record { row = absent []; marks = []; parts = 0 }) within in
+      let k : KeptWrite = get_or m.kept.items (v - 1) no_kept in
+      let is : slice_get m.kept.items (v - 1) ≡ Some k = slice_get-get_or m.kept.items (v - 1) no_kept within in
       let kept : IsKept s h m.newest v k = kept_is m s h at.state v k in'.0 is in
       let part = part_of_some s.kind k.row p (ap (λ (o : Option Row). has_part s.kind o p) (sym (row_there m s h at v k in'.0 is)) ∙ has) in
       (in'.0, omega (arith, count_is m s h at.state, in'.1), part.0, omega (arith, part.1, kept.parts, kept.few))
@@ -124,24 +130,6 @@ module _ (m : Replicas) (s : Store) (h : List Entry) (at : At m s h) where
 
   pub upto_beyond : (g : ℕ) → 8 ≤ g → 0 ≡ upto_of s.kind h g
   upto_beyond g above = upto_nothing g (none_beyond g above)
-
-  pub upto_within : (g : ℕ) → upto_of s.kind h g ≤ length m.kept.items
-  upto_within g = omega (arith, prefix_len-le-length (is_whole s.kind h g) (rows h), count_is m s h at.state)
-
--- A key shows each version of it that is whole at the region, or a later one.
-pub shows_whole : (m : Replicas) (s : Store) (h : List Entry) → At m s h → (g : ℕ) → g < 8 → (id : WriteId) (k : KeptWrite) → 1 ≤ id.version
-    → slice_get m.kept.items (id.version - 1) ≡ Some k → has_all g k ≡ true → bytes_eq k.row.key id.key ≡ true → leb id.version (shows_of s.kind h g id.key) ≡ true
-shows_whole m s h at g low id k first is whole same =
-    let i : ℕ = id.version - 1 in
-    let within : i < length m.kept.items = slice_get_within m.kept.items i k is in
-    let short : i < length (rows h) = omega (arith, count_is m s h at.state, within) in
-    let row : get_or (rows h) i k.row ≡ k.row = row_is m s h at.state i k k.row within ∙ ap (λ (x : KeptWrite). x.row) (get_or_from_slice_get m.kept.items i k k is) in
-    let number : k.row.version ≡ id.version = version_is m s h at id.version k first is in
-    let has : is_whole s.kind h g (get_or (rows h) i k.row) ≡ true =
-    ap (is_whole s.kind h g) row ∙ sym (whole_of s h m.newest id.version k (kept_is m s h at.state id.version k first is) number g low) ∙ whole in
-    let shown : (get_or (rows h) i k.row).version ≤ shows_of s.kind h g id.key =
-    greatest_least (is_whole s.kind h g) id.key (rows h) i k.row short (ap (λ (r : Row). bytes_eq r.key id.key) row ∙ same) has in
-    le-leb id.version (shows_of s.kind h g id.key) (omega (arith, shown, number, ap (λ (r : Row). r.version) row))
 
 -- A table is shipped in the order of its versions.
 

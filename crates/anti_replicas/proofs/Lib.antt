@@ -1,4 +1,5 @@
 pub mod Numbers
+pub mod Masks
 pub mod Places
 pub mod Shows
 pub mod Reading

@@ -1,5 +1,5 @@
 -- Tests that agree on the elements of a list, and how many elements from the first on pass one.
-use Rattle.std.proofs.Common.{◌≡◌, ℕ, zero, suc, ◌+◌, ◌<◌, ◌≤◌, Bool, true, false, cond, not, ◌&&◌, List, [], ◌∷◌, length, map, get_or, Option, Some, None, find, refl, ap, ◌∙◌, arith}
+use Rattle.std.proofs.Common.{◌≡◌, ℕ, zero, suc, ◌+◌, ◌<◌, ◌≤◌, Bool, true, false, cond, not, ◌&&◌, List, [], ◌∷◌, ◌++◌, length, map, get_or, set, Option, Some, None, find, refl, ap, ◌∙◌, arith}
 use Rattle.std.specs.List.{list_all, range_with_len, prefix_len, flat_map}
 use Rattle.std.specs.Option.{option_map, option_or}
 use Rattle.std.proofs.lemmas.List.Folds.{find-append}
@@ -49,6 +49,36 @@ pub prefix_none : {X : Type 0} (p : X → Bool) (xs : List X) → ((x : X) → p
 prefix_none p [] none = refl
 prefix_none p (x ∷ xs) none = rw (none x) refl
 
+-- a further one that fails changes nothing
+pub prefix_push : {X : Type 0} (p : X → Bool) (xs : List X) (x : X) → p x ≡ false → prefix_len p (xs ++ x ∷ []) ≡ prefix_len p xs
+prefix_push p [] x off = rw off refl
+prefix_push p (y ∷ ys) x off = ap (λ (n : ℕ). cond (p y) (1 + n) 0) (prefix_push p ys x off)
+
+-- nor does one that is set and passes as before
+pub prefix_set_same : {X : Type 0} (p : X → Bool) (xs : List X) (i : ℕ) (x d : X) → i < length xs → p x ≡ p (get_or xs i d) → prefix_len p (set xs i x) ≡ prefix_len p xs
+prefix_set_same p [] i x d short same = absurd (omega arith)
+prefix_set_same p (y ∷ ys) zero x d short same = ap (λ (b : Bool). cond b (1 + prefix_len p ys) 0) same
+prefix_set_same p (y ∷ ys) (suc i) x d short same = ap (λ (n : ℕ). cond (p y) (1 + n) 0) (prefix_set_same p ys i x d (omega arith) same)
+
+-- nor one behind the first that fails
+pub prefix_set_behind : {X : Type 0} (p : X → Bool) (xs : List X) (i : ℕ) (x : X) → prefix_len p xs < i → prefix_len p (set xs i x) ≡ prefix_len p xs
+prefix_set_behind p [] i x behind = refl
+prefix_set_behind p (y ∷ ys) zero x behind = absurd (omega arith)
+prefix_set_behind p (y ∷ ys) (suc i) x behind = by_test (p y) behind (prefix_set_behind p ys i x) where
+  by_test : (b : Bool) → cond b (1 + prefix_len p ys) 0 < suc i → (prefix_len p ys < i → prefix_len p (set ys i x) ≡ prefix_len p ys)
+      → cond b (1 + prefix_len p (set ys i x)) 0 ≡ cond b (1 + prefix_len p ys) 0
+  by_test true less rest = ap (λ (n : ℕ). 1 + n) (rest (omega arith))
+  by_test false less rest = refl
+
+-- but where that one passes now, there is one more at least
+pub prefix_set_first : {X : Type 0} (p : X → Bool) (xs : List X) (i : ℕ) (x : X) → i < length xs → i ≡ prefix_len p xs → p x ≡ true → i + 1 ≤ prefix_len p (set xs i x)
+prefix_set_first p [] i x short first on = absurd (omega arith)
+prefix_set_first p (y ∷ ys) zero x short first on = rw on (omega arith)
+prefix_set_first p (y ∷ ys) (suc i) x short first on = by_test (p y) first (λ (at : i ≡ prefix_len p ys). prefix_set_first p ys i x (omega arith) at on) where
+  by_test : (b : Bool) → suc i ≡ cond b (1 + prefix_len p ys) 0 → (i ≡ prefix_len p ys → i + 1 ≤ prefix_len p (set ys i x)) → suc i + 1 ≤ cond b (1 + prefix_len p (set ys i x)) 0
+  by_test true at rest = let more : i + 1 ≤ prefix_len p (set ys i x) = rest (omega arith) in omega arith
+  by_test false at rest = absurd (omega arith)
+
 -- no element fails exactly where all pass
 pub none_fails : {X : Type 0} (p : X → Bool) (xs : List X) → list_all p xs ≡ true → find (λ x. not (p x)) xs ≡ None
 none_fails p [] all = refl
@@ -63,6 +93,13 @@ some_fails p (x ∷ xs) none = go (p x) refl (some_fails p xs) none where
   go : (b : Bool) → p x ≡ b → (find (λ y. not (p y)) xs ≡ None → list_all p xs ≡ true) → cond (not b) (Some x) (find (λ y. not (p y)) xs) ≡ None → (b && list_all p xs) ≡ true
   go true on rest none' = rest none'
   go false off rest none' = absurd (cc)
+
+-- the first that passes
+pub find_at : {X : Type 0} (p : X → Bool) (xs : List X) (i : ℕ) (d : X) → i < length xs → ((j : ℕ) (e : X) → j < i → p (get_or xs j e) ≡ false)
+    → p (get_or xs i d) ≡ true → find p xs ≡ Some (get_or xs i d)
+find_at p [] i d short none is = absurd (omega arith)
+find_at p (x ∷ xs) zero d short none is = rw is refl
+find_at p (x ∷ xs) (suc i) d short none is = rw (none 0 x (omega arith)) (find_at p xs i d (omega arith) (λ j e less. none (suc j) e (omega arith)) is)
 
 -- Finding in lists that are joined.
 

@@ -1,11 +1,12 @@
 -- What is read off the rows that are kept, and the loops over lineages, a step at a time.
 use Rattle.std.proofs.Common.{◌≡◌, ℕ, zero, suc, ◌+◌, ◌-◌, ◌<◌, ◌≤◌, Bool, true, false, cond, not, ◌&&◌, ◌||◌, List, [], ◌∷◌, ◌++◌, length, get_or, filter, Some, None, refl, sym, ap, subst, ◌∙◌, ◌⊎◌, inl, inr, ⊎_elim, ◌==◌, eq-eqb, ne_eqb, append_assoc, arith}
 use Rattle.std.specs.Prelude.{bytes_eq, slice_get}
-use Rattle.std.specs.List.{list_any}
+use Rattle.std.specs.List.{list_all, list_any}
 use Rattle.std.specs.declared.cmp.Ordering.{Ordering}
 use Rattle.std.specs.declared.cmp.Ordering.TheVariants.{Less, Equal, Greater}
 use Rattle.std.specs.Ordering.{ordering_reverse}
 use Rattle.std.proofs.lemmas.List.{get_or-map, length-map}
+use Rattle.std.proofs.lemmas.Slice.Eq.{bytes_eq-Decides}
 use Rattle.std.proofs.lemmas.Option.{get_or_from_slice_get, slice_get_within}
 use Rattle.anti_ids.specs.Each.{Each}
 use Rattle.anti_ids.specs.declared.id.WriteId.{WriteId}
@@ -16,9 +17,10 @@ use Rattle.anti_kind.specs.declared.entry.Entry.{Entry}
 use Rattle.anti_kind.specs.declared.row.Row.{Row}
 use Rattle.anti_kind.specs.Stored.{rows, row_of}
 use Rattle.anti_kind.specs.Store.{Store, is_written}
-use Rattle.anti_kind.proofs.Rows.{or_false, Numbered, rows_numbered, row_of_at, row_of_none, version_at}
+use Rattle.anti_kind.proofs.Rows.{or_false, Numbered, rows_numbered, row_of_at, row_of_none}
 use Rattle.anti_replicas.specs.declared.replicas.Replicas.{Replicas}
 use Rattle.anti_replicas.specs.declared.kept_write.KeptWrite.{KeptWrite}
+use Rattle.anti_replicas.specs.inner.Newest.{key_number}
 use Rattle.anti_replicas.specs.inner.Standing.{IsKept, Stands}
 use Rattle.anti_replicas.specs.Stores.{At}
 
@@ -49,14 +51,6 @@ module _ (m : Replicas) (s : Store) (h : List Entry) (at : At m s h) (v : ℕ) w
   pub row_absent : (v ≡ 0) ⊎ (length m.kept.items < v) → row_of h v ≡ None
   row_absent out =
       row_of_none s h at.legal v (⊎_elim (λ (low : v ≡ 0). inl low) (λ (high : length m.kept.items < v). inr (omega (arith, count_is m s h at.state))) out)
-
-  pub version_is : (k : KeptWrite) → 1 ≤ v → slice_get m.kept.items (v - 1) ≡ Some k → k.row.version ≡ v
-  version_is k first is =
-      let within : v - 1 < length m.kept.items = slice_get_within m.kept.items (v - 1) k is in
-      let short : v - 1 < length (rows h) = omega (arith, count_is m s h at.state) in
-      let row : get_or (rows h) (v - 1) k.row ≡ k.row = row_is m s h at.state (v - 1) k k.row within ∙ ap (λ (x : KeptWrite). x.row) (get_or_from_slice_get m.kept.items (v - 1) k k is) in
-      let number : (get_or (rows h) (v - 1) k.row).version ≡ v - 1 + 1 = version_at s h at.legal (v - 1) k.row short in
-      ap (λ (r : Row). r.version) (sym row) ∙ number ∙ omega arith
 
 -- A row by its version, with a test.
 
@@ -90,6 +84,11 @@ module _ (m : Replicas) (s : Store) (h : List Entry) (at : At m s h) (id : Write
       let short : id.version - 1 < length (rows h) = omega (arith, count_is m s h at.state) in
       sym (any_at (λ r. bytes_eq r.key id.key) 0 (rows h) (rows_numbered s h at.legal) id.version (id.version - 1) k.row (omega arith) short
       ∙ ap (λ (r : Row). bytes_eq r.key id.key) (row_is m s h at.state (id.version - 1) k k.row within ∙ ap (λ (x : KeptWrite). x.row) (get_or_from_slice_get m.kept.items (id.version - 1) k k is)))
+
+  -- and its key has the number that is kept
+  pub its_number : (k : KeptWrite) → 1 ≤ id.version → slice_get m.kept.items (id.version - 1) ≡ Some k → bytes_eq k.row.key id.key ≡ true
+      → key_number m.newest id.key ≡ Some k.number
+  its_number k first is same = ap (key_number m.newest) (sym ((bytes_eq-Decides k.row.key id.key).0 same)) ∙ (kept_is m s h at.state id.version k first is).number
 
 -- The loops over a lineage: an id goes to the end of what was found before it.
 
@@ -148,3 +147,14 @@ none_passes p (x ∷ xs) none = by_test (p x) refl (λ rest. none_passes p xs re
     by_test false is rest =
         ap (λ b. cond (not b) (x ∷ filter (λ y. not (p y)) xs) (filter (λ y. not (p y)) xs)) is
         ∙ ap (λ ys. x ∷ ys) (rest (sym (ap (λ b. b || list_any p xs) is) ∙ none))
+
+-- and where all pass, none
+pub all_pass : {T : Type 0} (p : T → Bool) (xs : List T) → list_all p xs ≡ true → filter (λ x. not (p x)) xs ≡ []
+all_pass p [] all = refl
+all_pass p (x ∷ xs) all = by_test (p x) refl (λ rest. all_pass p xs rest)
+  where
+    by_test : (b : Bool) → p x ≡ b → (list_all p xs ≡ true → filter (λ y. not (p y)) xs ≡ []) → filter (λ y. not (p y)) (x ∷ xs) ≡ []
+    by_test true is rest =
+        ap (λ b. cond (not b) (x ∷ filter (λ y. not (p y)) xs) (filter (λ y. not (p y)) xs)) is
+        ∙ rest (sym (ap (λ b. b && list_all p xs) is) ∙ all)
+    by_test false is rest = absurd (let both : false ≡ true = sym (ap (λ b. b && list_all p xs) is) ∙ all in cc)

@@ -1,5 +1,5 @@
--- A scan reads its rows off the places of the keys, which ascend: these are the rows of the table's scan, in its order.
-use Rattle.std.proofs.Common.{◌≡◌, ℕ, suc, ◌+◌, ◌<◌, ◌≤◌, Bool, true, false, cond, ◌&&◌, List, [], ◌∷◌, length, get_or, take, filter, Option, Some, None, find, All, unwrap_or, refl, sym, ap, subst, ◌∙◌, inl, ⊎_elim, ◌==◌, eqb-true, eq-eqb, ne_eqb, arith}
+-- A scan reads its rows off the numbers of the keys, which ascend: these are the rows of the table's scan, in its order.
+use Rattle.std.proofs.Common.{◌≡◌, ℕ, suc, ◌+◌, ◌<◌, ◌≤◌, Bool, true, false, cond, ◌&&◌, List, [], ◌∷◌, length, get_or, take, filter, Option, Some, None, find, All, refl, sym, ap, subst, ◌∙◌, inl, ⊎_elim, ◌==◌, eqb-true, eq-eqb, ne_eqb, arith}
 use Rattle.std.specs.Prelude.{bytes_eq}
 use Rattle.std.specs.List.{AllByRecursion}
 use Rattle.std.specs.List.Sorted.{IsStrictlySortedBy}
@@ -29,7 +29,7 @@ use Rattle.anti_kind.proofs.Rows.{Numbered, rows_numbered, rows_held, version_at
 use Rattle.anti_kind.proofs.Scans.{sorted_permutes}
 use Rattle.anti_kind.proofs.Showing.{bytes_same, same_bytes, greatest_among, is_among}
 use Rattle.anti_replicas.specs.declared.replicas.Replicas.{Replicas}
-use Rattle.anti_replicas.specs.inner.Newest.{versions_of}
+use Rattle.anti_replicas.specs.inner.Newest.{key_number, at_number, version_by}
 use Rattle.anti_replicas.specs.inner.Scans.{before, listed}
 use Rattle.anti_replicas.specs.Stores.{At, showing_whole}
 use Rattle.anti_replicas.proofs.Numbers.{find_alike, find_nothing}
@@ -306,29 +306,29 @@ module _ (m : Replicas) (s : Store) (h : List Entry) (at : At m s h) (g : ℕ) (
       by_test true on = refl
       by_test false off = find_nothing (λ x. false) (rows h) (λ x. refl) ∙ sym no_row
 
-  -- What is read off the places.
+  -- What is read off the numbers.
 
-  abbrev Places : Type 0
-  Places = List (List ℕ × List ℕ)
+  abbrev Numbers : Type 0
+  Numbers = List (List ℕ × ℕ)
 
-  abbrev has_key : List ℕ → Places → Bool
+  abbrev has_key : List ℕ → Numbers → Bool
   has_key k es = is_some (lookup (λ x. is_eq (order k x)) es)
 
-  -- each place has what its region shows
-  abbrev AreShown : Places → Type 0
-  AreShown es = Each (λ e. get_or e.1 g 0 ≡ shows e.0) es
+  -- each number has what the region shows
+  abbrev AreShown : Numbers → Type 0
+  AreShown es = Each (λ e. at_number m.newest g e.1 ≡ shows e.0) es
 
-  abbrev Ascends : Places → Type 0
+  abbrev Ascends : Numbers → Type 0
   Ascends [] = Unit {0}
   Ascends (e ∷ es) = Each (λ x. order e.0 x.0 ≡ Less) es × Ascends es
 
   abbrev IsGiven : List ℕ → Option Row → Type 0
   IsGiven k o = (r : Row) → o ≡ Some r → r.key ≡ k
 
-  at_listed : (es : Places) → AreShown es → (k : List ℕ) → at_key (listed h g prefix es) k ≡ cond (has_key k es) (given k) None
+  at_listed : (es : Numbers) → AreShown es → (k : List ℕ) → at_key (listed h m.newest g prefix es) k ≡ cond (has_key k es) (given k) None
   at_listed [] shown k = refl
   at_listed (e ∷ es) shown k =
-      ap (λ (v : ℕ). at_key (before (row_of h (cond (fits e.0) v 0)) (listed h g prefix es)) k) shown.0
+      ap (λ (v : ℕ). at_key (before (row_of h (cond (fits e.0) v 0)) (listed h m.newest g prefix es)) k) shown.0
       ∙ by_row (given e.0) refl (bytes_eq e.0 k) refl (is_eq (order k e.0)) refl (at_listed es shown.1 k)
     where
       ties : (b t : Bool) → bytes_eq e.0 k ≡ b → is_eq (order k e.0) ≡ t → b ≡ t
@@ -337,8 +337,8 @@ module _ (m : Replicas) (s : Store) (h : List Entry) (at : At m s h) (g : ℕ) (
           (λ on. sym is ∙ same_bytes e.0 k (sym (bytes_same k e.0 (sym (is_eq-slice_cmp k e.0) ∙ tie ∙ on))))
 
       by_row : (o : Option Row) → given e.0 ≡ o → (b : Bool) → bytes_eq e.0 k ≡ b → (t : Bool) → is_eq (order k e.0) ≡ t
-          → at_key (listed h g prefix es) k ≡ cond (has_key k es) (given k) None
-          → at_key (before o (listed h g prefix es)) k ≡ cond (is_some (cond t (Some e.1) (lookup (λ x. is_eq (order k x)) es))) (given k) None
+          → at_key (listed h m.newest g prefix es) k ≡ cond (has_key k es) (given k) None
+          → at_key (before o (listed h m.newest g prefix es)) k ≡ cond (is_some (cond t (Some e.1) (lookup (λ x. is_eq (order k x)) es))) (given k) None
       by_row None none true on t tie rest =
           let key : e.0 ≡ k = bytes_same e.0 k on in
           let none' : given k ≡ None = ap given (sym key) ∙ none in
@@ -352,69 +352,69 @@ module _ (m : Replicas) (s : Store) (h : List Entry) (at : At m s h) (g : ℕ) (
           let on' : bytes_eq r.key k ≡ true = ap (λ (a : List ℕ). bytes_eq a k) key ∙ on in
           let some' : given k ≡ Some r = ap given (sym (bytes_same e.0 k on)) ∙ some in
           let tie' : t ≡ true = sym (ties true t on tie) in
-          ap (λ (b : Bool). cond b (Some r) (at_key (listed h g prefix es) k)) on' ∙ sym some'
+          ap (λ (b : Bool). cond b (Some r) (at_key (listed h m.newest g prefix es) k)) on' ∙ sym some'
           ∙ ap (λ (b : Bool). cond (is_some (cond b (Some e.1) (lookup (λ x. is_eq (order k x)) es))) (given k) None) (sym tie')
       by_row (Some r) some false off t tie rest =
           let off' : bytes_eq r.key k ≡ false = ap (λ (a : List ℕ). bytes_eq a k) (given_key e.0 r some) ∙ off in
           let tie' : t ≡ false = sym (ties false t off tie) in
-          ap (λ (b : Bool). cond b (Some r) (at_key (listed h g prefix es) k)) off' ∙ rest
+          ap (λ (b : Bool). cond b (Some r) (at_key (listed h m.newest g prefix es) k)) off' ∙ rest
           ∙ ap (λ (b : Bool). cond (is_some (cond b (Some e.1) (lookup (λ x. is_eq (order k x)) es))) (given k) None) (sym tie')
 
-  each_listed : (k : List ℕ) (es : Places) → AreShown es → Each (λ x. order k x.0 ≡ Less) es → Each (λ x. order k x.key ≡ Less) (listed h g prefix es)
+  each_listed : (k : List ℕ) (es : Numbers) → AreShown es → Each (λ x. order k x.0 ≡ Less) es → Each (λ x. order k x.key ≡ Less) (listed h m.newest g prefix es)
   each_listed k [] shown each = tt
   each_listed k (e ∷ es) shown each =
-      subst (λ (v : ℕ). Each (λ x. order k x.key ≡ Less) (before (row_of h (cond (fits e.0) v 0)) (listed h g prefix es))) (sym shown.0)
+      subst (λ (v : ℕ). Each (λ x. order k x.key ≡ Less) (before (row_of h (cond (fits e.0) v 0)) (listed h m.newest g prefix es))) (sym shown.0)
       (by_row (given e.0) refl (each_listed k es shown.1 each.1))
     where
-      by_row : (o : Option Row) → given e.0 ≡ o → Each (λ x. order k x.key ≡ Less) (listed h g prefix es) → Each (λ x. order k x.key ≡ Less) (before o (listed h g prefix es))
+      by_row : (o : Option Row) → given e.0 ≡ o → Each (λ x. order k x.key ≡ Less) (listed h m.newest g prefix es) → Each (λ x. order k x.key ≡ Less) (before o (listed h m.newest g prefix es))
       by_row None none rest = rest
       by_row (Some r) some rest = (subst (λ (a : List ℕ). order k a ≡ Less) (sym (given_key e.0 r some)) each.0, rest)
 
-  rises_listed : (es : Places) → AreShown es → Ascends es → Rises (listed h g prefix es)
+  rises_listed : (es : Numbers) → AreShown es → Ascends es → Rises (listed h m.newest g prefix es)
   rises_listed [] shown up = tt
   rises_listed (e ∷ es) shown up =
-      subst (λ (v : ℕ). Rises (before (row_of h (cond (fits e.0) v 0)) (listed h g prefix es))) (sym shown.0)
+      subst (λ (v : ℕ). Rises (before (row_of h (cond (fits e.0) v 0)) (listed h m.newest g prefix es))) (sym shown.0)
       (by_row (given e.0) refl (rises_listed es shown.1 up.1))
     where
-      by_row : (o : Option Row) → given e.0 ≡ o → Rises (listed h g prefix es) → Rises (before o (listed h g prefix es))
+      by_row : (o : Option Row) → given e.0 ≡ o → Rises (listed h m.newest g prefix es) → Rises (before o (listed h m.newest g prefix es))
       by_row None none rest = rest
       by_row (Some r) some rest =
-          (subst (λ (a : List ℕ). Each (λ x. order a x.key ≡ Less) (listed h g prefix es)) (sym (given_key e.0 r some)) (each_listed e.0 es shown.1 up.0), rest)
+          (subst (λ (a : List ℕ). Each (λ x. order a x.key ≡ Less) (listed h m.newest g prefix es)) (sym (given_key e.0 r some)) (each_listed e.0 es shown.1 up.0), rest)
 
-  -- a key without a place gives nothing
-  no_place : (k : List ℕ) → has_key k m.newest.versions.entries ≡ false → given k ≡ None
-  no_place k none =
-      let place : versions_of m.newest k ≡ None = not_some (versions_of m.newest k) none in
-      let nothing' : shows k ≡ 0 = sym (at.state.shows g k low) ∙ ap (λ (o : Option (List ℕ)). get_or (unwrap_or o []) g 0) place in
+  -- a key without a number gives nothing
+  no_number : (k : List ℕ) → has_key k m.newest.numbers.entries ≡ false → given k ≡ None
+  no_number k none =
+      let number : key_number m.newest k ≡ None = not_some (key_number m.newest k) none in
+      let nothing' : shows k ≡ 0 = sym (at.state.shows g k low) ∙ ap (λ (o : Option ℕ). version_by m.newest g o) number in
       ap (λ (v : ℕ). row_of h (cond (fits k) v 0)) nothing' ∙ ap (row_of h) (zero_both (fits k)) ∙ no_row
 
-  pub listed_is : Ascends m.newest.versions.entries → AreShown m.newest.versions.entries → listed h g prefix m.newest.versions.entries ≡ scanned (showing_whole s) h g prefix
+  pub listed_is : Ascends m.newest.numbers.entries → AreShown m.newest.numbers.entries → listed h m.newest g prefix m.newest.numbers.entries ≡ scanned (showing_whole s) h g prefix
   listed_is up shown =
-      same_rows (listed h g prefix m.newest.versions.entries) (sorted scan_rows) (rises_listed m.newest.versions.entries shown up)
+      same_rows (listed h m.newest g prefix m.newest.numbers.entries) (sorted scan_rows) (rises_listed m.newest.numbers.entries shown up)
       (rises_sorted scan_rows (distinct_scan shows prefix 0 (rows h) (rows_numbered s h at.legal)))
-      (λ k. at_listed m.newest.versions.entries shown k ∙ by_test k (has_key k m.newest.versions.entries) refl
+      (λ k. at_listed m.newest.numbers.entries shown k ∙ by_test k (has_key k m.newest.numbers.entries) refl
       ∙ sym (at_sorted scan_rows (distinct_scan shows prefix 0 (rows h) (rows_numbered s h at.legal)) k ∙ at_scan k))
     where
-      by_test : (k : List ℕ) (b : Bool) → has_key k m.newest.versions.entries ≡ b → cond b (given k) None ≡ given k
+      by_test : (k : List ℕ) (b : Bool) → has_key k m.newest.numbers.entries ≡ b → cond b (given k) None ≡ given k
       by_test k true on = refl
-      by_test k false off = sym (no_place k off)
+      by_test k false off = sym (no_number k off)
 
-  -- the places as the map shows them
-  pub places_shown : (es : Places) → All (λ e. tree.get (slice_cmp nat_cmp) m.newest.versions e.0 ≡ Some e.1) es → AreShown es
-  places_shown [] all = tt
-  places_shown (e ∷ es) all = (
-    ap (λ (o : Option (List ℕ)). get_or (unwrap_or o []) g 0) (sym (all 0 e (omega arith))) ∙ at.state.shows g e.0 low,
-    places_shown es (λ i d short. all (suc i) d (omega arith)),
+  -- the numbers as the map shows them
+  pub numbers_shown : (es : Numbers) → All (λ e. tree.get (slice_cmp nat_cmp) m.newest.numbers e.0 ≡ Some e.1) es → AreShown es
+  numbers_shown [] all = tt
+  numbers_shown (e ∷ es) all = (
+    ap (λ (o : Option ℕ). version_by m.newest g o) (sym (all 0 e (omega arith))) ∙ at.state.shows g e.0 low,
+    numbers_shown es (λ i d short. all (suc i) d (omega arith)),
   )
 
-  each_key : (P : List ℕ → Type 0) (es : Places) → AllByRecursion P (keys_of es) → Each (λ e. P e.0) es
+  each_key : (P : List ℕ → Type 0) (es : Numbers) → AllByRecursion P (keys_of es) → Each (λ e. P e.0) es
   each_key P [] all = tt
   each_key P (e ∷ es) all = (all.0, each_key P es all.1)
 
-  pub places_ascend : (es : Places) → IsStrictlySortedBy (slice_cmp nat_cmp) (keys_of es) → Ascends es
+  pub numbers_ascend : (es : Numbers) → IsStrictlySortedBy (slice_cmp nat_cmp) (keys_of es) → Ascends es
   unfolding IsStrictlySortedBy
-  places_ascend [] up = tt
-  places_ascend (e ∷ es) up = (each_key (λ k. order e.0 k ≡ Less) es up.0, places_ascend es up.1)
+  numbers_ascend [] up = tt
+  numbers_ascend (e ∷ es) up = (each_key (λ k. order e.0 k ≡ Less) es up.0, numbers_ascend es up.1)
 
 -- at a region that is none a scan finds nothing
 module _ (m : Replicas) (s : Store) (h : List Entry) (at : At m s h) (g : ℕ) (above : 8 ≤ g) (prefix : List ℕ) where
@@ -428,12 +428,12 @@ module _ (m : Replicas) (s : Store) (h : List Entry) (at : At m s h) (g : ℕ) (
   pub scans_nothing : scanned (showing_whole s) h g prefix ≡ []
   scans_nothing = ap sorted (none_scanned 0 (rows h) (rows_numbered s h at.legal))
 
--- What the loops over the places list, from what the map says of its entries.
-pub listing : (m : Replicas) (s : Store) (h : List Entry) → At m s h → (g : ℕ) → g < 8 → (prefix : List ℕ) → IsStrictlySortedBy (slice_cmp nat_cmp) (keys_of m.newest.versions.entries)
-    → All (λ e. tree.get (slice_cmp nat_cmp) m.newest.versions e.0 ≡ Some e.1) m.newest.versions.entries
-    → listed h g prefix m.newest.versions.entries ≡ scanned (showing_whole s) h g prefix
+-- What the loops over the numbers list, from what the map says of its entries.
+pub listing : (m : Replicas) (s : Store) (h : List Entry) → At m s h → (g : ℕ) → g < 8 → (prefix : List ℕ) → IsStrictlySortedBy (slice_cmp nat_cmp) (keys_of m.newest.numbers.entries)
+    → All (λ e. tree.get (slice_cmp nat_cmp) m.newest.numbers e.0 ≡ Some e.1) m.newest.numbers.entries
+    → listed h m.newest g prefix m.newest.numbers.entries ≡ scanned (showing_whole s) h g prefix
 listing m s h at g low prefix ordered found =
-    listed_is m s h at g low prefix (places_ascend m s h at g low prefix m.newest.versions.entries ordered) (places_shown m s h at g low prefix m.newest.versions.entries found)
+    listed_is m s h at g low prefix (numbers_ascend m s h at g low prefix m.newest.numbers.entries ordered) (numbers_shown m s h at g low prefix m.newest.numbers.entries found)
 
 -- A scan has at most as many rows as were written, so its units fit an object.
 

@@ -1,11 +1,12 @@
 -- A base that made one call more stands for the history with that call.
-use Rattle.std.proofs.Common.{◌≡◌, ◌≢◌, ℕ, ◌+◌, ◌-◌, ◌*◌, ◌<◌, ◌≤◌, max, min, Bool, true, false, cond, ◌&&◌, List, [], ◌∷◌, ◌++◌, length, map, get_or, set, replicate, Option, refl, sym, ap, subst, ◌∙◌, inr, ⊎_elim, ◌==◌, eq-eqb, leb-true, arith}
+use Rattle.std.proofs.Common.{◌≡◌, ◌≢◌, ℕ, ◌+◌, ◌-◌, ◌*◌, ◌<◌, ◌≤◌, max, min, Bool, true, false, cond, ◌&&◌, List, [], ◌∷◌, ◌++◌, length, map, get_or, set, replicate, Option, Some, refl, sym, ap, subst, ◌∙◌, inr, ⊎_elim, ◌==◌, eq-eqb, leb-true, true≢false, arith}
 use Rattle.std.specs.Prelude.{bytes_eq, ◌^◌}
-use Rattle.std.specs.List.{range_with_len}
+use Rattle.std.specs.List.{range_with_len, prefix_len}
 use Rattle.anti_flight.specs.Queued.{Queued, queued}
 use Rattle.std.proofs.lemmas.Bool.{cases_lt, cases_eq, both_ways}
-use Rattle.std.proofs.lemmas.List.{map_push, length_push, get_or_append_left, get_or_push, get_or-replicate, map-set, set-get_or, get_or-set_same, get_or-set_other, length-set}
+use Rattle.std.proofs.lemmas.List.{map_push, length_push, get_or_append_left, get_or_push, map-set, set-get_or, get_or-set_same, get_or-set_other, length-set}
 use Rattle.std.proofs.lemmas.List.Folds.{list_all_at}
+use Rattle.std.proofs.lemmas.List.Sums.{prefix_len_passes}
 use Rattle.std.proofs.lemmas.List.FromFn.{get_or-range_with_len, length-range_with_len}
 use Rattle.std.proofs.lemmas.Option.{slice_get-get_or}
 use Rattle.anti_ids.specs.declared.limits.TheConstants.{MOST_UNITS}
@@ -28,27 +29,28 @@ use Rattle.anti_replicas.specs.declared.replicas.Replicas.{Replicas}
 use Rattle.anti_replicas.specs.declared.kept_write.KeptWrite.{KeptWrite}
 use Rattle.anti_replicas.specs.declared.newest.Newest.{Newest}
 use Rattle.anti_replicas.specs.inner.Backlogs.{without, group_whole, IsBehind, AreBehind, AreBelow}
-use Rattle.anti_replicas.specs.inner.Marks.{mark_at, came, has_all, marked}
-use Rattle.anti_replicas.specs.inner.Newest.{newest_at, HasPlace, MakesPlace}
-use Rattle.anti_replicas.specs.inner.Standing.{IsKept, AreKept, Stands, Keeps, BringsIf, Marks, Shippable, Writable, LeavesIf, group_at}
+use Rattle.anti_replicas.specs.inner.Marks.{came, has_all, marked}
+use Rattle.anti_replicas.specs.inner.Newest.{key_number, newest_at, AreNumbered, MakesPlace}
+use Rattle.anti_replicas.specs.inner.Standing.{IsKept, AreKept, Stands, its_number, Keeps, BringsIf, Marks, Shippable, Writable, LeavesIf, CanReach, ReachesIf, group_at}
 use Rattle.anti_replicas.specs.Stores.{At, MayShip, MayWrite, IsOther, IsPassing}
-use Rattle.anti_replicas.proofs.Numbers.{all_numbers}
-use Rattle.anti_replicas.proofs.Places.{and_true, and_false, or_true, max_zero}
+use Rattle.anti_replicas.proofs.Masks.{unmarked, mark_same, mark_part, mark_region}
+use Rattle.anti_replicas.proofs.Numbers.{all_numbers, prefix_push, prefix_set_same, prefix_set_behind, prefix_set_first}
+use Rattle.anti_replicas.proofs.Places.{and_true, and_false, or_true, max_zero, brought_numbers, brought_numbered, brought}
 use Rattle.anti_replicas.proofs.Reading.{row_is, count_is, row_there}
-use Rattle.anti_replicas.proofs.Behind.{fresh_elsewhere, behind_kept, behind_same, behind_still, behind_left}
-use Rattle.anti_replicas.proofs.Bringing.{part_of_some, replica_below, whole_of, its_part, no_version}
+use Rattle.anti_replicas.proofs.Behind.{known_is, fresh_elsewhere, behind_kept, behind_same, behind_still, behind_left}
+use Rattle.anti_replicas.proofs.Bringing.{no_kept, part_of_some, replica_below, whole_of, its_part, no_version}
 use Rattle.anti_replicas.proofs.Shows.{shows_write, shows_ship, shows_other, elsewhere, of_another, another_part}
 
 -- What is kept of a write stays, where nothing of its version is shipped and no key loses its place.
 kept_later : (s : Store) (h k : List Entry) (old new : Newest) (v : ℕ) (x : KeptWrite) → ((g p : ℕ) → is_shipped k g v p ≡ is_shipped h g v p)
-    → ((key : List ℕ) → HasPlace old key → HasPlace new key) → IsKept s h old v x → IsKept s k new v x
-kept_later s h k old new v x same places kept = record {
+    → ((key : List ℕ) (i : ℕ) → key_number old key ≡ Some i → key_number new key ≡ Some i) → IsKept s h old v x → IsKept s k new v x
+kept_later s h k old new v x same numbers kept = record {
   marks = λ g p low first last. kept.marks g p low first last ∙ sym (same g p);
   size = kept.size;
   parts = kept.parts;
   some = kept.some;
   few = kept.few;
-  place = places x.row.key kept.place;
+  number = numbers x.row.key x.number kept.number;
 }
 
 -- what an entry weighs, from the reply that it is due
@@ -67,7 +69,7 @@ module _ (m n : Replicas) (s : Store) (h : List Entry) (e : Entry) (name key val
   the_row = record { key = key; version = v; value = value; lineage = lineage }
 
   abbrev one_kept : KeptWrite
-  one_kept = record { row = the_row; marks = replicate 32 false; parts = parts_of m.kind value }
+  one_kept = record { row = the_row; marks = replicate 8 0; parts = parts_of m.kind value; number = its_number n.newest key }
 
   wrote_rows : map (λ (k : KeptWrite). k.row) n.kept.items ≡ rows (h ++ e ∷ [])
   wrote_rows =
@@ -83,26 +85,26 @@ module _ (m n : Replicas) (s : Store) (h : List Entry) (e : Entry) (name key val
   stays : (g w p : ℕ) → is_shipped (h ++ e ∷ []) g w p ≡ is_shipped h g w p
   stays g w p = shipped_other h e g w p (ap is_shipping is)
 
-  unmarked : (g p : ℕ) → g < 8 → 1 ≤ p → p ≤ 4 → came one_kept g p ≡ is_shipped (h ++ e ∷ []) g (length m.kept.items + 1) p
-  unmarked g p low first last =
-      get_or-replicate 32 (mark_at g p) false false (omega arith)
+  new_marks : (g p : ℕ) → g < 8 → 1 ≤ p → p ≤ 4 → came one_kept g p ≡ is_shipped (h ++ e ∷ []) g (length m.kept.items + 1) p
+  new_marks g p low first last =
+      unmarked one_kept g p refl low
       ∙ sym (stays g (length m.kept.items + 1) p ∙ no_version m s h at g (length m.kept.items + 1) p (inr (omega arith)))
 
   new_kept : IsKept s (h ++ e ∷ []) n.newest (length m.kept.items + 1) one_kept
   new_kept = record {
-    marks = unmarked;
+    marks = new_marks;
     size = refl;
     parts = ap (λ (kind : StoreKind). parts_of kind value) at.state.kind_is;
     some = keeps.some;
     few = keeps.few;
-    place = keeps.place;
+    number = keeps.number;
   }
 
   wrote_kept : AreKept s (h ++ e ∷ []) n.newest (m.kept.items ++ one_kept ∷ [])
   wrote_kept i d short =
       ⊎_elim (λ (before : i < length m.kept.items).
       subst (IsKept s (h ++ e ∷ []) n.newest (i + 1)) (sym (get_or_append_left m.kept.items (one_kept ∷ []) d i before))
-      (kept_later s h (h ++ e ∷ []) m.newest n.newest (i + 1) (get_or m.kept.items i d) (λ g p. stays g (i + 1) p) keeps.makes.places (at.state.kept_are i d before)))
+      (kept_later s h (h ++ e ∷ []) m.newest n.newest (i + 1) (get_or m.kept.items i d) (λ g p. stays g (i + 1) p) keeps.makes.numbers (at.state.kept_are i d before)))
       (λ (last : length m.kept.items ≤ i).
       let here : length m.kept.items ≡ i = omega (arith, length_push m.kept.items one_kept) in
       subst (IsKept s (h ++ e ∷ []) n.newest (i + 1)) (sym (get_or_push m.kept.items one_kept d i here))
@@ -121,8 +123,13 @@ module _ (m n : Replicas) (s : Store) (h : List Entry) (e : Entry) (name key val
   wrote_behind =
       subst (λ (regions : List ℕ). AreBehind regions n.kept.items n.backlogs.items) at.state.regions_are
       (subst (λ (ks : List KeptWrite). AreBehind m.regions.items ks n.backlogs.items) (sym keeps.kept_is)
-      (behind_kept m.regions.items m.kept.items one_kept n.backlogs.items (λ g low among. fresh_elsewhere the_row (parts_of m.kind value) g keeps.some low)
+      (behind_kept m.regions.items m.kept.items one_kept n.backlogs.items (λ g low among. fresh_elsewhere one_kept g refl keeps.some low)
       keeps.behind keeps.have_next))
+
+  wrote_upto : (g : ℕ) → g < 8 → get_or n.upto g 0 ≡ prefix_len (has_all g) n.kept.items
+  wrote_upto g low =
+      ap (λ (us : List ℕ). get_or us g 0) keeps.upto_is ∙ at.state.upto_is g low
+      ∙ sym (ap (prefix_len (has_all g)) keeps.kept_is ∙ prefix_push (has_all g) m.kept.items one_kept (fresh_elsewhere one_kept g refl keeps.some low))
 
   pub stands_write : Stands n s (h ++ e ∷ [])
   stands_write = record {
@@ -133,6 +140,9 @@ module _ (m n : Replicas) (s : Store) (h : List Entry) (e : Entry) (name key val
     rows_are = wrote_rows;
     kept_are = subst (AreKept s (h ++ e ∷ []) n.newest) (sym keeps.kept_is) wrote_kept;
     behind = wrote_behind;
+    uptos = ap (λ (us : List ℕ). length us) keeps.upto_is ∙ at.state.uptos;
+    upto_is = wrote_upto;
+    numbered = keeps.makes.numbered;
     shows = λ g k low. keeps.makes.same g k ∙ at.state.shows g k low ∙ sym (shows_write s h e at.legal f g name value lineage is k);
     held_is = omega (arith, keeps.held_is, at.state.held_is, weighs_due s h e (Write name value lineage) f is refl);
     owed_is = wrote_owed;
@@ -140,25 +150,23 @@ module _ (m n : Replicas) (s : Store) (h : List Entry) (e : Entry) (name key val
 
 -- A shipment.
 
--- each part at each region has a mark of its own
-marks_apart : (g p region part : ℕ) → 1 ≤ p → p ≤ 4 → 1 ≤ part → part ≤ 4 → mark_at g p ≡ mark_at region part → (g ≡ region) × (p ≡ part)
-marks_apart g p region part a b c d same = (omega arith, omega arith)
+numbers_if : (b : Bool) (m n : Newest) (g number v : ℕ) → BringsIf b m n g number v → (k : List ℕ) (i : ℕ) → key_number m k ≡ Some i → key_number n k ≡ Some i
+numbers_if true m n g number v brings k i is = brought_numbers m n g number v brings k i is
+numbers_if false m n g number v brings k i is = subst (λ (x : Newest). key_number x k ≡ Some i) (sym brings) is
 
-places_if : (b : Bool) (m n : Newest) (g : ℕ) (key : List ℕ) (v : ℕ) → BringsIf b m n g key v → (k : List ℕ) → HasPlace m k → HasPlace n k
-places_if true m n g key v brings k has = brings.places k has
-places_if false m n g key v brings k has = subst (λ (x : Newest). HasPlace x k) (sym brings) has
+numbered_if : (b : Bool) (m n : Newest) (g number v : ℕ) → BringsIf b m n g number v → AreNumbered m → AreNumbered n
+numbered_if true m n g number v brings numbered = brought_numbered m n g number v brings numbered
+numbered_if false m n g number v brings numbered = subst AreNumbered (sym brings) numbered
 
-now_if : (b : Bool) (m n : Newest) (region : ℕ) (key : List ℕ) (v : ℕ) → BringsIf b m n region key v → (g : ℕ) (k : List ℕ)
-    → newest_at n g k ≡ max (cond ((region == g) && (bytes_eq key k && b)) v 0) (newest_at m g k)
-now_if true m n region key v brings g k = brings.now g k ∙ ap (λ (b : Bool). max (cond ((region == g) && b) v 0) (newest_at m g k)) (sym (and_true (bytes_eq key k)))
-now_if false m n region key v brings g k =
+now_if : (b : Bool) (m n : Newest) (region number v : ℕ) (key : List ℕ) → BringsIf b m n region number v → AreNumbered m → key_number m key ≡ Some number
+    → (g : ℕ) (k : List ℕ) → newest_at n g k ≡ max (cond ((region == g) && (bytes_eq key k && b)) v 0) (newest_at m g k)
+now_if true m n region number v key brings numbered its g k =
+    brought m n region number v brings numbered key its g k ∙ ap (λ (b : Bool). max (cond ((region == g) && b) v 0) (newest_at m g k)) (sym (and_true (bytes_eq key k)))
+now_if false m n region number v key brings numbered its g k =
     ap (λ (x : Newest). newest_at x g k) brings ∙ max_zero (newest_at m g k)
     ∙ ap (λ (b : Bool). max (cond b v 0) (newest_at m g k)) (sym (ap (λ (b : Bool). (region == g) && b) (and_false (bytes_eq key k)) ∙ and_false (region == g)))
 
 module _ (m n : Replicas) (s : Store) (h : List Entry) (e : Entry) (region version part : ℕ) (at : At m s h) (f : Follows (store s) h e) (is : e.call ≡ Ship region version part) (marks : Marks m n region version part) where
-  no_kept : KeptWrite
-  no_kept = record { row = absent []; marks = []; parts = 0 }
-
   ready_part : IsReadyShipment s h region version part
   ready_part = ready_ship s h e region version part f is
 
@@ -198,44 +206,45 @@ module _ (m n : Replicas) (s : Store) (h : List Entry) (e : Entry) (region versi
       let c : (part == part) ≡ true = eq-eqb part part refl in
       shipped_ship h e region version part region version part is ∙ rw (a, b, c) (or_true (is_shipped h region version part))
 
-  other_mark : (g p : ℕ) → (mark_at g p ≡ mark_at region part → ⊥) → is_shipped h g version p ≡ is_shipped (h ++ e ∷ []) g version p
-  other_mark g p other =
-      ⊎_elim (λ (same : region ≡ g).
-      sym (another_part s h e at.legal f g region version part is version p
-      (λ eq. other (ap (λ (x : ℕ). mark_at x p) (sym same) ∙ ap (mark_at region) (sym eq)))))
-      (λ (differs : region ≡ g → ⊥). sym (elsewhere s h e at.legal f g region version part is differs version p))
-      (cases_eq region g)
-
   mark_here : (g p : ℕ) → g < 8 → 1 ≤ p → p ≤ 4 → came new_one g p ≡ is_shipped (h ++ e ∷ []) g version p
   mark_here g p low' first last =
-      let within : mark_at region part < length (was no_kept).marks = omega (arith, low, there.2, there.3, was_kept.size) in
-      ⊎_elim (λ (same : mark_at g p ≡ mark_at region part).
-      let both = marks_apart g p region part first last there.2 there.3 same in
-      ap (λ (x : ℕ). get_or (set (was no_kept).marks (mark_at region part) true) x false) same
-      ∙ get_or-set_same (was no_kept).marks (mark_at region part) true false within
-      ∙ sym (ap (λ (x : ℕ). is_shipped (h ++ e ∷ []) x version p) both.0 ∙ ap (is_shipped (h ++ e ∷ []) region version) both.1 ∙ now_shipped))
-      (λ (other : mark_at g p ≡ mark_at region part → ⊥).
-      get_or-set_other (was no_kept).marks (mark_at region part) (mark_at g p) true false other
-      ∙ was_kept.marks g p low' first last ∙ other_mark g p other)
-      (cases_eq (mark_at g p) (mark_at region part))
+      ⊎_elim (λ (same : region ≡ g).
+      ap (λ (x : ℕ). came new_one x p) (sym same) ∙ part_here p first last ∙ ap (λ (x : ℕ). is_shipped (h ++ e ∷ []) x version p) same)
+      (λ (other : region ≡ g → ⊥).
+      mark_region (was no_kept) region part there.2 there.3 g p (λ same. other (sym same))
+      ∙ was_kept.marks g p low' first last ∙ sym (elsewhere s h e at.legal f g region version part is other version p))
+      (cases_eq region g)
+    where
+      within : region < length (was no_kept).marks
+      within = omega (arith, low, was_kept.size)
+
+      part_here : (p : ℕ) → 1 ≤ p → p ≤ 4 → came new_one region p ≡ is_shipped (h ++ e ∷ []) region version p
+      part_here p first last =
+          ⊎_elim (λ (same : p ≡ part).
+          ap (came new_one region) same ∙ mark_same (was no_kept) region part there.2 there.3 within
+          ∙ sym (ap (is_shipped (h ++ e ∷ []) region version) same ∙ now_shipped))
+          (λ (other : p ≢ part).
+          mark_part (was no_kept) region part there.2 there.3 p within first other
+          ∙ was_kept.marks region p low first last ∙ sym (another_part s h e at.legal f region region version part is version p (λ same. other (sym same))))
+          (cases_eq p part)
 
   abbrev full : Bool
   full = has_all region new_one
 
-  brings : BringsIf full m.newest n.newest region (was no_kept).row.key version
+  brings : BringsIf full m.newest n.newest region (was no_kept).number version
   brings = marks.brings no_kept
 
-  places : (k : List ℕ) → HasPlace m.newest k → HasPlace n.newest k
-  places = places_if full m.newest n.newest region (was no_kept).row.key version brings
+  numbers : (k : List ℕ) (i : ℕ) → key_number m.newest k ≡ Some i → key_number n.newest k ≡ Some i
+  numbers = numbers_if full m.newest n.newest region (was no_kept).number version brings
 
   one_kept' : IsKept s (h ++ e ∷ []) n.newest version new_one
   one_kept' = record {
     marks = mark_here;
-    size = length-set (was no_kept).marks (mark_at region part) true ∙ was_kept.size;
+    size = length-set (was no_kept).marks region _ ∙ was_kept.size;
     parts = was_kept.parts;
     some = was_kept.some;
     few = was_kept.few;
-    place = places (was no_kept).row.key was_kept.place;
+    number = numbers (was no_kept).row.key (was no_kept).number was_kept.number;
   }
 
   shipped_kept : AreKept s (h ++ e ∷ []) n.newest (set m.kept.items (version - 1) new_one)
@@ -250,7 +259,7 @@ module _ (m n : Replicas) (s : Store) (h : List Entry) (e : Entry) (region versi
       subst (IsKept s (h ++ e ∷ []) n.newest (i + 1)) (sym (get_or-set_other m.kept.items (version - 1) i new_one d other))
       (kept_later s h (h ++ e ∷ []) m.newest n.newest (i + 1) (get_or m.kept.items i d)
       (λ g p. of_another s h e at.legal f g region version part is (i + 1) p (λ eq. other (omega (arith, eq))))
-      places (at.state.kept_are i d within)))
+      numbers (at.state.kept_are i d within)))
       (cases_eq i (version - 1))
 
   kept_now : AreKept s (h ++ e ∷ []) n.newest n.kept.items
@@ -272,8 +281,7 @@ module _ (m n : Replicas) (s : Store) (h : List Entry) (e : Entry) (region versi
   alike g other =
       let k : KeptWrite = was no_kept in
       all_numbers (came new_one g) (came k g) k.parts (λ p first last.
-      get_or-set_other k.marks (mark_at region part) (mark_at g p) true false
-      (λ same. other (sym (marks_apart g p region part first (omega (arith, last, was_kept.few)) there.2 there.3 same).0)))
+      mark_region k region part there.2 there.3 g p (λ same. other (sym same)))
 
   abbrev backlog : Queued ℕ → Queued ℕ
   backlog d = get_or m.backlogs.items region d
@@ -291,7 +299,7 @@ module _ (m n : Replicas) (s : Store) (h : List Entry) (e : Entry) (region versi
   group_full = group_whole (map (has_all region) now_kept) (group_at version)
 
   -- the backlog of the region, by whether it has the version, and its group, now
-  left_by : (b c : Bool) → full ≡ b → group_full ≡ c → LeavesIf (b && c) m n region (group_at version) → (d : Queued ℕ)
+  left_by : (b c : Bool) → full ≡ b → group_full ≡ c → LeavesIf (b && c) m.backlogs.items n.backlogs.items region (group_at version) → (d : Queued ℕ)
       → (get_or n.backlogs.items region d ≡ cond (b && c) (without (group_at version + 1) (backlog d)) (backlog d))
       × IsBehind region now_kept (cond (b && c) (without (group_at version + 1) (backlog d)) (backlog d))
   left_by true true on whole leaves d = (
@@ -307,20 +315,20 @@ module _ (m n : Replicas) (s : Store) (h : List Entry) (e : Entry) (region versi
     behind_same region (version - 1) m.kept.items new_one no_kept here (backlog d) (was_behind d) (off ∙ sym was_short),
   )
 
-  others_by : (b : Bool) → LeavesIf b m n region (group_at version) → (g : ℕ) (d : Queued ℕ) → (region ≡ g → ⊥) → get_or n.backlogs.items g d ≡ get_or m.backlogs.items g d
+  others_by : (b : Bool) → LeavesIf b m.backlogs.items n.backlogs.items region (group_at version) → (g : ℕ) (d : Queued ℕ) → (region ≡ g → ⊥) → get_or n.backlogs.items g d ≡ get_or m.backlogs.items g d
   others_by true leaves g d other =
       ap (λ (bs : List (Queued ℕ)). get_or bs g d) (leaves d)
       ∙ get_or-set_other m.backlogs.items region g (without (group_at version + 1) (backlog d)) d (λ same. other (sym same))
   others_by false leaves g d other = ap (λ (bs : List (Queued ℕ)). get_or bs g d) leaves
 
-  count_by : (b : Bool) → LeavesIf b m n region (group_at version) → length n.backlogs.items ≡ length m.backlogs.items
+  count_by : (b : Bool) → LeavesIf b m.backlogs.items n.backlogs.items region (group_at version) → length n.backlogs.items ≡ length m.backlogs.items
   count_by true leaves =
       let d : Queued ℕ = queued [] 0 in
       ap (λ (bs : List (Queued ℕ)). length bs) (leaves d) ∙ length-set m.backlogs.items region (without (group_at version + 1) (backlog d))
   count_by false leaves = ap (λ (bs : List (Queued ℕ)). length bs) leaves
 
-  leaves : LeavesIf (full && group_full) m n region (group_at version)
-  leaves = subst (λ (ks : List KeptWrite). LeavesIf (full && group_whole (map (has_all region) ks) (group_at version)) m n region (group_at version)) (marks.kept_is no_kept) (marks.leaves no_kept)
+  leaves : LeavesIf (full && group_full) m.backlogs.items n.backlogs.items region (group_at version)
+  leaves = subst (λ (ks : List KeptWrite). LeavesIf (full && group_whole (map (has_all region) ks) (group_at version)) m.backlogs.items n.backlogs.items region (group_at version)) (marks.kept_is no_kept) (marks.leaves no_kept)
 
   -- the backlogs of the regions now
   behind_now : (g : ℕ) (d : Queued ℕ) → g < 8 → is_replica s g ≡ true → IsBehind g (set m.kept.items (version - 1) new_one) (get_or n.backlogs.items g d)
@@ -343,6 +351,52 @@ module _ (m n : Replicas) (s : Store) (h : List Entry) (e : Entry) (region versi
         others_by (full && group_full) leaves g d other ∙ at.state.behind.none g d below off;
   })
 
+  -- how far the region has everything, where it has the version now
+  can_reach : full ≡ true → (d : Queued ℕ) → CanReach (get_or m.upto region 0) n.kept.items (get_or n.backlogs.items region d) region version
+  can_reach on d = record {
+    next = λ first.
+        let at' : version - 1 ≡ prefix_len (has_all region) m.kept.items = omega (arith, first, at.state.upto_is region low) in
+        omega (arith, there.0, ap (prefix_len (has_all region)) (marks.kept_is no_kept), prefix_set_first (has_all region) m.kept.items (version - 1) new_one here at' on);
+    same = λ other.
+        let behind : prefix_len (has_all region) m.kept.items < version - 1 = ⊎_elim
+        (λ (less : version - 1 < prefix_len (has_all region) m.kept.items).
+        absurd (true≢false (sym (prefix_len_passes (has_all region) m.kept.items (version - 1) no_kept less) ∙ was_short)))
+        (λ (more : prefix_len (has_all region) m.kept.items ≤ version - 1). let apart : version - 1 ≢ prefix_len (has_all region) m.kept.items = λ at'. other (omega (arith, at', at.state.upto_is region low, there.0)) in omega (arith, apart))
+        (cases_lt (version - 1) (prefix_len (has_all region) m.kept.items)) in
+        at.state.upto_is region low
+        ∙ sym (ap (prefix_len (has_all region)) (marks.kept_is no_kept) ∙ prefix_set_behind (has_all region) m.kept.items (version - 1) new_one behind);
+    groups = known_is region n.kept.items (get_or n.backlogs.items region d) (shipped_behind.behind region d low ready_part.shipment.replica);
+  }
+
+  -- other regions have as much as before
+  upto_stays : (g : ℕ) → g < 8 → has_all g new_one ≡ has_all g (was no_kept) → get_or m.upto g 0 ≡ prefix_len (has_all g) n.kept.items
+  upto_stays g low' same =
+      at.state.upto_is g low'
+      ∙ sym (ap (prefix_len (has_all g)) (marks.kept_is no_kept) ∙ prefix_set_same (has_all g) m.kept.items (version - 1) new_one no_kept here same)
+
+  upto_by_whole : (b : Bool) → full ≡ b → ReachesIf b m.upto n.upto n.kept.items n.backlogs.items region version → (g : ℕ) → g < 8 → get_or n.upto g 0 ≡ prefix_len (has_all g) n.kept.items
+  upto_by_whole true on reaches g low' =
+      let now : n.upto ≡ set m.upto region (prefix_len (has_all region) n.kept.items) = reaches (queued [] 0) (can_reach on (queued [] 0)) in
+      ap (λ (us : List ℕ). get_or us g 0) now
+      ∙ ⊎_elim (λ (same : g ≡ region).
+      ap (λ (x : ℕ). get_or (set m.upto region (prefix_len (has_all region) n.kept.items)) x 0) same
+      ∙ get_or-set_same m.upto region (prefix_len (has_all region) n.kept.items) 0 (omega (arith, low, at.state.uptos))
+      ∙ ap (λ (x : ℕ). prefix_len (has_all x) n.kept.items) (sym same))
+      (λ (other : g ≢ region).
+      get_or-set_other m.upto region g (prefix_len (has_all region) n.kept.items) 0 other ∙ upto_stays g low' (alike g (λ same. other (sym same))))
+      (cases_eq g region)
+  upto_by_whole false off same g low' =
+      ap (λ (us : List ℕ). get_or us g 0) same
+      ∙ upto_stays g low' (⊎_elim (λ (here' : region ≡ g). ap (λ (x : ℕ). has_all x new_one) (sym here') ∙ off ∙ sym (ap (λ (x : ℕ). has_all x (was no_kept)) (sym here') ∙ was_short))
+      (λ (other : region ≡ g → ⊥). alike g other)
+      (cases_eq region g))
+
+  uptos_by_whole : (b : Bool) → full ≡ b → ReachesIf b m.upto n.upto n.kept.items n.backlogs.items region version → length n.upto ≡ 8
+  uptos_by_whole true on reaches =
+      ap (λ (us : List ℕ). length us) (reaches (queued [] 0) (can_reach on (queued [] 0)))
+      ∙ length-set m.upto region (prefix_len (has_all region) n.kept.items) ∙ at.state.uptos
+  uptos_by_whole false off same = ap (λ (us : List ℕ). length us) same ∙ at.state.uptos
+
   -- the version now stands beside its key, if it is whole
   shipped_shows : (g : ℕ) (k : List ℕ) → g < 8 → newest_at n.newest g k ≡ shows_of s.kind (h ++ e ∷ []) g k
   shipped_shows g k low' =
@@ -350,7 +404,7 @@ module _ (m n : Replicas) (s : Store) (h : List Entry) (e : Entry) (region versi
       let place : version ≡ version - 1 + 1 = omega (arith, there.0) in
       let row : get_or (rows h) (version - 1) (absent []) ≡ (was no_kept).row = row_is m s h at.state (version - 1) no_kept (absent []) here in
       let number : (was no_kept).row.version ≡ version = ap (λ (r : Row). r.version) (sym row) ∙ version_at s h at.legal (version - 1) (absent []) short ∙ sym place in
-      now_if full m.newest n.newest region (was no_kept).row.key version brings g k
+      now_if full m.newest n.newest region (was no_kept).number version (was no_kept).row.key brings at.state.numbered was_kept.number g k
       ∙ ap (λ (v : ℕ). max (cond ((region == g) && (bytes_eq (was no_kept).row.key k && full)) version 0) v) (at.state.shows g k low')
       ∙ ap (λ (b : Bool). max (cond ((region == g) && (bytes_eq (was no_kept).row.key k && b)) version 0) (shows_of s.kind h g k))
       (whole_of s (h ++ e ∷ []) n.newest version new_one one_kept' number region low)
@@ -366,6 +420,9 @@ module _ (m n : Replicas) (s : Store) (h : List Entry) (e : Entry) (region versi
     rows_are = shipped_rows;
     kept_are = kept_now;
     behind = shipped_behind;
+    uptos = uptos_by_whole full refl (marks.reaches no_kept);
+    upto_is = upto_by_whole full refl (marks.reaches no_kept);
+    numbered = numbered_if full m.newest n.newest region (was no_kept).number version brings at.state.numbered;
     shows = shipped_shows;
     held_is = omega (arith, marks.held_is, at.state.held_is, weighs_due s h e (Ship region version part) f is refl);
     owed_is =
@@ -399,8 +456,11 @@ module _ (m n : Replicas) (s : Store) (h : List Entry) (e : Entry) (units : ℕ)
     replicas_are = at.state.replicas_are;
     rows_are = at.state.rows_are ∙ sym (rows_other h e writes);
     kept_are = λ i d short.
-        kept_later s h (h ++ e ∷ []) m.newest m.newest (i + 1) (get_or m.kept.items i d) (λ g p. shipped_other h e g (i + 1) p ships) (λ k has. has) (at.state.kept_are i d short);
+        kept_later s h (h ++ e ∷ []) m.newest m.newest (i + 1) (get_or m.kept.items i d) (λ g p. shipped_other h e g (i + 1) p ships) (λ k j number. number) (at.state.kept_are i d short);
     behind = at.state.behind;
+    uptos = at.state.uptos;
+    upto_is = at.state.upto_is;
+    numbered = at.state.numbered;
     shows = λ g k low. at.state.shows g k low ∙ sym (shows_other s h e at.legal f g writes ships k);
     held_is =
         let within : held (h ++ e ∷ []) ≤ MOST_UNITS = held_within (store s) (h ++ e ∷ []) at.sane (legal_more (store s) h e at.legal f) in
@@ -419,10 +479,13 @@ stands_with_place m n s h state makes kept behind is = subst (λ (x : Replicas).
   replicas_are = state.replicas_are;
   rows_are = ap (map (λ (k : KeptWrite). k.row)) kept ∙ state.rows_are;
   kept_are = subst (AreKept s h n.newest) (sym kept) (λ i d short.
-      kept_later s h h m.newest n.newest (i + 1) (get_or m.kept.items i d) (λ g p. refl) makes.places (state.kept_are i d short));
+      kept_later s h h m.newest n.newest (i + 1) (get_or m.kept.items i d) (λ g p. refl) makes.numbers (state.kept_are i d short));
   behind =
       subst (λ (ks : List KeptWrite). AreBehind s.regions ks n.backlogs.items) (sym kept)
       (subst (λ (regions : List ℕ). AreBehind regions m.kept.items n.backlogs.items) state.regions_are behind);
+  uptos = state.uptos;
+  upto_is = λ g low. state.upto_is g low ∙ sym (ap (prefix_len (has_all g)) kept);
+  numbered = makes.numbered;
   shows = λ g k low. makes.same g k ∙ state.shows g k low;
   held_is = state.held_is;
   owed_is = state.owed_is;
@@ -444,10 +507,9 @@ shippable m g v p may =
       region = low;
       first = there.0;
       kept = there.1;
-      part = there.3;
+      part = (there.2, there.3);
       backlogs = at.state.behind.count;
-      size = λ d. (at.state.kept_are (v - 1) d (omega (arith, there.0, there.1))).size;
-      place = λ d. (at.state.kept_are (v - 1) d (omega (arith, there.0, there.1))).place;
+      number = λ d. at.state.numbered.below _ _ (at.state.kept_are (v - 1) d (omega (arith, there.0, there.1))).number;
       owed = omega (arith, at.state.owed_is);
       held = omega (arith, at.state.held_is);
     }
@@ -461,6 +523,7 @@ writable m value lineage may =
     let same : m.replicas * parts_of m.kind value ≡ length s.regions * parts_of s.kind value =
     ap (λ (x : ℕ). x * parts_of m.kind value) at.state.replicas_are ∙ ap (λ (kind : StoreKind). length s.regions * parts_of kind value) at.state.kind_is in
     record {
+      numbered = at.state.numbered;
       units = omega (arith, at.state.held_is, at.state.owed_is);
       regions = subst AreBelow (sym at.state.regions_are) at.sane.below;
       behind = subst (λ (regions : List ℕ). AreBehind regions m.kept.items m.backlogs.items) (sym at.state.regions_are) at.state.behind;

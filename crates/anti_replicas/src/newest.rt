@@ -1,23 +1,39 @@
-ghost use Rattle.std.specs.Prelude.{◌≡◌, ℕ, ◌<◌, List, OnOk};
-ghost use Rattle.anti_replicas.specs.inner.Newest.{newest_at, HasPlace, MakesPlace, Brings};
+ghost use Rattle.std.specs.Prelude.{◌≡◌, ℕ, ◌<◌, length, List, Some, IfOk};
+ghost use Rattle.anti_replicas.specs.inner.Newest.{at_number, key_number, newest_at, AreNumbered, MakesPlace, Brings};
 
 use anti_ids::{MOST_REGIONS, Name, NoMemory};
 use std::alloc::Global;
 use std::collections::BTreeMap;
 
-/// The greatest version of each key that is whole at each region, 0 where none is. A key has a place from its first write on.
+/// The greatest version of each key that is whole at each region, 0 where none is. A key has a number from its first write on, counted
+/// from 0, by which the versions are found without its name.
 #[derive(Drop)]
 pub(crate) struct Newest {
-    pub(crate) versions: BTreeMap<Name, [u64; MOST_REGIONS]>,
+    pub(crate) numbers: BTreeMap<Name, usize>,
+    // for each key the versions at the regions, by its number
+    pub(crate) versions: Vec<[u64; MOST_REGIONS]>,
 }
 
 impl Newest {
-    // No key has a place.
+    // No key has a number.
     pub(crate) fn new(alloc: Global) -> Newest
-        ensures { (g : ℕ) (k : List ℕ) → newest_at result g k ≡ 0 }
+        ensures newest { (g : ℕ) (k : List ℕ) → newest_at result g k ≡ 0 }
+        ensures numbered { AreNumbered result }
     {
         Newest {
-            versions: BTreeMap::new(alloc),
+            numbers: BTreeMap::new(alloc),
+            versions: Vec::new(alloc),
+        }
+    }
+
+    // The greatest version that is whole at the region of the key with the number.
+    pub(crate) fn version_at(&self, region: u32, number: usize) -> u64
+        requires { region < MOST_REGIONS }
+        ensures { result ≡ at_number self.now region number }
+    {
+        match self.versions.as_slice().get(number) {
+            Some(versions) => versions[region as usize],
+            None => 0,
         }
     }
 
@@ -26,35 +42,39 @@ impl Newest {
         requires { region < MOST_REGIONS }
         ensures { result ≡ newest_at self.now region key.now }
     {
-        match self.versions.get(key) {
-            Some(versions) => versions[region as usize],
+        match self.numbers.get(key) {
+            Some(number) => self.version_at(region, *number),
             None => 0,
         }
     }
 
-    // Makes a place for the key, if it has none yet.
-    pub(crate) fn make_place(&mut self, key: Name) -> Result<(), NoMemory>
+    // The number of the key, which gets the next one if it has none yet.
+    pub(crate) fn make_place(&mut self, key: Name) -> Result<usize, NoMemory>
+        requires { AreNumbered self.old }
         ensures makes { MakesPlace self.old self.new }
-        ensures place { OnOk result (HasPlace self.new key) }
+        ensures number { IfOk result (λ number. key_number self.new key ≡ Some number) }
     {
-        if self.versions.contains_key(&key) {
-            return Ok(());
+        if let Some(number) = self.numbers.get(&key) {
+            return Ok(*number);
         }
-        match self.versions.insert(key, [0; MOST_REGIONS]) {
-            Ok(_) => Ok(()),
+        let number = self.versions.len();
+        if self.versions.push([0; MOST_REGIONS]).is_err() {
+            return Err(NoMemory);
+        }
+        match self.numbers.insert(key, number) {
+            Ok(_) => Ok(number),
             Err(_) => Err(NoMemory),
         }
     }
 
-    // Notes that a version of the key, which has a place, is whole at the region. It takes no memory.
-    pub(crate) fn bring(&mut self, region: u32, key: &Name, version: u64)
+    // Notes that a version of the key with the number is whole at the region. It takes no memory.
+    pub(crate) fn bring(&mut self, region: u32, number: usize, version: u64)
         requires region { region < MOST_REGIONS }
-        requires place { HasPlace self.old key.now }
-        ensures { Brings self.old self.new region key.now version }
+        requires number { number < length self.old.versions.items }
+        ensures { Brings self.old self.new region number version }
     {
-        if let Some(versions) = self.versions.get_mut(key) {
-            let place = region as usize;
-            versions[place] = version.max(versions[place]);
-        }
+        let versions = &mut self.versions[number];
+        let place = region as usize;
+        versions[place] = version.max(versions[place]);
     }
 }

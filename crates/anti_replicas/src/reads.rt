@@ -1,4 +1,4 @@
-ghost use Rattle.std.specs.Prelude.{◌≡◌, List, [], ◌∷◌, IfOk};
+ghost use Rattle.std.specs.Prelude.{◌≡◌, ℕ, List, [], ◌∷◌, Some, IfOk};
 ghost use Rattle.anti_ids.specs.List.{plain};
 ghost use Rattle.anti_kind.specs.declared.call.Reply.TheVariants.{Shown};
 ghost use Rattle.anti_kind.specs.declared.entry.Entry.{Entry};
@@ -10,6 +10,7 @@ use anti_ids::{Copies, Lineage, MOST_REGIONS, Name, NoMemory, Value};
 use anti_kind::{Reply, Row, Rows};
 
 impl Replicas {
+    ghost use Rattle.anti_replicas.specs.inner.Newest.{key_number};
     ghost use Rattle.anti_replicas.specs.Stores.{At, showing_whole};
 
     /// The greatest version of the key that is whole at the region, 0 where none is.
@@ -21,6 +22,17 @@ impl Replicas {
             return 0;
         }
         self.newest.version(region, key)
+    }
+
+    // The same of a key that has the number.
+    pub(crate) fn version_at(&self, region: u32, number: usize) -> u64
+        ensures { (s : Store) (h : List Entry) (key : List ℕ) → At self.now s h → key_number self.now.newest key ≡ Some number
+            → result ≡ shows_of s.kind h region key }
+    {
+        if region as usize >= MOST_REGIONS {
+            return 0;
+        }
+        self.newest.version_at(region, number)
     }
 
     /// The row of the key that the region shows.

@@ -21,6 +21,8 @@ pub struct Replicas {
     pub(crate) kept: Vec<KeptWrite>,
     // for each region the groups of versions that are not whole there
     pub(crate) backlogs: Vec<Backlog>,
+    // for each region how many versions, from the first on, are whole there
+    pub(crate) upto: [u64; MOST_REGIONS],
     pub(crate) newest: Newest,
     pub(crate) held: u32,
     pub(crate) owed: u32,
@@ -67,6 +69,7 @@ impl Replicas {
                 regions,
                 kept: Vec::new(alloc),
                 backlogs,
+                upto: [0; MOST_REGIONS],
                 newest: Newest::new(alloc),
                 held: 0,
                 owed: 0,

@@ -1,25 +1,24 @@
-ghost use Rattle.std.specs.Prelude.{◌≡◌, max, List, length, IfOk};
+ghost use Rattle.std.specs.Prelude.{◌≡◌, ◌<◌, max, List, length, IfOk};
 ghost use Rattle.anti_kind.specs.declared.call.Reply.TheVariants.{Shown};
 ghost use Rattle.anti_kind.specs.declared.entry.Entry.{Entry};
 ghost use Rattle.anti_ids.specs.List.{plain};
 ghost use Rattle.anti_kind.specs.Store.{Store, scanned};
 ghost use Rattle.anti_replicas.specs.inner.Scans.{version_in};
 
+use crate::newest::Newest;
 use crate::replicas::Replicas;
 use anti_ids::{MOST_REGIONS, Name, NoMemory};
 use anti_kind::{Reply, Rows};
 
-// The version that stands beside a key at the region, where the key begins with the prefix, else 0.
-fn version_in(region: u32, prefix: &Name, key: &Name, versions: &[u64; MOST_REGIONS]) -> u64
-    ensures { result ≡ version_in region prefix.now key.now versions.now }
+// The version that stands beside a key with this number at the region, where the key begins with the prefix, else 0.
+fn version_in(newest: &Newest, region: u32, prefix: &Name, key: &Name, number: usize) -> u64
+    requires { region < MOST_REGIONS }
+    ensures { result ≡ version_in newest.now region prefix.now key.now number }
 {
     if !key.bytes().starts_with(prefix.bytes()) {
         return 0;
     }
-    match versions.get(region as usize) {
-        Some(version) => *version,
-        None => 0,
-    }
+    newest.version_at(region, number)
 }
 
 impl Replicas {
@@ -34,8 +33,8 @@ impl Replicas {
         if region as usize >= MOST_REGIONS {
             return Ok(rows);
         }
-        for (key, versions) in self.newest.versions.iter() {
-            let version = version_in(region, prefix, key, versions);
+        for (key, number) in self.newest.numbers.iter() {
+            let version = version_in(&self.newest, region, prefix, key, *number);
             if let Some(row) = self.written_row(version)? {
                 rows.add(row)?;
             }
@@ -61,8 +60,8 @@ impl Replicas {
             return 1;
         }
         let mut count: u32 = 0;
-        for (key, versions) in self.newest.versions.iter() {
-            let version = version_in(region, prefix, key, versions);
+        for (key, number) in self.newest.numbers.iter() {
+            let version = version_in(&self.newest, region, prefix, key, *number);
             if self.is_version(version) {
                 count = count.saturating_add(1);
             }

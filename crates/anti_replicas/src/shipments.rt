@@ -16,7 +16,7 @@ use anti_ids::MOST_REGIONS;
 impl Replicas {
     ghost use Rattle.anti_replicas.specs.inner.Backlogs.{group_whole};
     ghost use Rattle.anti_replicas.specs.inner.Marks.{has_all};
-    ghost use Rattle.anti_replicas.specs.inner.Standing.{Stands, Shippable, Marks, LeavesIf, group_at};
+    ghost use Rattle.anti_replicas.specs.inner.Standing.{Stands, Shippable, Marks, Leaves, Reaches};
     ghost use Rattle.anti_replicas.specs.Stores.{At, MayShip, kind_of, number_of, regions_of};
 
     /// Whether the part of the version was brought to the region.
@@ -94,21 +94,13 @@ impl Replicas {
         self.kept.len() as u64
     }
 
-    /// How many versions, from the first on, are whole at the region: those of the groups before the first that is not, and of that one
-    /// as many as are.
+    /// How many versions, from the first on, are whole at the region.
     pub fn upto(&self, region: u32) -> u64
         ensures { (s : Store) (h : List Entry) → At self.now s h
             → result ≡ upto_of s.kind h region }
     {
-        match self.backlogs.as_slice().get(region as usize) {
-            Some(backlog) => {
-                // So it is of a region without a replica, too.
-                if backlog.last_put() == 0 {
-                    return 0;
-                }
-                let known = backlog.passed().saturating_mul(IN_GROUP);
-                self.whole_from(region, known as usize)
-            }
+        match self.upto.get(region as usize) {
+            Some(upto) => *upto,
             None => 0,
         }
     }
@@ -170,12 +162,41 @@ impl Replicas {
         requires region { region < length self.old.backlogs.items }
         requires version { (1 ≤ version) × (version ≤ length self.old.kept.items) }
         ensures only { self.new ≡ record self.old { backlogs = self.new.backlogs } }
-        ensures leaves { LeavesIf (group_whole (map (has_all region) self.old.kept.items) (group_at version)) self.old self.new region (group_at version) }
+        ensures count { length self.new.backlogs.items ≡ length self.old.backlogs.items }
+        ensures leaves { Leaves self.old self.new region version }
     {
         let group = (version - 1) / IN_GROUP;
         if self.is_group_whole(region, group as usize) {
             self.backlogs[region as usize].remove(group + 1);
         }
+    }
+
+    // Moves on how far the region has everything, where the version, which is whole there now, is the first that it lacked: past the
+    // groups that it has, and into the first that it has not.
+    fn reach(&mut self, region: u32, version: u64)
+        requires region { (region < MOST_REGIONS) × (region < length self.old.backlogs.items) }
+        requires first { 1 ≤ version }
+        ensures only { self.new ≡ record self.old { upto = self.new.upto } }
+        ensures reaches { Reaches self.old.upto self.new.upto self.new.kept.items self.new.backlogs.items region version }
+    {
+        let place = region as usize;
+        if version - 1 != self.upto[place] {
+            return;
+        }
+        let passed = self.backlogs[place].passed().saturating_mul(IN_GROUP);
+        self.upto[place] = self.whole_from(region, passed.max(version) as usize);
+    }
+
+    // Notes what the region has and lacks, now that the version is whole there.
+    fn settle(&mut self, region: u32, version: u64)
+        requires region { (region < MOST_REGIONS) × (length self.old.backlogs.items ≡ MOST_REGIONS) }
+        requires version { (1 ≤ version) × (version ≤ length self.old.kept.items) }
+        ensures only { self.new ≡ record self.old { backlogs = self.new.backlogs; upto = self.new.upto } }
+        ensures leaves { Leaves self.old self.new region version }
+        ensures reaches { Reaches self.old.upto self.new.upto self.new.kept.items self.new.backlogs.items region version }
+    {
+        self.leave(region, version);
+        self.reach(region, version);
     }
 
     // Marks the part at the region. Once the version is whole there, the region shows it, unless it shows a later one. Its shipment is
@@ -187,8 +208,8 @@ impl Replicas {
         let kept = &mut self.kept[(version - 1) as usize];
         kept.mark(region, part);
         if kept.is_whole(region) {
-            self.newest.bring(region, &kept.row.key, version);
-            self.leave(region, version);
+            self.newest.bring(region, kept.number, version);
+            self.settle(region, version);
         }
         self.held += 1;
         self.owed -= 1;

@@ -21,10 +21,11 @@ impl Replicas {
     {
         let mut last = None;
         for id in ids.iter() {
-            if !self.is_written(&id) {
+            let sight = self.sight(region, id);
+            if !sight.written {
                 return None;
             }
-            if !self.is_visible(region, &id) {
+            if !sight.visible {
                 last = Some(id.version);
             }
         }

@@ -7,10 +7,10 @@ ghost use Rattle.anti_kind.specs.Store.{Store, key_for};
 ghost use Rattle.anti_kind.specs.Objects.{store, Follows};
 
 use crate::backlog::IN_GROUP;
-use crate::kept_write::{KeptWrite, MARKS};
+use crate::kept_write::KeptWrite;
 use crate::replicas::Replicas;
 use crate::units::parts_of;
-use anti_ids::{Copies, Lineage, Name, NoMemory, Value};
+use anti_ids::{Copies, Lineage, MOST_REGIONS, Name, NoMemory, Value};
 use anti_kind::Row;
 
 impl Replicas {
@@ -88,6 +88,10 @@ impl Replicas {
         ensures ok { OnOk result (HaveNext self.old.regions.items self.old.kept.items self.new.backlogs.items) }
     {
         let kept = self.kept.len() as u64;
+        // the group of the versions before it is not full
+        if kept % IN_GROUP != 0 {
+            return Ok(());
+        }
         for at in 0..self.regions.len() {
             let region = self.regions[at];
             let backlog = &mut self.backlogs[region as usize];
@@ -115,12 +119,13 @@ impl Replicas {
             value: value.copy(self.alloc)?,
             lineage: lineage.copy(self.alloc)?,
         };
-        self.newest.make_place(key)?;
+        let number = self.newest.make_place(key)?;
         self.await_next()?;
         let kept = KeptWrite {
             row,
-            marks: [false; MARKS],
+            marks: [0; MOST_REGIONS],
             parts,
+            number,
         };
         if self.kept.push(kept).is_err() {
             return Err(NoMemory);

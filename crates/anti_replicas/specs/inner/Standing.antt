@@ -1,5 +1,6 @@
 -- What the base keeps of the history that it stands for, and what its two changes do to it.
-use Rattle.std.specs.Prelude.{◌≡◌, ℕ, ◌+◌, ◌-◌, ◌*◌, ◌/◌, ◌<◌, ◌≤◌, Bool, true, false, ◌&&◌, List, ◌∷◌, [], ◌++◌, length, map, replicate, slice_index_or, slice_set}
+use Rattle.std.specs.Prelude.{◌≡◌, ℕ, ◌+◌, ◌-◌, ◌*◌, ◌/◌, ◌<◌, ◌≤◌, Bool, true, false, ◌&&◌, List, ◌∷◌, [], ◌++◌, length, map, replicate, Some, unwrap_or, slice_index_or, slice_set}
+use Rattle.std.specs.List.{prefix_len}
 use Rattle.anti_flight.specs.Queued.{Queued}
 use Rattle.anti_kind.specs.declared.entry.Entry.{Entry}
 use Rattle.anti_ids.specs.declared.limits.TheConstants.{MOST_REGIONS, MOST_UNITS}
@@ -10,20 +11,20 @@ use Rattle.anti_kind.specs.Objects.{held}
 use Rattle.anti_replicas.specs.declared.backlog.TheConstants.{IN_GROUP}
 use Rattle.anti_replicas.specs.declared.replicas.Replicas.{Replicas}
 use Rattle.anti_replicas.specs.declared.kept_write.KeptWrite.{KeptWrite}
-use Rattle.anti_replicas.specs.declared.kept_write.TheConstants.{MOST_PARTS, MARKS}
+use Rattle.anti_replicas.specs.declared.kept_write.TheConstants.{MOST_PARTS}
 use Rattle.anti_replicas.specs.declared.newest.Newest.{Newest}
-use Rattle.anti_replicas.specs.inner.Backlogs.{AreBehind, HaveNext, AreBelow, group_whole, without}
+use Rattle.anti_replicas.specs.inner.Backlogs.{AreBehind, HaveNext, AreBelow, group_whole, without, passed}
 use Rattle.anti_replicas.specs.inner.Marks.{came, has_all, marked}
-use Rattle.anti_replicas.specs.inner.Newest.{newest_at, HasPlace, MakesPlace, Brings}
+use Rattle.anti_replicas.specs.inner.Newest.{key_number, newest_at, AreNumbered, MakesPlace, Brings}
 
--- what is kept of the write of version v: its parts, with a mark for each shipment of one, and a place for its key
+-- what is kept of the write of version v: its parts, with a mark for each shipment of one, and the number of its key
 pub record IsKept (s : Store) (h : List Entry) (newest : Newest) (v : ℕ) (k : KeptWrite) : Type 0 where
   pub marks : (g p : ℕ) → g < MOST_REGIONS → 1 ≤ p → p ≤ MOST_PARTS → came k g p ≡ is_shipped h g v p
-  pub size : length k.marks ≡ MARKS
+  pub size : length k.marks ≡ MOST_REGIONS
   pub parts : k.parts ≡ parts_of s.kind k.row.value
   pub some : 1 ≤ k.parts
   pub few : k.parts ≤ MOST_PARTS
-  pub place : HasPlace newest k.row.key
+  pub number : key_number newest k.row.key ≡ Some k.number
 
 abbrev pub AreKept : Store → List Entry → Newest → List KeptWrite → Type 0
 AreKept s h newest ks = (i : ℕ) (d : KeptWrite) → i < length ks → IsKept s h newest (i + 1) (slice_index_or ks i d)
@@ -38,16 +39,24 @@ pub record Stands (m : Replicas) (s : Store) (h : List Entry) : Type 0 where
   pub rows_are : map (λ k. k.row) m.kept.items ≡ rows h
   pub kept_are : AreKept s h m.newest m.kept.items
   pub behind : AreBehind s.regions m.kept.items m.backlogs.items
+  pub uptos : length m.upto ≡ MOST_REGIONS
+  pub upto_is : (g : ℕ) → g < MOST_REGIONS → slice_index_or m.upto g 0 ≡ prefix_len (has_all g) m.kept.items
+  pub numbered : AreNumbered m.newest
   pub shows : (g : ℕ) (k : List ℕ) → g < MOST_REGIONS → newest_at m.newest g k ≡ shows_of s.kind h g k
   pub held_is : m.held ≡ held h
   pub owed_is : m.owed ≡ owed_shipments s h
 
 -- what a write finds that may be made, of so many parts
 pub record Writable (m : Replicas) (parts : ℕ) : Type 0 where
+  pub numbered : AreNumbered m.newest
   pub units : m.held + m.owed + m.replicas * parts < MOST_UNITS
   pub regions : AreBelow m.regions.items
   pub behind : AreBehind m.regions.items m.kept.items m.backlogs.items
   pub few : length m.kept.items ≤ MOST_UNITS
+
+-- the number of a key that has one
+abbrev pub its_number : Newest → List ℕ → ℕ
+its_number n k = unwrap_or (key_number n k) 0
 
 -- n is m with one more write, which came to no region yet
 pub record Keeps (m n : Replicas) (row : Row) : Type 0 where
@@ -55,29 +64,50 @@ pub record Keeps (m n : Replicas) (row : Row) : Type 0 where
   pub store_is : n.store ≡ m.store
   pub regions_are : n.regions ≡ m.regions
   pub replicas_are : n.replicas ≡ m.replicas
-  pub kept_is : n.kept.items ≡ m.kept.items ++ record { row = row; marks = replicate MARKS false; parts = parts_of m.kind row.value } ∷ []
+  pub kept_is : n.kept.items ≡ m.kept.items ++ record { row = row; marks = replicate MOST_REGIONS 0; parts = parts_of m.kind row.value; number = its_number n.newest row.key } ∷ []
   pub some : 1 ≤ parts_of m.kind row.value
   pub few : parts_of m.kind row.value ≤ MOST_PARTS
+  pub upto_is : n.upto ≡ m.upto
   pub behind : AreBehind m.regions.items m.kept.items n.backlogs.items
   pub have_next : HaveNext m.regions.items m.kept.items n.backlogs.items
   pub makes : MakesPlace m.newest n.newest
-  pub place : HasPlace n.newest row.key
+  pub number : key_number n.newest row.key ≡ Some (its_number n.newest row.key)
   pub held_is : n.held ≡ m.held + 1
   pub owed_is : n.owed ≡ m.owed + m.replicas * parts_of m.kind row.value
 
--- where the version is whole at the region, its key has it there
-abbrev pub BringsIf : Bool → Newest → Newest → ℕ → List ℕ → ℕ → Type 0
-BringsIf true m n g key v = Brings m n g key v
-BringsIf false m n g key v = n ≡ m
+-- where the version is whole at the region, its key, by its number, has it there
+abbrev pub BringsIf : Bool → Newest → Newest → ℕ → ℕ → ℕ → Type 0
+BringsIf true m n g number v = Brings m n g number v
+BringsIf false m n g number v = n ≡ m
 
 -- the place of the group of the version v, both counted from 1, among the groups, counted from 0
 abbrev pub group_at : ℕ → ℕ
 group_at v = (v - 1) / IN_GROUP
 
 -- where the group at a place is whole at the region, it leaves the region's backlog
-abbrev pub LeavesIf : Bool → Replicas → Replicas → ℕ → ℕ → Type 0
-LeavesIf true m n g j = (d : Queued ℕ) → n.backlogs.items ≡ slice_set m.backlogs.items g (without (j + 1) (slice_index_or m.backlogs.items g d))
-LeavesIf false m n g j = n.backlogs.items ≡ m.backlogs.items
+abbrev pub LeavesIf : Bool → List (Queued ℕ) → List (Queued ℕ) → ℕ → ℕ → Type 0
+LeavesIf true old new g j = (d : Queued ℕ) → new ≡ slice_set old g (without (j + 1) (slice_index_or old g d))
+LeavesIf false old new g j = new ≡ old
+
+-- n is m after the group of the version v left, if it is whole
+abbrev pub Leaves : Replicas → Replicas → ℕ → ℕ → Type 0
+Leaves m n g v = LeavesIf (group_whole (map (has_all g) m.kept.items) (group_at v)) m.backlogs.items n.backlogs.items g (group_at v)
+
+-- What tells how far the region g has everything, u versions before, once the version v is whole there: where v is the first that it
+-- lacked, it has v now, else it has as many as before; and it has all versions of the groups that its backlog has passed.
+pub record CanReach (u : ℕ) (ks : List KeptWrite) (backlog : Queued ℕ) (g v : ℕ) : Type 0 where
+  pub next : v ≡ u + 1 → v ≤ prefix_len (has_all g) ks
+  pub same : (v ≡ u + 1 → ⊥) → u ≡ prefix_len (has_all g) ks
+  pub groups : passed backlog.items backlog.next * IN_GROUP ≤ prefix_len (has_all g) ks
+
+-- so it is kept for the region
+abbrev pub Reaches : List ℕ → List ℕ → List KeptWrite → List (Queued ℕ) → ℕ → ℕ → Type 0
+Reaches old new ks backlogs g v =
+    (d : Queued ℕ) → CanReach (slice_index_or old g 0) ks (slice_index_or backlogs g d) g v → new ≡ slice_set old g (prefix_len (has_all g) ks)
+
+abbrev pub ReachesIf : Bool → List ℕ → List ℕ → List KeptWrite → List (Queued ℕ) → ℕ → ℕ → Type 0
+ReachesIf true old new ks backlogs g v = Reaches old new ks backlogs g v
+ReachesIf false old new ks backlogs g v = new ≡ old
 
 -- n is m with the mark of a part of a version at a region
 pub record Marks (m n : Replicas) (g v p : ℕ) : Type 0 where
@@ -86,8 +116,9 @@ pub record Marks (m n : Replicas) (g v p : ℕ) : Type 0 where
   pub regions_are : n.regions ≡ m.regions
   pub replicas_are : n.replicas ≡ m.replicas
   pub kept_is : (d : KeptWrite) → n.kept.items ≡ slice_set m.kept.items (v - 1) (marked g p (slice_index_or m.kept.items (v - 1) d))
-  pub brings : (d : KeptWrite) → BringsIf (has_all g (marked g p (slice_index_or m.kept.items (v - 1) d))) m.newest n.newest g (slice_index_or m.kept.items (v - 1) d).row.key v
-  pub leaves : (d : KeptWrite) → LeavesIf (has_all g (marked g p (slice_index_or m.kept.items (v - 1) d)) && group_whole (map (has_all g) n.kept.items) (group_at v)) m n g (group_at v)
+  pub brings : (d : KeptWrite) → BringsIf (has_all g (marked g p (slice_index_or m.kept.items (v - 1) d))) m.newest n.newest g (slice_index_or m.kept.items (v - 1) d).number v
+  pub leaves : (d : KeptWrite) → LeavesIf (has_all g (marked g p (slice_index_or m.kept.items (v - 1) d)) && group_whole (map (has_all g) n.kept.items) (group_at v)) m.backlogs.items n.backlogs.items g (group_at v)
+  pub reaches : (d : KeptWrite) → ReachesIf (has_all g (marked g p (slice_index_or m.kept.items (v - 1) d))) m.upto n.upto n.kept.items n.backlogs.items g v
   pub held_is : n.held ≡ m.held + 1
   pub owed_is : n.owed + 1 ≡ m.owed
 
@@ -96,9 +127,8 @@ pub record Shippable (m : Replicas) (g v p : ℕ) : Type 0 where
   pub region : g < MOST_REGIONS
   pub first : 1 ≤ v
   pub kept : v ≤ length m.kept.items
-  pub part : p ≤ MOST_PARTS
+  pub part : (1 ≤ p) × (p ≤ MOST_PARTS)
   pub backlogs : length m.backlogs.items ≡ MOST_REGIONS
-  pub size : (d : KeptWrite) → length (slice_index_or m.kept.items (v - 1) d).marks ≡ MARKS
-  pub place : (d : KeptWrite) → HasPlace m.newest (slice_index_or m.kept.items (v - 1) d).row.key
+  pub number : (d : KeptWrite) → (slice_index_or m.kept.items (v - 1) d).number < length m.newest.versions.items
   pub owed : 1 ≤ m.owed
   pub held : m.held < MOST_UNITS

@@ -4,8 +4,20 @@ use Rattle.anti_flight.specs.Queued.{Queued, queued}
 use Rattle.anti_replicas.specs.declared.replicas.Replicas.{Replicas}
 use Rattle.anti_replicas.specs.inner.Backlogs.{AreBehind, HaveNext}
 use Rattle.anti_replicas.proofs.Backlogs.{waits_now, waits_already}
+use Rattle.anti_replicas.proofs.Bringing.{listed_below}
 use Rattle.anti_replicas.proofs.replicas.Replicas.await_next.Goals as goal
 use Rattle.anti_replicas.proofs.replicas.Replicas.await_next.Goals.{then-saturating_mul-kept+in_ok-push, else-saturating_mul-kept}
+
+pub returns-then-kept-ne0-clause-ok : goal.returns-then-kept-ne0-clause-ok
+returns-then-kept-ne0-clause-ok c = λ g d among.
+    let m : Replicas = c.args.self.now in
+    omega (
+      arith,
+      c.if-kept-ne0.true,
+      c.len-kept.ensures,
+      m.kept.ok.0,
+      (c.requires.behind.behind g d (listed_below m.regions.items c.requires.regions g among) among).least,
+    )
 
 pub loop-at-preserved : goal.loop-at-preserved
 loop-at-preserved c =

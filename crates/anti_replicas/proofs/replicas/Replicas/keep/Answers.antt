@@ -8,9 +8,9 @@ on_err : {T E P : Type 0} (r : Result T E) → P → OnErr r P
 on_err (Ok x) holds = tt
 on_err (Err e) holds = holds
 
-pub returns-in_err-make_place-clause-err : goal.returns-in_err-make_place-clause-err
-returns-in_err-make_place-clause-err c = λ s h state.
-    on_err c.from_residual-in_err-make_place.result (stands_with_place c.args.self.now _ s h state c.make_place.ensures.makes refl c.requires.behind refl)
+pub returns-in_err-number-clause-err : goal.returns-in_err-number-clause-err
+returns-in_err-number-clause-err c = λ s h state.
+    on_err c.from_residual-in_err-number.result (stands_with_place c.args.self.now _ s h state c.make_place.ensures.makes refl c.requires.behind refl)
 
 pub returns-in_err-await_next-clause-err : goal.returns-in_err-await_next-clause-err
 returns-in_err-await_next-clause-err c = λ s h state.

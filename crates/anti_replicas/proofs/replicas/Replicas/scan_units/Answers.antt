@@ -16,21 +16,21 @@ loop-key-preserved-then-is_version c = λ s h at.
     let m = c.args.self.now in
     let g = c.args.region in
     let prefix = c.args.prefix.now in
-    let rest = listed h g prefix c.next.new.self in
-    let there : is_some (row_of h (version_in g prefix c.in-Some.key.now c.in-Some.versions.now)) ≡ true =
+    let rest = listed h m.newest g prefix c.next.new.self in
+    let there : is_some (row_of h (version_in m.newest g prefix c.in-Some.key.now c.in-Some.number.now)) ≡ true =
     ap (λ v. is_some (row_of h v)) (sym c.version_in-version.ensures) ∙ sym (c.is_version.ensures s h at) ∙ c.if-is_version.true in
-    let one : length (before (row_of h (version_in g prefix c.in-Some.key.now c.in-Some.versions.now)) rest) ≡ length rest + 1 = length_before _ rest there in
-    let was : c.loop-key.count + length (listed h g prefix c.loop-key.key-iterator) ≡ length (listed h g prefix m.newest.versions.entries) = c.loop-key.invariant s h at in
-    let is : length (listed h g prefix m.newest.versions.entries) ≡ length (scanned (showing_whole s) h g prefix) =
+    let one : length (before (row_of h (version_in m.newest g prefix c.in-Some.key.now c.in-Some.number.now)) rest) ≡ length rest + 1 = length_before _ rest there in
+    let was : c.loop-key.count + length (listed h m.newest g prefix c.loop-key.key-iterator) ≡ length (listed h m.newest g prefix m.newest.numbers.entries) = c.loop-key.invariant s h at in
+    let is : length (listed h m.newest g prefix m.newest.numbers.entries) ≡ length (scanned (showing_whole s) h g prefix) =
     ap length (listing m s h at g c.if-region-ge-MOST_REGIONS.false prefix c.iter-key-items.ensures.ordered c.iter-key-items.ensures.found) in
-    omega (arith, scanned_few m s h at g prefix, ap (λ es. length (listed h g prefix es)) c.in-Some.ensures.steps, c.saturating_add-count.ensures)
+    omega (arith, scanned_few m s h at g prefix, ap (λ es. length (listed h m.newest g prefix es)) c.in-Some.ensures.steps, c.saturating_add-count.ensures)
 
 pub returns : goal.returns
 returns c = λ s h at.
     let m = c.args.self.now in
     let g = c.args.region in
     let prefix = c.args.prefix.now in
-    let was : c.loop-key.count + length (listed h g prefix c.loop-key.key-iterator) ≡ length (listed h g prefix m.newest.versions.entries) = c.loop-key.invariant s h at in
-    let is : length (listed h g prefix m.newest.versions.entries) ≡ length (scanned (showing_whole s) h g prefix) =
+    let was : c.loop-key.count + length (listed h m.newest g prefix c.loop-key.key-iterator) ≡ length (listed h m.newest g prefix m.newest.numbers.entries) = c.loop-key.invariant s h at in
+    let is : length (listed h m.newest g prefix m.newest.numbers.entries) ≡ length (scanned (showing_whole s) h g prefix) =
     ap length (listing m s h at g c.if-region-ge-MOST_REGIONS.false prefix c.iter-key-items.ensures.ordered c.iter-key-items.ensures.found) in
-    omega (arith, c.max.ensures, ap (λ es. length (listed h g prefix es)) c.in-None.ensures.steps.0)
+    omega (arith, c.max.ensures, ap (λ es. length (listed h m.newest g prefix es)) c.in-None.ensures.steps.0)

@@ -8,4 +8,4 @@ use Rattle.anti_replicas.proofs.replicas.Replicas.scan_units.Given as goal
 abbrev pub invariant-loop-key : goal.invariant-loop-key
 invariant-loop-key l =
     (s : Store) (h : List Entry) → At l.self s h
-    → l.count + length (listed h l.region l.prefix l.key-iterator) ≡ length (listed h l.region l.prefix l.self.newest.versions.entries)
+    → l.count + length (listed h l.self.newest l.region l.prefix l.key-iterator) ≡ length (listed h l.self.newest l.region l.prefix l.self.newest.numbers.entries)

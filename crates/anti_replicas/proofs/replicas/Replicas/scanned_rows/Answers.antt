@@ -12,6 +12,7 @@ returns-then-region-ge-MOST_REGIONS c = λ s h at.
 
 pub loop-key-preserved-in-Continue-branch-3 : goal.loop-key-preserved-in-Continue-branch-3
 loop-key-preserved-in-Continue-branch-3 c =
+    let m = c.args.self.now in
     let g = c.args.region in
     let prefix = c.args.prefix.now in
     let rows = c.loop-key.rows.items in
@@ -19,23 +20,24 @@ loop-key-preserved-in-Continue-branch-3 c =
     let rest = c.next.new.self in
     record {
       rows = λ s h at.
-          let is : row_of h (version_in g prefix c.in-Some.key.now c.in-Some.versions.now) ≡ Some row =
+          let is : row_of h (version_in m.newest g prefix c.in-Some.key.now c.in-Some.number.now) ≡ Some row =
           ap (row_of h) (sym c.version_in-version.ensures) ∙ sym (c.in_ok-row.ensures s h at) ∙ c.in-Some-2.is in
-          ap (λ (list : Listed Row). list.items ++ listed h g prefix rest) c.in_ok-add.ensures.ok
-          ∙ append_assoc rows (row ∷ []) (listed h g prefix rest)
-          ∙ ap (λ o. rows ++ before o (listed h g prefix rest)) (sym is)
-          ∙ ap (λ es. rows ++ listed h g prefix es) (sym c.in-Some.ensures.steps)
+          ap (λ (list : Listed Row). list.items ++ listed h m.newest g prefix rest) c.in_ok-add.ensures.ok
+          ∙ append_assoc rows (row ∷ []) (listed h m.newest g prefix rest)
+          ∙ ap (λ o. rows ++ before o (listed h m.newest g prefix rest)) (sym is)
+          ∙ ap (λ es. rows ++ listed h m.newest g prefix es) (sym c.in-Some.ensures.steps)
           ∙ c.loop-key.invariant.rows s h at;
       spare = omega (arith, c.loop-key.invariant.spare, ap (λ (list : Listed Row). list.spare) c.in_ok-add.ensures.ok);
     }
 
 pub returns : goal.returns
 returns c = λ s h at.
+    let m = c.args.self.now in
     let g = c.args.region in
     let prefix = c.args.prefix.now in
     let rows = c.loop-key.rows.items in
-    let all : rows ≡ listed h g prefix c.args.self.now.newest.versions.entries =
-    sym (append-nil rows) ∙ ap (λ es. rows ++ listed h g prefix es) (sym c.in-None.ensures.steps.0) ∙ c.loop-key.invariant.rows s h at in
+    let all : rows ≡ listed h m.newest g prefix m.newest.numbers.entries =
+    sym (append-nil rows) ∙ ap (λ es. rows ++ listed h m.newest g prefix es) (sym c.in-None.ensures.steps.0) ∙ c.loop-key.invariant.rows s h at in
     ap (λ n. record { items = rows; spare = n }) c.loop-key.invariant.spare
     ∙ ap (λ (rows : List Row). plain rows)
-    (all ∙ listing c.args.self.now s h at g c.if-region-ge-MOST_REGIONS.false prefix c.iter-key-items.ensures.ordered c.iter-key-items.ensures.found)
+    (all ∙ listing m s h at g c.if-region-ge-MOST_REGIONS.false prefix c.iter-key-items.ensures.ordered c.iter-key-items.ensures.found)

@@ -7,7 +7,7 @@ use Rattle.anti_replicas.proofs.replicas.Replicas.unwritten.Goals as goal
 
 pub loop-id-preserved-in-Continue-1 : goal.loop-id-preserved-in-Continue-1
 loop-id-preserved-in-Continue-1 c =
-    let id = c.in-Some.id in
+    let id = c.in-Some.id.now in
     let found = c.loop-id.found in
     let rest = c.next.new.self in
     let steps = c.in-Some.ensures.steps in
