@@ -45,14 +45,13 @@ gone agenda offer awake was updates test count = record {
 
 -- one who sleeps more, and is then awake no more
 pub put_to_sleep : (old new : Agenda) (offer : Offer) (object : ℕ) (awaited : Awaited) (asleep : BTreeSet Sleeper)
-    → Updates sleeper_cmp old.asleep asleep (sleeper object awaited offer) true
+    → ((other : Sleeper) → Contains (keys asleep) other ↔ ((other ≡ sleeper object awaited offer) ⊎ Contains (keys old.asleep) other))
     → IsGone offer (record { awake = old.awake; asleep = asleep; idle = old.idle }) new → IsPutToSleep offer object awaited old new
-put_to_sleep old new offer object awaited asleep updates gone = record {
+put_to_sleep old new offer object awaited asleep more gone = record {
   left = record { awake = gone.left.awake; fewer = gone.left.fewer };
   asleep = λ at what other.
-      let one = sleeper object awaited offer in
-      let more = with_key sleepers_total sleepers_exact old.asleep asleep one updates (sleeper at what other) in
-      let same = gone.rest.asleep at what other in (λ is. more.0 (same.0 is), λ is. same.1 (more.1 is));
+      let same = gone.rest.asleep at what other in
+      let one = more (sleeper at what other) in (λ is. one.0 (same.0 is), λ is. same.1 (one.1 is));
   idle = gone.rest.idle;
 }
 
@@ -113,10 +112,10 @@ wakes_idle old new offer popped updates same = record {
     was_idle = subst (λ (os : List Offer). Contains os offer) (sym popped) (Contains-push new.idle.items offer)
 
 -- one who slept at the object for what is brought
-pub wakes_sleeper : (object : ℕ) (what : Brought) (old new : Agenda) (one : Sleeper) → IsOneWaiting object what old (Some one)
-    → Updates sleeper_cmp old.asleep new.asleep one false → Updates offer_cmp old.awake new.awake one.offer true
-    → new.idle.items ≡ old.idle.items → WakesWaiting object what old new
-wakes_sleeper object what old new one waits taken updates same = record {
+pub wakes_sleeper : (object : ℕ) (what : Brought) (old new : Agenda) (one : Sleeper) → IsOneWaiting object what old.asleep (Some one)
+    → ((q : Sleeper) → Contains (keys new.asleep) q ↔ (Contains (keys old.asleep) q × (q ≡ one → ⊥)))
+    → Updates offer_cmp old.awake new.awake one.offer true → new.idle.items ≡ old.idle.items → WakesWaiting object what old new
+wakes_sleeper object what old new one waits fewer updates same = record {
   some = record {
     awake = λ other is. (more other).1 (inr is);
     idle = λ other is. inl (subst (λ (os : List Offer). Contains os other) (sym same) is);
@@ -137,9 +136,6 @@ wakes_sleeper object what old new one waits taken updates same = record {
   where
     more : (other : Offer) → Contains (keys new.awake) other ↔ ((other ≡ one.offer) ⊎ Contains (keys old.awake) other)
     more = with_key offers_total offers_exact old.awake new.awake one.offer updates
-
-    fewer : (q : Sleeper) → Contains (keys new.asleep) q ↔ (Contains (keys old.asleep) q × (q ≡ one → ⊥))
-    fewer = without_key sleepers_total sleepers_exact old.asleep new.asleep one taken
 
     slept : IsAsleep old object one.awaited one.offer
     slept = subst (λ (at : ℕ). IsAsleep old at one.awaited one.offer) waits.1 waits.0
@@ -235,7 +231,7 @@ on_both (Err error) both first second = tt
 -- where it is no shipment that came
 pub stirred_once : (object : ℕ) (what : Brought) (old idle new : Agenda)
     → ((region version : ℕ) → what ≡ came.Shipped region version → ⊥) → WakesIdle old idle
-    → ((offer : Offer) → IsIdle idle offer → ⊥) → WakesWaiting object what idle new → NoneWaits object what new
+    → ((offer : Offer) → IsIdle idle offer → ⊥) → WakesWaiting object what idle new → NoneWaits object what new.asleep
     → IsStirred object what old new
 stirred_once object what old idle new apart first none more left =
     stirred object what old new
@@ -247,7 +243,7 @@ stirred_once object what old idle new apart first none more left =
 -- where a shipment came
 pub stirred_twice : (object region version : ℕ) (what : Brought) → what ≡ came.Shipped region version → (old idle handed new : Agenda)
     → WakesIdle old idle → ((offer : Offer) → IsIdle idle offer → ⊥) → WakesWaiting object came.HandedBack idle handed
-    → NoneWaits object came.HandedBack handed → WakesWaiting object what handed new → NoneWaits object what new
+    → NoneWaits object came.HandedBack handed.asleep → WakesWaiting object what handed new → NoneWaits object what new.asleep
     → IsStirred object what old new
 stirred_twice object region version what shipped old idle handed new first none hands none_waits more left =
     stirred object what old new

@@ -3,7 +3,7 @@ use Rattle.std.proofs.Common.{◌≡◌, ℕ, ◌<◌, true, false, List, [], �
 use Rattle.std.specs.declared.ops.Bound.TheVariants.{Included, Unbounded}
 use Rattle.std.specs.declared.cmp.Ordering.{Ordering}
 use Rattle.std.specs.BTreeMap.Range.{IsLeBy}
-use Rattle.std.specs.BTreeSet.{IsKeyInRange, IsKeyRangeOf, contains, keys}
+use Rattle.std.specs.BTreeSet.{BTreeSet, IsKeyInRange, IsKeyRangeOf, contains, keys}
 use Rattle.std.specs.Option.{option_copied}
 use Rattle.std.specs.Ordering.{is_gt, nat_cmp, ordering_then}
 use Rattle.std.specs.Prelude.{slice_get}
@@ -42,8 +42,8 @@ least_at object awaited = sleeper object awaited (Go 0 0)
 abbrev pub by_rest : Awaited → Awaited → Offer → Offer → Ordering
 by_rest a b first second = ordering_then (awaited_cmp a b) (offer_cmp first second)
 
-module _ (agenda : Agenda) (object : ℕ) (what : Brought) (first : Awaited) (is_first : first_brought what ≡ Some first)
-    (range : List Sleeper) (holds : IsKeyRangeOf sleeper_cmp (Included (least_at object first)) Unbounded agenda.asleep range) where
+module _ (asleep : BTreeSet Sleeper) (object : ℕ) (what : Brought) (first : Awaited) (is_first : first_brought what ≡ Some first)
+    (range : List Sleeper) (holds : IsKeyRangeOf sleeper_cmp (Included (least_at object first)) Unbounded asleep range) where
   -- who waits for what is brought is in the range
   in_range : (awaited : Awaited) (offer : Offer) → brings what awaited ≡ true
       → is_gt (sleeper_cmp (least_at object first) (sleeper object awaited offer)) ≡ false
@@ -53,13 +53,13 @@ module _ (agenda : Agenda) (object : ℕ) (what : Brought) (first : Awaited) (is
       up_to_both (nat_cmp object object) (by_rest first awaited (Go 0 0) offer) (ap is_gt (tied object object refl))
       (up_to_both (awaited_cmp first awaited) (offer_cmp (Go 0 0) offer) from (none_before offer))
 
-  pub none_in_range : range ≡ [] → NoneWaits object what agenda
-  none_in_range none awaited offer asleep =
+  pub none_in_range : range ≡ [] → NoneWaits object what asleep
+  none_in_range none awaited offer sleeps =
       false_from_ne_true (brings what awaited)
       (λ is.
-      let found : contains sleeper_cmp agenda.asleep (sleeper object awaited offer) ≡ true =
-      is_found sleepers_total sleepers_exact agenda.asleep (sleeper object awaited offer) asleep in
-      let lost : contains sleeper_cmp agenda.asleep (sleeper object awaited offer) ≡ false =
+      let found : contains sleeper_cmp asleep (sleeper object awaited offer) ≡ true =
+      is_found sleepers_total sleepers_exact asleep (sleeper object awaited offer) sleeps in
+      let lost : contains sleeper_cmp asleep (sleeper object awaited offer) ≡ false =
       holds.5 none (sleeper object awaited offer) (in_range awaited offer is, tt) in
       absurd (cc))
 
@@ -68,20 +68,20 @@ module _ (agenda : Agenda) (object : ℕ) (what : Brought) (first : Awaited) (is
   at_head P one rest begins holds_first = subst (λ (xs : List Sleeper). IfSome (slice_get xs 0) P) begins holds_first
 
   module _ (one : Sleeper) (rest : List Sleeper) (begins : range ≡ one ∷ rest) where
-    head : IsKeyInRange sleeper_cmp (Included (least_at object first)) Unbounded agenda.asleep one
-    head = at_head (IsKeyInRange sleeper_cmp (Included (least_at object first)) Unbounded agenda.asleep) one rest begins holds.1
+    head : IsKeyInRange sleeper_cmp (Included (least_at object first)) Unbounded asleep one
+    head = at_head (IsKeyInRange sleeper_cmp (Included (least_at object first)) Unbounded asleep) one rest begins holds.1
 
     -- the first of the range is asleep
-    pub head_sleeps : Contains (keys agenda.asleep) one
-    head_sleeps = found_is sleepers_total sleepers_exact agenda.asleep one head.1
+    pub head_sleeps : Contains (keys asleep) one
+    head_sleeps = found_is sleepers_total sleepers_exact asleep one head.1
 
     -- where the first of the range does not wait for it, nobody does
-    pub head_decides : (one.object ≡ object → brings what one.awaited ≡ true → ⊥) → NoneWaits object what agenda
-    head_decides not_one awaited offer asleep =
+    pub head_decides : (one.object ≡ object → brings what one.awaited ≡ true → ⊥) → NoneWaits object what asleep
+    head_decides not_one awaited offer sleeps =
         false_from_ne_true (brings what awaited)
         (λ is.
         let last : Sleeper = sleeper object awaited offer in
-        let found : contains sleeper_cmp agenda.asleep last ≡ true = is_found sleepers_total sleepers_exact agenda.asleep last asleep in
+        let found : contains sleeper_cmp asleep last ≡ true = is_found sleepers_total sleepers_exact asleep last sleeps in
         let upto : is_gt (sleeper_cmp one last) ≡ false =
         at_head (λ k. IsLeBy sleeper_cmp k last) one rest begins (holds.2 last (in_range awaited offer is, tt) found) in
         let before : Ordering = by_rest first one.awaited (Go 0 0) one.offer in

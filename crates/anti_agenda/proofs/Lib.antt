@@ -2,4 +2,5 @@ mod Brought
 mod Changes
 mod Finding
 mod KeySets
+mod Marked
 mod Orders

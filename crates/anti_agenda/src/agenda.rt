@@ -2,6 +2,7 @@ ghost use Rattle.std.specs.Prelude.{OnErr, OnOk};
 ghost use Rattle.anti_agenda.specs.Agendas.{IsEmpty, IsFirst, IsGone, IsIdled, IsPutToSleep, IsUnchanged, IsWoken};
 
 use crate::offer::{Offer, Sleeper};
+use crate::sleepers::Sleepers;
 use anti_ids::NoMemory;
 use anti_kind::Awaited;
 use std::alloc::Global;
@@ -12,7 +13,7 @@ use std::collections::BTreeSet;
 #[derive(Drop)]
 pub struct Agenda {
     pub(crate) awake: BTreeSet<Offer>,
-    pub(crate) asleep: BTreeSet<Sleeper>,
+    pub(crate) asleep: Sleepers,
     pub(crate) idle: Vec<Offer>,
 }
 
@@ -23,7 +24,7 @@ impl Agenda {
     {
         Agenda {
             awake: BTreeSet::new(alloc),
-            asleep: BTreeSet::new(alloc),
+            asleep: Sleepers::new(alloc),
             idle: Vec::new(alloc),
         }
     }

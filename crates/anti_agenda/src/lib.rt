@@ -3,7 +3,9 @@
 #![tactic(auto)]
 
 mod agenda;
+mod marks;
 mod offer;
+mod sleepers;
 mod wakes;
 
 pub use agenda::Agenda;

@@ -1,11 +1,11 @@
 -- Who is woken, one after another.
 use Rattle.std.specs.Prelude.{◌≡◌, ℕ, ◌⊎◌, ◌&&◌, ◌==◌, Bool, true, false, nat_le, Contains, Option, None, Some}
-use Rattle.std.specs.BTreeSet.{keys}
+use Rattle.std.specs.BTreeSet.{BTreeSet, keys}
 use Rattle.anti_kind.specs.declared.awaited.Awaited.{Awaited}
 use Rattle.anti_kind.specs.declared.awaited.Awaited.TheVariants.{Delivery, Handout, Reply, Version, Writing}
 use Rattle.anti_kind.specs.declared.awaited.Brought.{Brought}
 use Rattle.anti_kind.specs.declared.awaited.Brought.TheVariants as came
-use Rattle.anti_agenda.specs.Agendas.{IsAsleep, IsAwake, IsIdle}
+use Rattle.anti_agenda.specs.Agendas.{IsAsleep, IsAwake, IsIdle, sleeper}
 use Rattle.anti_agenda.specs.declared.agenda.Agenda.{Agenda}
 use Rattle.anti_agenda.specs.declared.offer.Offer.{Offer}
 use Rattle.anti_agenda.specs.declared.offer.Sleeper.{Sleeper}
@@ -49,12 +49,12 @@ first_brought (came.Shipped region version) = Some (Version region 0)
 first_brought came.HandedBack = Some (Handout 0)
 
 -- nobody sleeps at the object for what is brought
-abbrev pub NoneWaits : ℕ → Brought → Agenda → Type 0
-NoneWaits object brought agenda =
-    (awaited : Awaited) (offer : Offer) → IsAsleep agenda object awaited offer → brings brought awaited ≡ false
+abbrev pub NoneWaits : ℕ → Brought → BTreeSet Sleeper → Type 0
+NoneWaits object brought asleep =
+    (awaited : Awaited) (offer : Offer) → Contains (keys asleep) (sleeper object awaited offer) → brings brought awaited ≡ false
 
 -- one who does; none, where nobody does
-abbrev pub IsOneWaiting : ℕ → Brought → Agenda → Option Sleeper → Type 0
-IsOneWaiting object brought agenda None = NoneWaits object brought agenda
-IsOneWaiting object brought agenda (Some one) =
-    Contains (keys agenda.asleep) one × (one.object ≡ object) × (brings brought one.awaited ≡ true)
+abbrev pub IsOneWaiting : ℕ → Brought → BTreeSet Sleeper → Option Sleeper → Type 0
+IsOneWaiting object brought asleep None = NoneWaits object brought asleep
+IsOneWaiting object brought asleep (Some one) =
+    Contains (keys asleep) one × (one.object ≡ object) × (brings brought one.awaited ≡ true)
