@@ -21,6 +21,7 @@ pub mod Pulling
 pub mod Tried
 pub mod GoFirst
 pub mod ShipNext
+mod NextShipment
 pub mod Reached
 pub mod FirstAwake
 pub mod Offers

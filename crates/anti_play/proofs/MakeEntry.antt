@@ -74,30 +74,8 @@ pub on_err : {T E : Type 0} (r : Result T E) (P : Type 0) → P → OnErr r P
 on_err (Ok x) P p = tt
 on_err (Err e) P p = p
 
--- what is so of a call where a value was kept behind it by `and`, or was given up
+-- what is so of both, where a value was kept behind a call by `and`, or was given up
 module _ {T U E : Type 0} (r : Result U E) (s : T) (x : Result T E) (is : x ≡ result_and r (Ok s)) where
-  pub kept_behind : (t : T) → x ≡ Ok t → t ≡ s
-  kept_behind t came = go r is
-    where
-      go : (r : Result U E) → x ≡ result_and r (Ok s) → t ≡ s
-      go (Ok u) is = let both : Ok t ≡ Ok s = sym came ∙ is in cc
-      go (Err e) is = absurd (let both : Ok t ≡ Err e = sym came ∙ is in cc)
-
-  pub done_before : {P : Type 0} (t : T) → x ≡ Ok t → OnOk r P → P
-  done_before {P} t came = go r is
-    where
-      go : (r : Result U E) → x ≡ result_and r (Ok s) → OnOk r P → P
-      go (Ok u) is p = p
-      go (Err e) is p = absurd (let both : Ok t ≡ Err e = sym came ∙ is in cc)
-
-  pub lost_before : {P : Type 0} (e : E) → x ≡ Err e → OnErr r P → P
-  lost_before {P} e came = go r is
-    where
-      go : (r : Result U E) → x ≡ result_and r (Ok s) → OnErr r P → P
-      go (Ok u) is p = absurd (let both : Err e ≡ Ok s = sym came ∙ is in cc)
-      go (Err d) is p = p
-
-  -- what is so of both
   pub by_and : {Q : Type 0} (P : Result T E → Type 0) → OnOk r Q → (Q → P (Ok s)) → ((e : E) → P (Err e)) → P x
   by_and {Q} P fact done lost = subst P (sym is) (go r fact)
     where

@@ -17,7 +17,7 @@ use Rattle.anti_app.specs.Sound.{is_sound}
 use Rattle.anti_object.specs.declared.object.Object.{Object}
 use Rattle.anti_object.specs.Standing.{object_start}
 use Rattle.anti_trace.specs.Traces.{entries_on, put}
-use Rattle.anti_agenda.specs.Agendas.{IsAwake, IsIdled, IsPutToSleep, IsStirred}
+use Rattle.anti_agenda.specs.Agendas.{IsAwake, IsPutToSleep, IsStirred}
 use Rattle.anti_agenda.specs.declared.agenda.Agenda.{Agenda}
 use Rattle.anti_agenda.specs.declared.offer.Offer.{Offer}
 use Rattle.anti_agenda.specs.declared.offer.Offer.TheVariants.{Ship}
@@ -30,10 +30,10 @@ use Rattle.anti_play.proofs.Adding.{adds_none, carried_no_birth}
 use Rattle.anti_play.proofs.Attempting.{attends_made, attends_none, own_ship, stirred_by, turned_lost, went_further}
 use Rattle.anti_play.proofs.Chose.{chose_none}
 use Rattle.anti_play.proofs.Finished.{chosen_further}
-use Rattle.anti_play.proofs.Minding.{attends_idle, attends_over, attends_sleep, waits_none}
+use Rattle.anti_play.proofs.Minding.{attends_over, attends_sleep, waits_none}
 use Rattle.anti_play.proofs.ShipNext.{shipped_is}
 use Rattle.anti_play.proofs.Stepped.{Stepped, step}
-use Rattle.anti_play.proofs.Tried.{MadeOne, chose_false, chose_of, chose_true}
+use Rattle.anti_play.proofs.Tried.{MadeOne, chose_of, chose_true}
 
 module _ (app : App) (sound : IsTrue (is_sound app)) (w : World) (trace : List Entry) (s : WorldStands app w trace) (offer : Offer) (store replica region : ℕ)
     (is : offer ≡ Ship store replica) (to : region_at app store replica ≡ Some region) where
@@ -94,14 +94,7 @@ module _ (app : App) (sound : IsTrue (is_sound app)) (w : World) (trace : List E
             (adds_none app trace (put e trace) e st.gets (carried_no_birth e 0 st.actor)) a
 
       module _ (n : World) where
-        -- it was not made
-        pub unshipped_attends : Chose app trace (made_at app trace it) (Ok false) n → (old new : Agenda) → Attends app trace old → IsAwake old offer → IsIdled offer old new
-            → Attends app (with_entry (entry_by_offer app trace offer) trace) new
-        unshipped_attends came old new a was idled =
-            let none : entry_by_offer app trace offer ≡ None = ships ∙ (chose_false app trace (made_at app trace it) n came).0 in
-            attends_none app trace (entry_by_offer app trace offer) new none (attends_idle app trace offer old new a was idled none)
-
-        -- it was
+        -- it was made
         pub shipped_lost : Chose app trace (made_at app trace it) (Ok true) n → (r : Result Bool NoMemory) → IsErr r → Turned app trace (entry_by_offer app trace offer) r n
         shipped_lost came r err =
             let m : MadeOne app trace (made_at app trace it) n = chose_true app trace (made_at app trace it) n came in

@@ -17,7 +17,7 @@ use crate::world::World;
 use anti_agenda::{Agenda, Offer};
 use anti_app::{App, inbox_number, position_on};
 use anti_ids::NoMemory;
-use anti_kind::{Awaited, Call, Machine};
+use anti_kind::{Awaited, Brought, Call, Machine};
 
 impl World {
     /// Makes all that can still be made: the next call of each process, ascending by object and place of its birth, the first free
@@ -170,15 +170,8 @@ impl World {
         let Some((version, part)) = recorded.machine().next_ship(region) else {
             return agenda.sleep(offer, store, Awaited::Writing).and(Ok(false));
         };
-        let ship = Call::Ship {
-            region,
-            version,
-            part,
-        };
-        let brought = ship.brought();
-        if !self.carry(store, ship)? {
-            return agenda.idle(offer).and(Ok(false));
-        }
+        self.ship(store, region, version, part)?;
+        let brought = Brought::Shipped { region, version };
         agenda.stir(store, brought).and(Ok(true))
     }
 

@@ -1,17 +1,18 @@
-ghost use Rattle.std.specs.Prelude.{◌≡◌, ◌<◌, length, position, Some, true, Err, IfOk, OnOk, OnErr, IsTrue};
+ghost use Rattle.std.specs.Prelude.{◌≡◌, ◌<◌, length, position, Some, true, Ok, Err, IfOk, OnOk, OnErr, IsErr, IsTrue, vec_len};
 ghost use Rattle.anti_app.specs.declared.app.App.{App};
 ghost use Rattle.anti_app.specs.Sound.{is_sound, is_sound_choice};
+ghost use Rattle.anti_kind.specs.declared.call.Call.TheVariants.{Ship};
 ghost use Rattle.anti_trace.specs.Legal.{bears, carries};
 ghost use Rattle.anti_play.specs.Schedule.{bearing, carrying, chosen, clock_of, made_at};
 ghost use Rattle.anti_trace.specs.Histories.{Entries};
 ghost use Rattle.anti_trace.specs.inner.Living.{Grows, born_at, is_named, lists};
-ghost use Rattle.anti_play.specs.inner.Choosing.{IsNextEntry, IsNextOf, MakesNext, StopsUnfit};
+ghost use Rattle.anti_play.specs.inner.Choosing.{IsNextEntry, IsNextOf, IsNextShipment, MakesNext, StopsUnfit};
 ghost use Rattle.anti_play.specs.inner.Standing.{AllStand, Chose, IsOutcome, IsSoundWorld, IsWorldOf, MayGrow, StopsBy, WorldStands, asked_in};
 
 use crate::choice_call::ChoiceCall;
 use anti_app::{App, Choice};
 use anti_ids::{Copies, NoMemory};
-use anti_kind::{Actor, Asking, Birth, Call, Entry, Machine, Recorded, Refusal};
+use anti_kind::{Actor, Asking, Birth, Call, Entry, Machine, Recorded, Refusal, Reply};
 use anti_object::Object;
 use anti_trace::{Processes, Trail, advance, born};
 use std::alloc::Global;
@@ -39,6 +40,13 @@ fn make_entry(objects: &mut Vec<Recorded<Object>>, entry: Entry) -> Result<(), N
 {
     let at = entry.object as usize;
     objects[at].make(entry)
+}
+
+// Gives up what there is no memory for.
+fn give_up<T: Drop>(_value: T) -> Result<bool, NoMemory>
+    ensures { IsErr result }
+{
+    Err(NoMemory)
 }
 
 impl World {
@@ -81,10 +89,13 @@ impl World {
         let object = entry.object;
         self.processes.reserve(object)?;
         let process = born(self.alloc, app, &entry)?;
-        // where there is no memory `and` gives up the process
-        let process = make_entry(&mut self.objects, entry).and(Ok(process))?;
-        self.processes.put(object, process);
-        Ok(true)
+        match make_entry(&mut self.objects, entry) {
+            Ok(()) => {
+                self.processes.put(object, process);
+                Ok(true)
+            }
+            Err(NoMemory) => give_up(process),
+        }
     }
 
     // Makes a call of the carrier at an object.
@@ -111,16 +122,39 @@ impl World {
         Ok(true)
     }
 
-    // Whether a call is not ready at its object. At an object that is not there none is.
-    fn is_not_ready(&self, object: u32, call: &Call) -> bool
-        ensures { (app : App) (trace : Entries) (asking : Asking) → IsTrue (is_sound app)
-            → WorldStands app self.now trace → asking.object ≡ object → asking.call ≡ call.now
-            → IsTrue result → IsOutcome app trace asking (Err Refusal.NotYet) }
+    // Makes the next shipment of a store to a region: it is ready, and fits, since it needs no units.
+    pub(crate) fn ship(
+        &mut self,
+        store: u32,
+        region: u32,
+        version: u64,
+        part: u32,
+    ) -> Result<(), NoMemory>
+        requires store { store < vec_len self.old.objects }
+        requires world { IsSoundWorld self.old }
+        requires next { IsNextShipment self.old.objects.items store region version part }
+        ensures made { (app : App) (trace : Entries) → IsTrue (is_sound app)
+            → WorldStands app self.old trace
+            → OnOk result (Chose app trace (made_at app trace (carrying trace store (Ship region version part))) (Ok true) self.new) }
+        ensures kept { (app : App) (trace : Entries) → WorldStands app self.old trace
+            → OnErr result (WorldStands app self.new trace) }
     {
-        match self.objects.get(object as usize) {
-            Some(recorded) => !recorded.machine().ready(call),
-            None => true,
-        }
+        let asking = Asking {
+            object: store,
+            actor: Actor::Carrier(0),
+            span: 0,
+            clock: self.carrier,
+            call: Call::Ship {
+                region,
+                version,
+                part,
+            },
+        };
+        let entry = self.objects[store as usize].entry(0, asking, Reply::Moved);
+        let stamp = entry.stamp;
+        make_entry(&mut self.objects, entry)?;
+        self.carrier = stamp;
+        Ok(())
     }
 
     // Makes the next call of a process, which stands at a place among those that were born at its object. One that has ended, or waits,
@@ -138,9 +172,6 @@ impl World {
         let Some(asked) = process.next() else {
             return Ok(false);
         };
-        if self.is_not_ready(asked.object, asked.call) {
-            return Ok(false);
-        }
         let asking = Asking {
             object: asked.object,
             actor: Actor::Process(birth),

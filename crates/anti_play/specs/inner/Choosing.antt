@@ -1,10 +1,14 @@
 -- What the code takes a choice to ask for, and what comes of a process that is to go on.
-use Rattle.std.specs.Prelude.{◌≡◌, ℕ, true, List, None, Some, slice_get, Result, Bool, OnOk}
+use Rattle.std.specs.Prelude.{◌≡◌, ℕ, true, List, None, Some, slice_get, slice_index_or, Result, Bool, OnOk}
 use Rattle.anti_ids.specs.declared.memory.NoMemory.{NoMemory}
 use Rattle.anti_kind.specs.declared.actor.Actor.TheVariants.{Process as Acting}
 use Rattle.anti_kind.specs.declared.actor.Birth.{Birth}
 use Rattle.anti_kind.specs.declared.asking.Asking.{Asking}
 use Rattle.anti_kind.specs.declared.entry.Entry.{Entry}
+use Rattle.anti_kind.specs.Records.{Record}
+use Rattle.anti_kind.specs.Shipments.{next_ship}
+use Rattle.anti_object.specs.declared.object.Object.{Object}
+use Rattle.anti_object.specs.Standing.{object_start}
 use Rattle.anti_app.specs.declared.app.App.{App}
 use Rattle.anti_app.specs.declared.app.Choice.{Choice}
 use Rattle.anti_app.specs.declared.app.Choice.TheVariants.{Go}
@@ -44,6 +48,12 @@ pub record IsNextEntry (app : App) (w : World) (b : Birth) (i : ℕ) (e : Entry)
   pub asking : Asking
   pub next : IsNextOf w b i asking
   pub made : (trace : List Entry) → WorldStands app w trace → made_at app trace (asking_at trace asking.object (Acting b) asking.span asking.call) ≡ Some e
+
+-- it is the next shipment of the object of a number to a region
+pub record IsNextShipment (objects : List (Record Object)) (o region version part : ℕ) : Type 0 where
+  pub recorded : Record Object
+  pub at : recorded ≡ slice_index_or objects o recorded
+  pub next : next_ship (object_start recorded.machine) recorded.history region ≡ Some (version, part)
 
 -- A process was to go on: the entry of its choice was made, or none;
 abbrev pub MakesNext : App → World → Birth → Result Bool NoMemory → World → Type 0

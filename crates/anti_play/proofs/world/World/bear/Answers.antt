@@ -7,7 +7,6 @@ use Rattle.anti_trace.specs.inner.Living.{born_at, Changes, lists}
 use Rattle.anti_play.specs.inner.Standing.{WorldStands}
 use Rattle.anti_trace.proofs.Changed.{changes_then}
 use Rattle.anti_trace.proofs.Followed.{reserved_are}
-use Rattle.anti_play.proofs.MakeEntry.{kept_behind, done_before, lost_before}
 use Rattle.anti_play.proofs.NextEntry.{outcome_is}
 use Rattle.anti_play.proofs.Stepped.{starts_task, may_grow, has_list}
 use Rattle.anti_play.proofs.Chose.{bear_done, chose_kept}
@@ -51,31 +50,26 @@ returns-in_err-process c = λ trace s.
     chose_kept c.args.app.now c.args.self.now _ trace _ _ c.from_residual-in_err-process.ensures.0 s s.objects
     (reserved_are c.args.app.now (lists c.args.self.now.processes) _ trace c.in-Ok.entry.object s.processes c.reserve.ensures.changes) s.trail refl
 
-pub returns-in_err-process-2 : goal.returns-in_err-process-2
-returns-in_err-process-2 c = λ trace s.
-    chose_kept c.args.app.now c.args.self.now _ trace _ _ c.from_residual-in_err-process-2.ensures.0 s
-    (lost_before c.make_entry.result c.in_ok-process.process c.and.result c.and.ensures c.in_err-process-2.field-0.0 c.in_err-process-2.was
-    (c.make_entry.ensures.err c.args.app.now trace s.objects))
+pub returns-in-Err : goal.returns-in-Err
+returns-in-Err c = λ trace s.
+    chose_kept c.args.app.now c.args.self.now _ trace _ _ c.give_up.ensures s
+    (c.in-Err.ensures.err c.args.app.now trace s.objects)
     (reserved_are c.args.app.now (lists c.args.self.now.processes) _ trace c.in-Ok.entry.object s.processes c.reserve.ensures.changes) s.trail refl
 
-pub returns : goal.returns
-returns c = λ trace s.
+pub returns-in-Ok-make_entry : goal.returns-in-Ok-make_entry
+returns-in-Ok-make_entry c = λ trace s.
     let object = c.in-Ok.entry.object in
     let p = c.in_ok-process.process in
-    let last = c.in_ok-process-2.process in
-    let same : last ≡ p = kept_behind c.make_entry.result p c.and.result c.and.ensures last c.in_ok-process-2.was in
     let before = lists c.args.self.now.processes in
     let between = lists c.reserve.new.self in
     let after = lists c.put.new.self in
     let room = c.reserve.ensures.changes in
     let added : Changes before after object (born_at before object ++ p ∷ []) =
     changes_then before between after object (born_at before object ++ p ∷ []) room
-    (subst (λ (z : List Process × Process). Changes between after object (z.0 ++ z.1 ∷ [])) (λ i. (room.here_are i, same i)) c.put.ensures) in
+    (subst (λ (ps : List Process). Changes between after object (ps ++ p ∷ [])) room.here_are c.put.ensures) in
     bear_done c.args.app.now c.requires.sound c.args.self.now _ trace c.args.object c.args.call c.in-Ok.entry p
-    s c.requires.born (made ((goal.at.returns c).In-Ok) trace s)
-    (λ prior later all grows.
-    done_before c.make_entry.result p c.and.result c.and.ensures last c.in_ok-process-2.was
-    (c.make_entry.ensures.stand c.args.app.now prior later all grows))
+    s c.requires.born (made ((goal.at.returns-in-Ok-make_entry c).In-Ok) trace s)
+    (c.in-Ok-make_entry.ensures.stand c.args.app.now)
     added s.trail refl
     (record {
       run = c.in_ok-process.ensures.run;
