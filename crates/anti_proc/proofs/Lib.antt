@@ -10,9 +10,11 @@ pub mod KnownCalls
 pub mod Lineages
 pub mod Looking
 pub mod LooksAreDue
+mod NoneHere
 pub mod Owed
 pub mod Placed
 pub mod Plans
+mod Quieting
 pub mod Running
 pub mod Runs
 pub mod Served

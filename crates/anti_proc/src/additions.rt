@@ -2,7 +2,7 @@ ghost use Rattle.std.specs.Prelude.{◌≡◌, ◌==◌, List, IfOk, option_map}
 ghost use Rattle.std.specs.List.{list_all};
 ghost use Rattle.anti_ids.specs.declared.id.WriteId.{WriteId};
 ghost use Rattle.anti_proc.specs.inner.Adding.{Adds};
-ghost use Rattle.anti_proc.specs.Local.{Setting, Local, held_ids, id_at, row_ids, rows_ids};
+ghost use Rattle.anti_proc.specs.Local.{Setting, Local, held_ids, id_at, removed, row_ids, rows_ids};
 ghost use Rattle.anti_proc.specs.Meaning.{Go, carry};
 ghost use Rattle.anti_proc.specs.inner.Standing.{stage_or};
 
@@ -88,6 +88,15 @@ pub fn add(carried: &mut Lineage, held: Option<&Binding>) -> Result<Option<Stage
 {
     let added = add_held(carried, held);
     next_with(carried, added)
+}
+
+/// Takes the id of what a variable holds out of a lineage, where that is a write. It takes no memory.
+pub fn take_out(carried: &mut Lineage, held: Option<&Binding>)
+    ensures { carried.new ≡ removed (option_map (λ h. h.now) held.entry) carried.old }
+{
+    if let Some(Binding::Wrote(id)) = held {
+        carried.remove(id);
+    }
 }
 
 /// Adds the ids of another lineage to a lineage. Where they are too many the process ends.

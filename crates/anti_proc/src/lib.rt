@@ -10,6 +10,7 @@ mod laws;
 mod messages;
 mod next;
 mod process;
+mod quiet;
 mod run;
 mod state;
 mod statements;

@@ -16,6 +16,7 @@ use crate::given::Given;
 use crate::messages::hear;
 use crate::next::{After, Next, Stage, look_of};
 use crate::state::{Changes, Since, State, set_or};
+use crate::statements::{finds_none, is_idle};
 use crate::task::Task;
 use crate::variables::{Binding, Variable};
 use crate::way::Way;
@@ -82,12 +83,21 @@ impl<'a> Way<'a> {
         ensures before { self.new.before ≡ self.old.before }
     {
         let body = body_of(self.app, self.given.role.service, self.given.role.handler);
+        // a barrier found that it makes no look, and what is carried brings none since
+        let mut none_here = false;
         while let Some(statement) = self.cursor.next_line(body) {
+            if let Some(quiet) = self.repeat_quietly(statement, none_here)? {
+                none_here = self.take(quiet);
+                continue;
+            }
             let turns = self.turns_of(statement);
             self.cursor.enter(turns)?;
+            if is_idle(statement, none_here) {
+                continue;
+            }
             match self.run(statement)? {
                 Some(stage) => return Ok(stage),
-                None => {}
+                None => none_here = finds_none(statement, none_here),
             }
         }
         self.ends()

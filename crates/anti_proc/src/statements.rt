@@ -1,22 +1,50 @@
 ghost use Rattle.std.specs.Prelude.{◌≡◌, ◌+◌, ◌^◌, ◌<◌, ◌≤◌, None, IfOk, OnOk};
-ghost use Rattle.anti_app.specs.Objects.{inbox_of, store_number};
+ghost use Rattle.anti_app.specs.Objects.{inbox_of, store_number, stores_here};
 ghost use Rattle.anti_app.specs.Running.{CanRun};
+ghost use Rattle.anti_ids.specs.List.{plain};
 ghost use Rattle.anti_lang.specs.Bodies.{step_of};
 ghost use Rattle.anti_lang.specs.Program as program;
 ghost use Rattle.anti_lang.specs.Spans.{spans_in};
+ghost use Rattle.anti_shim.specs.Plans.{plan};
 ghost use Rattle.anti_proc.specs.Local.{text_of};
 ghost use Rattle.anti_proc.specs.Meaning.{Go, after_read, asks, looks, planned, post_call};
 ghost use Rattle.anti_proc.specs.inner.Standing.{local_in, setting_in, stage_or};
-ghost use Rattle.anti_proc.specs.inner.Statements.{ComesTo, own_spans, turns_of};
+ghost use Rattle.anti_proc.specs.inner.Statements.{ComesTo, finds_none, is_idle, own_spans, turns_of};
 
 use crate::end::BodyEnd;
 use crate::next::{After, Next, Stage, last_first, look_of};
 use crate::way::Way;
 use anti_app::{inbox_of, store_number, stores_here};
-use anti_ids::{Copies, MOST_DEPTH, Name, NoMemory, Value};
+use anti_ids::{Copies, Lineage, MOST_DEPTH, Name, NoMemory, Value};
 use anti_kind::{Call, Handle, MessageKind};
 use anti_lang::{KeyWord, Statement, ValueWord};
-use anti_shim::plan;
+use anti_shim::{Looks, plan};
+
+/// Whether a statement does nothing beside its block. A barrier does nothing where none of the ids that are carried is of a store here.
+pub fn is_idle(statement: &Statement, none_here: bool) -> bool
+    ensures { result ≡ is_idle (step_of statement.now) none_here }
+{
+    match statement {
+        Statement::Repeat { .. } => true,
+        Statement::IfAbsent { .. } => true,
+        Statement::Barrier => none_here,
+        Statement::DryRun => none_here,
+        _ => false,
+    }
+}
+
+/// Whether none of the ids that are carried is of a store here, behind a statement that came to no call, by whether that is known before it.
+pub fn finds_none(statement: &Statement, none_here: bool) -> bool
+    ensures { result ≡ finds_none (step_of statement.now) none_here }
+{
+    match statement {
+        Statement::Barrier => true,
+        Statement::DryRun => true,
+        Statement::Remove(_) => none_here,
+        Statement::Reply(_) => none_here,
+        _ => false,
+    }
+}
 
 impl<'a> Way<'a> {
     // The call that writes a value under a key, with what the process carries.
@@ -140,6 +168,17 @@ impl<'a> Way<'a> {
         })))
     }
 
+    /// The looks of a barrier by what is carried.
+    pub fn planned(&self, carried: &Lineage) -> Result<Looks, NoMemory>
+        requires { CanRun self.now.app.now }
+        ensures { IfOk result (λ looks. looks ≡ plain (plan (stores_here self.now.app.now
+            self.now.given.now.role.region) carried.now)) }
+    {
+        let alloc = self.given.alloc;
+        let here = stores_here(alloc, self.app, self.given.role.region)?;
+        plan(alloc, here.as_slice(), carried)
+    }
+
     // The first look of a barrier; `None` where it makes none.
     fn first_look(&self, dry: bool) -> Result<Option<Stage>, NoMemory>
         requires { CanRun self.now.app.now }
@@ -148,12 +187,9 @@ impl<'a> Way<'a> {
             ≡ looks self.now.given.now.role.region dry (planned (setting_in self.now)
             (local_in self.now)) (local_in self.now) go) }
     {
-        let alloc = self.given.alloc;
-        let region = self.given.role.region;
-        let here = stores_here(alloc, self.app, region)?;
-        let planned = plan(alloc, here.as_slice(), &self.changes.carried)?;
-        let left = last_first(alloc, planned)?;
-        Ok(look_of(left, region, dry))
+        let planned = self.planned(&self.changes.carried)?;
+        let left = last_first(self.given.alloc, planned)?;
+        Ok(look_of(left, self.given.role.region, dry))
     }
 
     /// How many times the block of a statement is run: not at all where it opens none.

@@ -3,7 +3,7 @@ ghost use Rattle.anti_proc.specs.Local.{Setting, held_ids, held_in, is_absent, n
 ghost use Rattle.anti_proc.specs.Meaning.{Go, carry};
 ghost use Rattle.anti_proc.specs.inner.Standing.{local_in, stage_or, variables_in};
 
-use crate::additions::{add, all_absent};
+use crate::additions::{add, all_absent, take_out};
 use crate::cursor::Cursor;
 use crate::given::Given;
 use crate::next::Stage;
@@ -94,9 +94,8 @@ impl<'a> Way<'a> {
         } }
         ensures same { self.new ≡ record self.old { changes = self.new.changes } }
     {
-        if let Some(Binding::Wrote(id)) = held_since(&self.changes.since, self.before, variable) {
-            self.changes.carried.remove(id);
-        }
+        let held = held_since(&self.changes.since, self.before, variable);
+        take_out(&mut self.changes.carried, held);
     }
 
     /// Whether the block of an `if` is run. It takes no memory.
