@@ -1,6 +1,6 @@
 -- What is known to have come to spans, where one more entry is noted.
 use Rattle.std.proofs.Common.{◌≡◌, ℕ, ◌&&◌, ◌||◌, ◌++◌, Bool, true, false, cond, List, [], ◌∷◌, refl, sym, ap, ◌∙◌, subst}
-use Rattle.std.specs.Prelude.{Some, None}
+use Rattle.std.specs.Prelude.{Option, Some, None}
 use Rattle.std.specs.Option.{option_map_or}
 use Rattle.std.specs.BTreeMap as tree
 use Rattle.std.proofs.lemmas.Bool.{cond-true}
@@ -27,6 +27,17 @@ or_again false b c = ap (λ (t : Bool). b || t) (or_none c)
 
 pub has_alone : (w : WriteId) (ids : List WriteId) → has_id w (ids ++ []) ≡ has_id w ids
 has_alone w ids = has_append w ids [] ∙ or_none (has_id w ids)
+
+-- all is set anew
+module _ (app : App) (trace : List Entry) (m n : AllCame) (key : SpanKey) (ids : List WriteId) (d : Came) (index : ℕ)
+    (updates : tree.Updates key_cmp m.spans n.spans key (Some d)) (carried : d.carried ≡ ids) (since : d.since.items ≡ index ∷ []) where
+  pub set_anew : (q : SpanKey) → ids_known app trace n q ≡ cond (same_key key q) (ids ++ (brought_at app trace index ++ [])) (ids_known app trace m q)
+  set_anew q = ap (λ found. option_map_or (came_ids app trace) found []) (updates.0 q) ∙ by_test (same_key key q) (tree.get key_cmp m.spans q)
+    where
+      by_test : (t : Bool) (was : Option Came)
+          → option_map_or (came_ids app trace) (cond t (Some d) was) [] ≡ cond t (ids ++ (brought_at app trace index ++ [])) (option_map_or (came_ids app trace) was [])
+      by_test true was = ap (λ (xs : List WriteId). xs ++ ids_since app trace d.since.items) carried ∙ ap (λ (is : List ℕ). ids ++ ids_since app trace is) since
+      by_test false was = refl
 
 module _ (app : App) (trace : List Entry) (w : WriteId) where
   has_known : (m : AllCame) (q : SpanKey) (c : Came) → tree.get key_cmp m.spans q ≡ Some c

@@ -14,7 +14,7 @@ use Rattle.anti_kind.specs.declared.call.Reply.{Reply}
 use Rattle.anti_kind.specs.declared.call.Reply.TheVariants as replies
 use Rattle.anti_kind.specs.declared.row.Row.{Row}
 use Rattle.anti_app.specs.declared.app.App.{App}
-use Rattle.anti_proc.specs.Local.{id_at, row_ids, rows_ids}
+use Rattle.anti_proc.specs.Local.{row_ids, rows_ids}
 use Rattle.law_causal.specs.Words.{comes_with, reads}
 use Rattle.anti_past.specs.inner.Came.{IsRear, holds}
 

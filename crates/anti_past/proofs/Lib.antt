@@ -1,6 +1,7 @@
 mod AlongTrail
 mod Asked
 mod CameBefore
+mod Filled
 mod Finding
 mod Fronts
 mod Grown

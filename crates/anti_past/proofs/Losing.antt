@@ -1,6 +1,7 @@
 -- Whether an entry loses an id, by what is known to have come to its span, and what is known behind it.
 use Rattle.std.proofs.Common.{◌≡◌, ℕ, ◌+◌, ◌<◌, ◌≤◌, ◌&&◌, ◌||◌, ◌++◌, Bool, true, false, not, cond, List, [], ◌∷◌, refl, sym, ap, ◌∙◌, subst, inl, inr, arith, length}
-use Rattle.std.specs.Prelude.{None, Some, flat_map, slice_get, take}
+use Rattle.std.specs.Prelude.{None, Option, Some, flat_map, slice_get, take, unwrap_or}
+use Rattle.std.specs.BTreeMap as tree
 use Rattle.std.specs.Cmp.{both_ways}
 use Rattle.std.specs.List.{filter}
 use Rattle.std.specs.Option.{option_map_or}
@@ -21,11 +22,13 @@ use Rattle.law_causal.proofs.Lists.{IsKept, cut_of, kept_at, kept_between, same_
 use Rattle.law_causal.proofs.Processes.{came}
 use Rattle.anti_past.specs.Losses.{Loses}
 use Rattle.anti_past.specs.declared.came.AllCame.{AllCame}
+use Rattle.anti_past.specs.declared.came.Came.{Came}
 use Rattle.anti_past.specs.declared.span_keys.SpanKey.{SpanKey}
-use Rattle.anti_past.specs.inner.Came.{IsKnown, NoneLoses, TellsLoss, brought_at, came_to, holds, ids_known}
-use Rattle.anti_past.specs.inner.Keys.{is_in, key_of, same_key}
+use Rattle.anti_past.specs.inner.Came.{AllCameBefore, Follows, IsKnown, NoneLoses, TellsLoss, brought_at, came_ids, came_to, holds, ids_known}
+use Rattle.anti_past.specs.inner.Keys.{is_in, key_cmp, key_of, same_key}
+use Rattle.anti_past.specs.inner.Walking.{IsHanded}
 use Rattle.anti_past.proofs.Fronts.{taken}
-use Rattle.anti_past.proofs.Grown.{has_alone, or_none}
+use Rattle.anti_past.proofs.Grown.{begun, grown, has_alone, or_none, set_anew}
 use Rattle.anti_past.proofs.Held.{all_has, lost_one}
 use Rattle.anti_past.proofs.InSpan.{earlier_from, earlier_in, in_by_key, in_none, no_process}
 use Rattle.anti_past.proofs.KeyOrder.{same_key_is}
@@ -105,6 +108,10 @@ module _ (app : App) (trace : List Entry) (k : ℕ) (e : Entry) (at : slice_get 
         let earlier = earlier_from key kept.place a k e is kept.passes kept.early in
         record { place = kept.place; entry = a; there = kept.there; earlier = earlier; came = joined.2 }
 
+    -- what is carried into it came before
+    pub carried_came : IsLegalTrace app trace → (w : WriteId) → has_id w (carried_at app trace k e) ≡ true → has_id w (came_to app key (take k trace)) ≡ true
+    carried_came legal w has = brought_came w (came app trace legal k e at w has)
+
     -- ---- an entry at which all is to be carried
 
     module _ (carried : List WriteId) (carries : carried ≡ carried_at app trace k e) (all : AllCame) (known : IsKnown app trace k all) where
@@ -131,7 +138,7 @@ module _ (app : App) (trace : List Entry) (k : ℕ) (e : Entry) (at : slice_get 
         all_held : IsLegalTrace app trace → (w : WriteId) → has_id w carried ≡ has_id w (came_to app key (take k trace))
         all_held legal w =
             both_ways (has_id w carried) (has_id w (came_to app key (take k trace)))
-            (λ has. brought_came w (came app trace legal k e at w (ap (has_id w) (sym carries) ∙ has)))
+            (λ has. carried_came legal w (ap (has_id w) (sym carries) ∙ has))
             (came_held w)
 
         pub held_known : IsLegalTrace app trace → (new : AllCame)
@@ -160,13 +167,46 @@ module _ (app : App) (trace : List Entry) (k : ℕ) (e : Entry) (at : slice_get 
       tells hands true is = held_lost (sym is)
       tells hands false is = found_lost hands (sym is)
 
-      -- where it loses none, all that came is held
-      pub kept : hands_all e.call ≡ true → (Loses app trace k e → ⊥) → holds carried (ids_known app trace all key) ≡ true
-      kept hands none = by_test (holds carried (ids_known app trace all key)) refl
-        where
-          by_test : (t : Bool) → holds carried (ids_known app trace all key) ≡ t → holds carried (ids_known app trace all key) ≡ true
-          by_test true on = on
-          by_test false off = absurd (none (found_lost hands off))
+    -- ---- what is known behind it
+
+    module _ (all new : AllCame) (known : IsKnown app trace k all) (legal : IsLegalTrace app trace) where
+      -- the first entry of its span
+      pub first_told : (handed : Option (List WriteId)) → IsHanded app trace k e handed → tree.get key_cmp all.spans key ≡ None
+          → ((q : SpanKey) → ids_known app trace new q ≡ cond (same_key key q) (unwrap_or handed [] ++ (brought_at app trace k ++ [])) (ids_known app trace all q))
+          → TellsLoss app trace k e false × IsKnown app trace (k + 1) new
+      first_told (Some ids) its none sets =
+          let held : holds ids (ids_known app trace all key) ≡ true = ap (λ found. holds ids (option_map_or (came_ids app trace) found [])) none in
+          (held_lost ids its.1 all known held, held_known ids its.1 all known held legal new sets)
+      first_told None off none sets = (unchecked_lost off, added_known all new known (λ q w. begun app trace w all new key k none q (sets q)))
+
+      -- and a further one
+      module _ (was now : Came) (there : tree.get key_cmp all.spans key ≡ Some was) (updates : tree.Updates key_cmp all.spans new.spans key (Some now)) where
+        its_known : ids_known app trace all key ≡ came_ids app trace was
+        its_known = ap (λ found. option_map_or (came_ids app trace) found []) there
+
+        pub handed_came : (handed : Option (List WriteId)) → IsHanded app trace k e handed → AllCameBefore app trace handed was
+        handed_came (Some ids) its = λ w has.
+            ap (has_id w) (sym its_known) ∙ known key w ∙ carried_came legal w (ap (has_id w) (sym its.1) ∙ has)
+        handed_came None off = tt
+
+        was_held : (t : Bool) → not t ≡ false → t ≡ true
+        was_held true is = refl
+        was_held false is = absurd (cc)
+
+        pub further_told : (handed : Option (List WriteId)) → IsHanded app trace k e handed → (lost : Bool) → Follows app trace k handed was now lost
+            → TellsLoss app trace k e lost × (lost ≡ false → IsKnown app trace (k + 1) new)
+        further_told (Some ids) its lost follows =
+            let held : Bool = holds ids (came_ids app trace was) in (
+              subst (TellsLoss app trace k e) (sym follows.0) (tells ids its.1 all known its.0 held (ap (holds ids) (sym its_known))),
+              λ none.
+                  let all_held : holds ids (ids_known app trace all key) ≡ true = ap (holds ids) its_known ∙ was_held held (sym follows.0 ∙ none) in
+                  let set = follows.1 none in
+                  held_known ids its.1 all known all_held legal new (set_anew app trace all new key ids now k updates set.0 set.1),
+            )
+        further_told None off lost follows = (
+          subst (TellsLoss app trace k e) (sym follows.0) (unchecked_lost off),
+          λ none. added_known all new known (λ q w. grown app trace w all new key was now k updates there follows.1 follows.2 q),
+        )
 
   -- ---- the entries so far
 

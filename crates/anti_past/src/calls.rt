@@ -2,6 +2,7 @@ ghost use Rattle.std.specs.Prelude.{◌≡◌, []};
 ghost use Rattle.std.specs.Option.{option_map_or};
 ghost use Rattle.law_causal.specs.Settled.{found_in, region_named};
 ghost use Rattle.law_causal.specs.Words.{hands_all, reads};
+ghost use Rattle.anti_past.specs.inner.Came.{most_of};
 ghost use Rattle.anti_past.specs.inner.Looking.{names_none};
 
 use anti_ids::Lineage;
@@ -25,6 +26,20 @@ pub fn hands_all(call: &Call) -> bool
         Call::Read { .. } | Call::Scan { .. } | Call::Poll { .. } => true,
         Call::Write { .. } | Call::Look { .. } | Call::Post { .. } => true,
         _ => false,
+    }
+}
+
+/// How many ids a call brings at most, where the call alone tells that: a write its own, and others none. What a row or a message brings
+/// stands in the reply.
+pub fn most_of(call: &Call) -> Option<u32>
+    ensures { result ≡ most_of call.now }
+{
+    match call {
+        Call::Write { .. } => Some(1),
+        Call::Read { .. } | Call::Scan { .. } | Call::Poll { .. } => None,
+        Call::Pull { .. } | Call::Repull { .. } => None,
+        Call::Take { .. } | Call::TakeReply { .. } => None,
+        _ => Some(0),
     }
 }
 

@@ -1,15 +1,14 @@
-ghost use Rattle.std.specs.Prelude.{ℕ, ◌≡◌, ◌+◌, ◌||◌, ◌&&◌, ◌++◌, List, [], ◌∷◌, cond, false, Some, IfOk, OnOk, IsTrue, option_map, slice_get};
-ghost use Rattle.anti_ids.specs.Ids.{has_id};
-ghost use Rattle.anti_ids.specs.declared.id.WriteId.{WriteId};
+ghost use Rattle.std.specs.Prelude.{◌≡◌, ◌+◌, ◌++◌, List, [], ◌∷◌, cond, true, false, Some, IfOk, OnOk, IsTrue, option_map, slice_get, unwrap_or};
 ghost use Rattle.anti_kind.specs.declared.entry.Entry.{Entry};
 ghost use Rattle.anti_app.specs.declared.app.App.{App};
 ghost use Rattle.anti_app.specs.Sound.{is_sound};
 ghost use Rattle.anti_trace.specs.Legal.{IsLegalTrace};
-ghost use Rattle.anti_past.specs.inner.Came.{IsKnown, TellsLoss, brought_at, came_ids, holds, ids_known};
+ghost use Rattle.anti_past.specs.inner.Came.{AllCameBefore, Follows, IsKnown, TellsLoss, brought_at, came_ids, holds, ids_known, most_at};
 ghost use Rattle.anti_past.specs.inner.Keys.{same_key};
 ghost use Rattle.anti_past.specs.inner.Walking.{IsHanded};
 ghost use Rattle.anti_past.specs.declared.span_keys.SpanKey.{SpanKey};
 
+use crate::calls::most_of;
 use crate::holds::{holds_all, holds_since};
 use crate::span_keys::{SpanKey, key_of};
 use anti_app::App;
@@ -45,8 +44,35 @@ fn came_since(alloc: Global, carried: Lineage, index: u32) -> Result<Came, NoMem
     }
 }
 
+// How many ids the entry at an index brings at most, where its call alone tells that.
+fn most_at(trace: &Trace, index: u32) -> Option<u32>
+    ensures { result ≡ most_at trace.now index }
+{
+    if index < trace.len() {
+        return most_of(&trace.at(index).call);
+    }
+    None
+}
+
 impl Came {
-    // Whether all that came is in a lineage.
+    // Whether a lineage has as many ids as came, or more. Where each of its ids came, all that came are in it then. Mostly that spares a
+    // look at the ids.
+    fn is_filled(&self, trace: &Trace, lineage: &Lineage) -> bool
+        ensures { (app : App) → IsTrue result → AllCameBefore app trace.now (Some lineage.now) self.now
+            → holds lineage.now (came_ids app trace.now self.now) ≡ true }
+    {
+        // it tells that the ids ascend, so each stands there once
+        let _ascending = lineage.iter();
+        match self.since.as_slice() {
+            [index] => match most_at(trace, *index) {
+                Some(most) => self.carried.len() + most <= lineage.len(),
+                None => false,
+            },
+            _ => false,
+        }
+    }
+
+    // Whether all that came is in a lineage of which each id came.
     fn is_in(
         &self,
         alloc: Global,
@@ -55,12 +81,55 @@ impl Came {
         lineage: &Lineage,
     ) -> Result<bool, NoMemory>
         requires { IsTrue (is_sound app.now) }
-        ensures { IfOk result (λ answer. answer ≡ holds lineage.now (came_ids app.now trace.now self.now)) }
+        ensures { AllCameBefore app.now trace.now (Some lineage.now) self.now
+            → IfOk result (λ answer. answer ≡ holds lineage.now (came_ids app.now trace.now self.now)) }
     {
+        if self.is_filled(trace, lineage) {
+            return Ok(true);
+        }
         if !holds_all(lineage, &self.carried) {
             return Ok(false);
         }
         holds_since(alloc, app, lineage, trace, self.since.as_slice())
+    }
+
+    // Notes that a lineage is carried into an entry that is given by its index.
+    fn carry(&mut self, alloc: Global, lineage: &Lineage, index: u32) -> Result<(), NoMemory>
+        ensures carried { OnOk result (self.new.carried ≡ lineage.now) }
+        ensures since { OnOk result (self.new.since.items ≡ index ∷ []) }
+    {
+        self.carried = lineage.copy(alloc)?;
+        self.since.clear();
+        match self.since.push(index) {
+            Ok(()) => Ok(()),
+            Err(_) => Err(NoMemory),
+        }
+    }
+
+    // Follows an entry of the span that is given by its index, and tells whether something that came is not handed there.
+    fn follow(
+        &mut self,
+        alloc: Global,
+        app: &App,
+        trace: &Trace,
+        index: u32,
+        handed: Option<&Lineage>,
+    ) -> Result<bool, NoMemory>
+        requires { IsTrue (is_sound app.now) }
+        ensures { AllCameBefore app.now trace.now (option_map (λ ids. ids.now) handed.entry) self.old
+            → IfOk result (Follows app.now trace.now index (option_map (λ ids. ids.now) handed.entry) self.old self.new) }
+    {
+        let Some(lineage) = handed else {
+            return match self.since.push(index) {
+                Ok(()) => Ok(false),
+                Err(_) => Err(NoMemory),
+            };
+        };
+        if !self.is_in(alloc, app, trace, lineage)? {
+            return Ok(true);
+        }
+        self.carry(alloc, lineage, index)?;
+        Ok(false)
     }
 }
 
@@ -71,65 +140,6 @@ impl AllCame {
     {
         AllCame {
             spans: BTreeMap::new(alloc),
-        }
-    }
-
-    // Whether all that came to a span is in a lineage.
-    fn are_in(
-        &self,
-        alloc: Global,
-        app: &App,
-        trace: &Trace,
-        key: &SpanKey,
-        lineage: &Lineage,
-    ) -> Result<bool, NoMemory>
-        requires { IsTrue (is_sound app.now) }
-        ensures { IfOk result (λ answer. answer ≡ holds lineage.now (ids_known app.now trace.now self.now key.now)) }
-    {
-        match self.spans.get(key) {
-            Some(came) => came.is_in(alloc, app, trace, lineage),
-            None => Ok(true),
-        }
-    }
-
-    /// Whether an entry loses an id: one that came to its span, and is not handed.
-    pub fn loses(
-        &self,
-        alloc: Global,
-        app: &App,
-        trace: &Trace,
-        entry: &Entry,
-        handed: Option<&Lineage>,
-    ) -> Result<bool, NoMemory>
-        requires { IsTrue (is_sound app.now) }
-        ensures { (k : ℕ) → slice_get trace.now k ≡ Some entry.now → IsKnown app.now trace.now k self.now
-            → IsHanded app.now trace.now k entry.now (option_map (λ ids. ids.now) handed.entry)
-            → IfOk result (TellsLoss app.now trace.now k entry.now) }
-    {
-        let Some(key) = key_of(entry) else {
-            return Ok(false);
-        };
-        match handed {
-            Some(ids) => {
-                let holds = self.are_in(alloc, app, trace, &key, ids)?;
-                Ok(!holds)
-            }
-            None => Ok(false),
-        }
-    }
-
-    // Adds the index of an entry, which brings what comes to its span.
-    fn add(&mut self, alloc: Global, key: SpanKey, index: u32) -> Result<(), NoMemory>
-        ensures { (app : App) (trace : List Entry) (q : SpanKey) (w : WriteId)
-            → OnOk result (has_id w (ids_known app trace self.new q)
-            ≡ (has_id w (ids_known app trace self.old q) || (same_key key q && has_id w (brought_at app trace index)))) }
-    {
-        match self.spans.get_mut(&key) {
-            Some(came) => match came.since.push(index) {
-                Ok(()) => Ok(()),
-                Err(_) => Err(NoMemory),
-            },
-            None => self.set(alloc, key, Lineage::root(alloc), index),
         }
     }
 
@@ -152,31 +162,53 @@ impl AllCame {
         }
     }
 
-    /// Notes an entry that loses no id and is given by its index: what it brings comes to its span, behind all that is handed there.
-    pub fn note(
+    // Begins with the first entry of a span, which is given by its index. Where nothing is handed, nothing is known to be carried.
+    fn begin(
         &mut self,
         alloc: Global,
+        key: SpanKey,
+        index: u32,
+        handed: Option<&Lineage>,
+    ) -> Result<(), NoMemory>
+        ensures { (app : App) (trace : List Entry) (q : SpanKey)
+            → OnOk result (ids_known app trace self.new q
+            ≡ cond (same_key key q) (unwrap_or (option_map (λ ids. ids.now) handed.entry) [] ++ (brought_at app trace index ++ []))
+            (ids_known app trace self.old q)) }
+    {
+        match handed {
+            Some(lineage) => {
+                let carried = lineage.copy(alloc)?;
+                self.set(alloc, key, carried, index)
+            }
+            None => self.set(alloc, key, Lineage::root(alloc), index),
+        }
+    }
+
+    /// Follows an entry that is given by its index, and tells whether it loses an id: one that came to its span, and is not handed. Where
+    /// it loses none, what it brings comes to its span, behind all that is handed there.
+    pub fn follow(
+        &mut self,
+        alloc: Global,
+        app: &App,
+        trace: &Trace,
         index: u32,
         entry: &Entry,
         handed: Option<&Lineage>,
-    ) -> Result<(), NoMemory>
-        ensures { (app : App) (trace : List Entry) → IsLegalTrace app trace → slice_get trace index ≡ Some entry.now
-            → IsHanded app trace index entry.now (option_map (λ ids. ids.now) handed.entry)
-            → TellsLoss app trace index entry.now false → IsKnown app trace index self.old
-            → OnOk result (IsKnown app trace (index + 1) self.new) }
+    ) -> Result<bool, NoMemory>
+        requires { IsTrue (is_sound app.now) }
+        ensures { IsLegalTrace app.now trace.now → slice_get trace.now index ≡ Some entry.now
+            → IsHanded app.now trace.now index entry.now (option_map (λ ids. ids.now) handed.entry) → IsKnown app.now trace.now index self.old
+            → IfOk result (λ lost. TellsLoss app.now trace.now index entry.now lost
+            × (lost ≡ false → IsKnown app.now trace.now (index + 1) self.new)) }
     {
         let Some(key) = key_of(entry) else {
-            return Ok(());
+            return Ok(false);
         };
-        match handed {
-            Some(ids) => {
-                let carried = ids.copy(alloc)?;
-                self.set(alloc, key, carried, index)?;
-                Ok(())
-            }
+        match self.spans.get_mut(&key) {
+            Some(came) => came.follow(alloc, app, trace, index, handed),
             None => {
-                self.add(alloc, key, index)?;
-                Ok(())
+                self.begin(alloc, key, index, handed)?;
+                Ok(false)
             }
         }
     }

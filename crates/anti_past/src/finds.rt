@@ -1,22 +1,22 @@
-ghost use Rattle.std.specs.Prelude.{◌≡◌, ◌||◌, ◌&&◌, [], OnOk};
-ghost use Rattle.anti_ids.specs.Ids.{has_id, is_id};
+ghost use Rattle.std.specs.Prelude.{◌≡◌, ◌||◌, ◌&&◌, [], cond, OnOk};
+ghost use Rattle.anti_ids.specs.Ids.{has_id};
 ghost use Rattle.anti_ids.specs.declared.id.WriteId.{WriteId};
 ghost use Rattle.anti_past.specs.declared.span_keys.SpanKey.{SpanKey};
-ghost use Rattle.anti_past.specs.inner.Found.{AreFound, finds, has_found};
+ghost use Rattle.anti_past.specs.inner.Found.{AreFound, finds, found_by, has_found};
 ghost use Rattle.anti_past.specs.inner.Keys.{same_key};
 
 use crate::calls::found_in;
-use crate::find::Find;
+use crate::span_finds::SpanFinds;
 use crate::span_keys::{SpanKey, key_of};
-use anti_ids::{Lineage, NoMemory, WriteId};
+use anti_ids::{Lineage, NoMemory};
 use anti_kind::Entry;
 use std::alloc::Global;
-use std::collections::BTreeSet;
+use std::collections::BTreeMap;
 
-/// What the looks of a trace found so far, each id under the span of its look.
+/// What the looks of a trace found so far, under their spans.
 #[derive(Drop)]
 pub struct Finds {
-    pub(crate) finds: BTreeSet<Find>,
+    pub(crate) spans: BTreeMap<SpanKey, SpanFinds>,
 }
 
 impl Finds {
@@ -25,41 +25,43 @@ impl Finds {
         ensures { AreFound [] result }
     {
         Finds {
-            finds: BTreeSet::new(alloc),
+            spans: BTreeMap::new(alloc),
         }
     }
 
-    /// Whether a look of a span found an id.
-    pub fn has(&self, span: SpanKey, id: &WriteId) -> bool
-        ensures { result ≡ has_found self.now span id.now }
+    /// What the looks of a span found; `None` where it had none.
+    pub fn of(&self, span: &SpanKey) -> Option<&SpanFinds>
+        ensures { (w : WriteId) → found_by result w ≡ has_found self.now span.now w }
     {
-        self.finds.contains(&Find { span, id: *id })
+        self.spans.get(span)
     }
 
-    // Adds an id that a look of a span found.
-    fn add_id(&mut self, span: SpanKey, id: WriteId) -> Result<(), NoMemory>
+    // Begins with the ids that the first look of a span found.
+    fn begin(&mut self, alloc: Global, span: SpanKey, ids: &Lineage) -> Result<(), NoMemory>
         ensures { (q : SpanKey) (w : WriteId) → OnOk result (has_found self.new q w
-            ≡ (has_found self.old q w || (same_key span q && is_id w id))) }
+            ≡ cond (same_key span q) (has_id w ids.now) (has_found self.old q w)) }
     {
-        match self.finds.insert(Find { span, id }) {
+        let mut found = SpanFinds::new(alloc);
+        found.add_all(alloc, ids)?;
+        match self.spans.insert(span, found) {
             Ok(_) => Ok(()),
             Err(_) => Err(NoMemory),
         }
     }
 
     // Adds the ids that a look of a span found.
-    fn add_all(&mut self, span: SpanKey, ids: &Lineage) -> Result<(), NoMemory>
+    fn add_all(&mut self, alloc: Global, span: SpanKey, ids: &Lineage) -> Result<(), NoMemory>
         ensures { (q : SpanKey) (w : WriteId) → OnOk result (has_found self.new q w
             ≡ (has_found self.old q w || (same_key span q && has_id w ids.now))) }
     {
-        for id in ids.iter() {
-            self.add_id(span, id)?;
+        match self.spans.get_mut(&span) {
+            Some(found) => found.add_all(alloc, ids),
+            None => self.begin(alloc, span, ids),
         }
-        Ok(())
     }
 
     /// Adds what an entry found, where it is a look of a process that found all that it looked for.
-    pub fn add(&mut self, entry: &Entry) -> Result<(), NoMemory>
+    pub fn add(&mut self, alloc: Global, entry: &Entry) -> Result<(), NoMemory>
         ensures { (q : SpanKey) (w : WriteId) → OnOk result (has_found self.new q w
             ≡ (has_found self.old q w || finds q w entry.now)) }
     {
@@ -69,6 +71,6 @@ impl Finds {
         let Some(span) = key_of(entry) else {
             return Ok(());
         };
-        self.add_all(span, ids)
+        self.add_all(alloc, span, ids)
     }
 }

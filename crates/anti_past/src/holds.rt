@@ -27,10 +27,10 @@ fn meets(lineage: &Lineage, rest: &mut Ids<'_>, id: &WriteId) -> bool
     ensures rear { IsRear lineage.now rest.new }
 {
     while let Some(met) = rest.next() {
-        if goes_behind(&met, id) {
+        if goes_behind(met, id) {
             return false;
         }
-        if met.version == id.version && met == *id {
+        if met.version == id.version && met == id {
             return true;
         }
     }
@@ -52,7 +52,7 @@ pub fn holds_all(lineage: &Lineage, ids: &Lineage) -> bool
 {
     let mut rest = lineage.iter();
     for id in ids.iter() {
-        if !holds_next(lineage, &mut rest, &id) {
+        if !holds_next(lineage, &mut rest, id) {
             return false;
         }
     }

@@ -20,7 +20,7 @@ fn found_before(alloc: Global, trace: &Trace, index: u32) -> Result<Finds, NoMem
 {
     let mut found = Finds::new(alloc);
     for at in 0..index {
-        found.add(trace.at(at))?;
+        found.add(alloc, trace.at(at))?;
     }
     Ok(found)
 }

@@ -65,15 +65,17 @@ impl Walk {
     {
         let entry = trace.at(index);
         let handed = self.cursor.handed(trail, entry);
-        if self.came.loses(self.alloc, app, trace, entry, handed)? {
+        if self
+            .came
+            .follow(self.alloc, app, trace, index, entry, handed)?
+        {
             return Ok(Step::Loss(Mark {
                 object: entry.object,
                 place: entry.place,
             }));
         }
         let past = self.found.past(self.alloc, app, entry, handed)?;
-        self.came.note(self.alloc, index, entry, handed)?;
-        self.found.add(entry)?;
+        self.found.add(self.alloc, entry)?;
         self.cursor.go_past(entry);
         Ok(Step::Goes(past))
     }

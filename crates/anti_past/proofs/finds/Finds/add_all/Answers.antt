@@ -1,16 +1,27 @@
-use Rattle.std.proofs.Common.{◌≡◌, ◌&&◌, ◌||◌, List, ◌∷◌, sym, ap, ◌∙◌}
+use Rattle.std.proofs.Common.{cond, ap, ◌∙◌, refl, sym, subst}
+use Rattle.std.specs.Prelude.{IsSome, Option}
+use Rattle.std.proofs.lemmas.Result.{on_ok_weaker}
 use Rattle.anti_ids.specs.Ids.{has_id}
-use Rattle.anti_ids.specs.declared.id.WriteId.{WriteId}
+use Rattle.anti_past.specs.declared.finds.Finds.{Finds}
+use Rattle.anti_past.specs.declared.span_finds.SpanFinds.{SpanFinds}
 use Rattle.anti_past.specs.inner.Found.{has_found}
 use Rattle.anti_past.specs.inner.Keys.{same_key}
-use Rattle.anti_past.proofs.Finding.{found_step}
+use Rattle.anti_past.proofs.Finding.{found_first, found_further}
 use Rattle.anti_past.proofs.finds.Finds.add_all.Goals as goal
 
-pub loop-id-preserved : goal.loop-id-preserved
-loop-id-preserved c = λ q w.
+pub returns-in-Some : goal.returns-in-Some
+returns-in-Some c = λ q w.
+    let now : SpanFinds = c.add_all.new.self in
+    let new : Finds = record { spans = c.get_mut.follows.lender now } in
+    on_ok_weaker c.add_all.result
+    (λ adds. found_further c.args.self.now new c.args.span c.args.ids.now q w c.in-Some.found.now now (sym c.in-Some.ensures.value)
+    ((c.get_mut.follows.holds now).3 (subst (λ (o : Option SpanFinds). IsSome o) c.in-Some.ensures.value refl)) adds)
+    (c.add_all.ensures w)
+
+pub returns-in-None : goal.returns-in-None
+returns-in-None c = λ q w.
     let span = c.args.span in
-    let old = c.loop-id.self in
-    let step : c.loop-id.id-iterator ≡ c.in-Some.id ∷ c.next.new.self = c.in-Some.ensures.steps in
-    found_step old c.add_id.new.self span c.in-Some.id c.next.new.self q w (c.in_ok-add_id.ensures q w)
-    ∙ ap (λ (ids : List WriteId). has_found old q w || same_key span q && has_id w ids) (sym step)
-    ∙ c.loop-id.invariant q w
+    on_ok_weaker c.begin.result
+    (λ is. found_first c.args.self.now c.begin.new.self span c.args.ids.now q w (sym c.in-None.ensures.value)
+    (is ∙ ap (λ spans. cond (same_key span q) (has_id w c.args.ids.now) (has_found (record { spans = spans }) q w)) c.get_mut.follows.holds-at-none))
+    (c.begin.ensures q w)
