@@ -1,16 +1,13 @@
--- The writes of the past of a read that are not listed, as their numbers are found by their ids.
-use Rattle.std.proofs.Common.{◌≡◌, ℕ, ◌<◌, ◌++◌, ◌&&◌, ◌||◌, Bool, true, false, not, List, [], ◌∷◌, length, get_or, refl, sym, ap, ap₂, ◌∙◌, arith}
-use Rattle.std.specs.Prelude.{Option, Some, None, slice_get}
+-- The writes of the past of a read, as their numbers are found by their ids.
+use Rattle.std.proofs.Common.{◌≡◌, ℕ, ◌<◌, ◌++◌, ◌||◌, Bool, true, false, List, [], ◌∷◌, length, get_or, refl, sym, ap, ap₂, ◌∙◌, subst, arith}
+use Rattle.std.specs.Prelude.{◌==◌, Option, Some, None, slice_get}
 use Rattle.std.specs.List.{list_any}
 use Rattle.std.specs.Option.{option_and_then, option_map_or}
-use Rattle.std.specs.Ordering.{nat_cmp}
-use Rattle.std.specs.BTreeMap as tree
-use Rattle.std.specs.BTreeSet.{BTreeSet, contains}
-use Rattle.std.proofs.lemmas.Bool.{and_parts, both_ways, eq-eqb, eqb-true}
+use Rattle.std.proofs.lemmas.Bool.{both_ways, eq-eqb, eqb-true}
 use Rattle.std.proofs.lemmas.Cmp.{eq_by_cmp_equiv}
 use Rattle.std.proofs.lemmas.List.Folds.{list_any-append}
 use Rattle.std.proofs.lemmas.Option.{none-some, slice_get-get_or, slice_get_within}
-use Rattle.anti_ids.specs.Ids.{has_id, id_cmp, is_id}
+use Rattle.anti_ids.specs.Ids.{has_id, is_id}
 use Rattle.anti_ids.specs.declared.id.WriteId.{WriteId}
 use Rattle.anti_ids.proofs.IdLemmas.{id_total}
 use Rattle.anti_kind.specs.declared.call.Call.{Call}
@@ -18,6 +15,7 @@ use Rattle.anti_kind.specs.declared.call.Call.TheVariants as calls
 use Rattle.anti_kind.specs.declared.call.Reply.{Reply}
 use Rattle.anti_kind.specs.declared.call.Reply.TheVariants as replies
 use Rattle.anti_kind.specs.declared.entry.Entry.{Entry}
+use Rattle.anti_kind.proofs.Rows.{or_false}
 use Rattle.anti_app.specs.declared.app.App.{App}
 use Rattle.anti_proc.specs.Local.{rows_ids}
 use Rattle.law_causal.specs.Carried.{carried_at}
@@ -27,30 +25,63 @@ use Rattle.anti_past.specs.Pasts.{ArePastsOf}
 use Rattle.anti_past.specs.declared.before_reads.Past.{Past}
 use Rattle.law_serial.specs.Order.{is_in_past, is_some_id, past_of, writes_at}
 use Rattle.anti_order.specs.declared.writes.Writes.{Writes}
-use Rattle.anti_order.specs.inner.Fresh.{AddsFresh, carried_in, is_fresh, is_here, is_listed, is_numbered}
-use Rattle.anti_order.specs.inner.Writes.{AreWritesOf, IsWriteAt, number_at}
+use Rattle.anti_order.specs.inner.NumberSets.{has, room, room_for}
+use Rattle.anti_order.specs.inner.PastWrites.{AddsNumbers, carried_in, is_here, is_numbered}
+use Rattle.anti_order.specs.inner.Writes.{AreWritesOf, IsWriteAt, number_at, number_in}
 use Rattle.anti_order.proofs.Numbers.{number_within, own_number}
 use Rattle.anti_order.proofs.Places.{at_place, is_at_entry}
 
 -- ---- what is added
 
-or_both : (a x y n : Bool) → ((a || (x && n)) || (y && n)) ≡ (a || ((x || y) && n))
-or_both true x y n = refl
-or_both false true y true = refl
-or_both false true true false = refl
-or_both false true false false = refl
-or_both false false y n = refl
+or_assoc : (a b c : Bool) → ((a || b) || c) ≡ (a || (b || c))
+or_assoc true b c = refl
+or_assoc false b c = refl
 
-module _ (writes : Writes) (listed : BTreeSet ℕ) where
+same_tests : (s t : Bool) → (s ≡ true → t ≡ true) → (t ≡ true → s ≡ true) → s ≡ t
+same_tests true t one other = sym (one refl)
+same_tests false true one other = other refl
+same_tests false false one other = refl
+
+module _ (writes : Writes) where
   -- The writes of some ids and then those of others are those of both.
-  pub adds_both : (xs ys : List WriteId) (a b c : BTreeSet ℕ) → AddsFresh writes listed xs a b → AddsFresh writes listed ys b c
-      → AddsFresh writes listed (xs ++ ys) a c
-  adds_both xs ys a b c first second i =
-      let stands : WriteId → Bool = is_numbered writes i in
-      second i
-      ∙ ap (λ (t : Bool). t || is_fresh writes listed ys i) (first i)
-      ∙ or_both (contains nat_cmp a i) (list_any stands xs) (list_any stands ys) (not (contains nat_cmp listed i))
-      ∙ ap (λ (t : Bool). contains nat_cmp a i || (t && not (contains nat_cmp listed i))) (sym (list_any-append stands xs ys))
+  pub adds_both : (xs ys : List WriteId) (a b c : List ℕ) → AddsNumbers writes xs a b → AddsNumbers writes ys b c → AddsNumbers writes (xs ++ ys) a c
+  adds_both xs ys a b c first second = record {
+    added = λ n low.
+        second.added n (subst (λ (m : ℕ). n < m) (sym first.room) low)
+        ∙ ap (λ (t : Bool). t || list_any (is_numbered writes n) ys) (first.added n low)
+        ∙ or_assoc (has a n) (list_any (is_numbered writes n) xs) (list_any (is_numbered writes n) ys)
+        ∙ ap (λ (t : Bool). has a n || t) (sym (list_any-append (is_numbered writes n) xs ys));
+    room = second.room ∙ first.room;
+  }
+
+  pub adds_none : (a : List ℕ) → AddsNumbers writes [] a a
+  adds_none a = record { added = λ n low. sym (or_false (has a n)); room = refl }
+
+  -- the number of one id, where it has one
+  pub adds_one : (w : WriteId) (a b : List ℕ) (number : ℕ) → number_in writes w ≡ Some number
+      → ((n : ℕ) → n < room a → has b n ≡ (n == number || has a n)) → room b ≡ room a → AddsNumbers writes (w ∷ []) a b
+  adds_one w a b number is inserted same = record {
+    added = λ n low.
+        inserted n low
+        ∙ swap (n == number) (has a n)
+        ∙ ap₂ (λ (s t : Bool). s || t) (refl) (eqb_comm n number ∙ sym (ap (λ (o : Option ℕ). is_here o n) is) ∙ sym (or_false (is_numbered writes n w)));
+    room = same;
+  }
+    where
+      swap : (s t : Bool) → (s || t) ≡ (t || s)
+      swap true true = refl
+      swap true false = refl
+      swap false true = refl
+      swap false false = refl
+
+      eqb_comm : (n m : ℕ) → (n == m) ≡ (m == n)
+      eqb_comm n m = same_tests (n == m) (m == n) (λ is. eq-eqb m n (sym (eqb-true n m is))) (λ is. eq-eqb n m (sym (eqb-true m n is)))
+
+  pub adds_unnumbered : (w : WriteId) (a : List ℕ) → number_in writes w ≡ None → AddsNumbers writes (w ∷ []) a a
+  adds_unnumbered w a none = record {
+    added = λ n low. sym (or_false (has a n)) ∙ ap (λ (t : Bool). has a n || t) (sym (ap (λ (o : Option ℕ). is_here o n || false) none));
+    room = refl;
+  }
 
 -- ---- the number of an id
 
@@ -60,11 +91,6 @@ here_is (Some j) i here = ap Some (eqb-true j i here)
 
 is_here-itself : (o : Option ℕ) (i : ℕ) → o ≡ Some i → is_here o i ≡ true
 is_here-itself o i is = ap (λ (found : Option ℕ). is_here found i) is ∙ eq-eqb i i refl
-
-same_tests : (s t : Bool) → (s ≡ true → t ≡ true) → (t ≡ true → s ≡ true) → s ≡ t
-same_tests true t one other = sym (one refl)
-same_tests false true one other = other refl
-same_tests false false one other = refl
 
 -- ---- two lists with an id in common
 
@@ -115,9 +141,9 @@ module _ (trace : List Entry) (writes : Writes) (are : AreWritesOf trace writes)
     found_at w =
         same_tests (is_numbered writes (number_at trace i) w) (is_at (λ a. has_id w (wrote a)) trace i)
         (λ here.
-        let (j, has, same) = are.found w (number_at trace i) (here_is (tree.get id_cmp writes.by_id w) (number_at trace i) here) in
+        let (j, has, same) = are.found w (number_at trace i) (here_is (number_in writes w) (number_at trace i) here) in
         ap (is_at (λ a. has_id w (wrote a)) trace) (own_number trace i j is (written w trace j has) (sym same)) ∙ has)
-        (λ at. is_here-itself (tree.get id_cmp writes.by_id w) (number_at trace i) (are.known w i at))
+        (λ at. is_here-itself (number_in writes w) (number_at trace i) (are.known w i at))
 
     found_all : (ids : List WriteId)
         → list_any (is_numbered writes (number_at trace i)) ids ≡ list_any (λ w. is_at (λ a. has_id w (wrote a)) trace i) ids
@@ -133,42 +159,20 @@ module _ (trace : List Entry) (writes : Writes) (are : AreWritesOf trace writes)
         by_entry None = any_false ids
         by_entry (Some a) = share ids (wrote a)
 
-  -- a number of one of some ids is that of a write
-  low_number : (n : ℕ) (ids : List WriteId) → list_any (is_numbered writes n) ids ≡ true → n < length writes.marks.items
-  low_number n [] has = absurd (cc)
-  low_number n (w ∷ ws) has = by_test (is_numbered writes n w) refl has (low_number n ws)
-    where
-      by_test : (t : Bool) → is_numbered writes n w ≡ t → (t || list_any (is_numbered writes n) ws) ≡ true
-          → (list_any (is_numbered writes n) ws ≡ true → n < length writes.marks.items) → n < length writes.marks.items
-      by_test true here has later =
-          let (j, at, same) = are.found w n (here_is (tree.get id_cmp writes.by_id w) n here) in
-          let low = number_within trace writes.marks.items are.marks j (written w trace j at) in
-          omega (arith, low, same)
-      by_test false here has later = later has
-
-  -- Numbers that were added to none are fresh.
-  module _ (listed : BTreeSet ℕ) (ids : List WriteId) (none some : BTreeSet ℕ) (empty : none.keys ≡ [])
-      (adds : AddsFresh writes listed ids none some) where
-    are_fresh : (n : ℕ) → contains nat_cmp some n ≡ (list_any (is_numbered writes n) ids && not (contains nat_cmp listed n))
-    are_fresh n =
-        let nothing : contains nat_cmp none n ≡ false = λ j. contains nat_cmp (record { keys = empty j }) n in
-        adds n ∙ ap (λ (t : Bool). t || is_fresh writes listed ids n) nothing
-
-    -- They are numbers of writes.
-    pub fresh_within : (n : ℕ) → contains nat_cmp some n ≡ true → n < length writes.marks.items
-    fresh_within n has =
-        low_number n ids (and_parts (list_any (is_numbered writes n) ids) (not (contains nat_cmp listed n)) (sym (are_fresh n) ∙ has)).0
-
-    -- For the past of a read they are those of its writes.
-    pub fresh_of_past : (app : App) (r : ℕ) (e : Entry) → slice_get trace r ≡ Some e → ids ≡ past_of app trace r e
-        → (i : ℕ) → writes_at trace i ≡ true
-        → contains nat_cmp some (number_at trace i) ≡ (is_in_past app trace r i && not (is_listed trace listed i))
-    fresh_of_past app r e at past i is =
-        let in_past : is_at (wrote_one ids) trace i ≡ is_in_past app trace r i =
-        ap (λ (ws : List WriteId). is_at (wrote_one ws) trace i) past
-        ∙ sym (is_at_entry (λ e. is_at (wrote_one (past_of app trace r e)) trace i) trace r e at) in
-        are_fresh (number_at trace i)
-        ∙ ap (λ (t : Bool). t && not (is_listed trace listed i)) (found_any i is ids ∙ in_past)
+  -- Where the numbers of the ids of the past of a read were added to none, they are those of its writes.
+  pub past_has : (ids : List WriteId) (none some : List ℕ) → ((n : ℕ) → has none n ≡ false) → room none ≡ room_for (length writes.marks.items)
+      → AddsNumbers writes ids none some → (app : App) (r : ℕ) (e : Entry) → slice_get trace r ≡ Some e → ids ≡ past_of app trace r e
+      → (i : ℕ) → writes_at trace i ≡ true → has some (number_at trace i) ≡ is_in_past app trace r i
+  past_has ids none some empty room_is adds app r e at past i is =
+      let low = number_within trace writes.marks.items are.marks i is in
+      let within : number_at trace i < room none = omega (arith, low, room_is) in
+      let in_past : is_at (wrote_one ids) trace i ≡ is_in_past app trace r i =
+      ap (λ (ws : List WriteId). is_at (wrote_one ws) trace i) past
+      ∙ sym (is_at_entry (λ e. is_at (wrote_one (past_of app trace r e)) trace i) trace r e at) in
+      adds.added (number_at trace i) within
+      ∙ ap (λ (t : Bool). t || list_any (is_numbered writes (number_at trace i)) ids) (empty (number_at trace i))
+      ∙ found_any i is ids
+      ∙ in_past
 
 -- ---- what is carried into a read, and what it shows
 

@@ -1,14 +1,15 @@
 mod AnswersMore
+mod Bits
 mod Counted
 mod Explaining
 mod InPast
-mod Listed
+mod Kept
 mod Listing
 mod MarksKnown
 mod Noting
 mod Numbers
 mod Places
 mod ReadPlaces
-mod Runs
 mod Unsettled
+mod Versions
 mod Worked

@@ -1,9 +1,8 @@
 -- The order of all writes and some reads, as it is made read by read.
 use Rattle.std.proofs.Common.{◌≡◌, ℕ, ◌<◌, ◌++◌, ◌&&◌, ◌||◌, Bool, true, false, not, List, [], ◌∷◌, length, map, refl, sym, ap, ap₂, ◌∙◌}
-use Rattle.std.specs.Prelude.{Option, Some, slice_get}
-use Rattle.std.specs.List.{filter, list_any}
-use Rattle.std.specs.Ordering.{nat_cmp}
-use Rattle.std.specs.BTreeSet.{BTreeSet, IsOrdered, contains, keys}
+use Rattle.std.specs.Prelude.{Option, Some, nat_lt}
+use Rattle.std.specs.List.{filter}
+use Rattle.std.proofs.lemmas.Bool.{lt-ltb}
 use Rattle.std.proofs.lemmas.List.{append_assoc, map-append}
 use Rattle.std.proofs.lemmas.List.Elements.{filter_agree}
 use Rattle.anti_kind.specs.declared.entry.Entry.{Entry}
@@ -13,21 +12,31 @@ use Rattle.anti_trace.proofs.Filters.{filter-filter}
 use Rattle.law_causal.specs.Reads.{places}
 use Rattle.law_serial.specs.Order.{is_in_past, listing, order_of, writes_at}
 use Rattle.anti_order.specs.Answers.{AreMarksOf, mark_at}
-use Rattle.anti_order.specs.inner.Fresh.{is_listed, still_to_list}
-use Rattle.anti_order.specs.inner.Runs.{runs}
+use Rattle.anti_order.specs.inner.NumberSets.{has}
+use Rattle.anti_order.specs.inner.PastWrites.{is_listed, still_to_list}
+use Rattle.anti_order.specs.inner.Pieces.{kept_at}
 use Rattle.anti_order.specs.inner.Writes.{number_at, write_places}
-use Rattle.anti_order.proofs.Listed.{is_key, past_listed}
-use Rattle.anti_order.proofs.Numbers.{all_numbered, marks_of_set}
-use Rattle.anti_order.proofs.Runs.{runs-map, runs_of_set}
+use Rattle.anti_order.proofs.Kept.{kept_at-map, kept_filter}
+use Rattle.anti_order.proofs.Numbers.{all_numbered, number_within}
 
 -- two tests that agree where a first one passes
 and_agrees : (w a b : Bool) → (w ≡ true → a ≡ b) → (w && a) ≡ (w && b)
 and_agrees true a b same = same refl
 and_agrees false a b same = refl
 
+not_not : (t : Bool) → not (not t) ≡ t
+not_not true = refl
+not_not false = refl
+
+-- Of those that are left, those of a past are no more.
+not_left : (l p : Bool) → not (l && not p) ≡ (not l || p)
+not_left true true = refl
+not_left true false = refl
+not_left false p = refl
+
 -- whether a write is not listed, and whether it is of a past too
-abbrev left : (ℕ → Bool) → (ℕ → Bool) → ℕ → Bool
-left writes listed i = writes i && not (listed i)
+abbrev unlisted : (ℕ → Bool) → (ℕ → Bool) → ℕ → Bool
+unlisted writes listed i = writes i && not (listed i)
 
 abbrev fresh : (ℕ → Bool) → (ℕ → Bool) → (ℕ → Bool) → ℕ → Bool
 fresh writes past listed i = writes i && (past i && not (listed i))
@@ -37,7 +46,7 @@ module _ (writes : ℕ → Bool) (past : ℕ → ℕ → Bool) (all : List ℕ) 
   listing_agrees : (reads : List ℕ) (f g : ℕ → Bool) → ((i : ℕ) → writes i ≡ true → f i ≡ g i)
       → listing writes past all reads f ≡ listing writes past all reads g
   listing_agrees [] f g same =
-      filter_agree (left writes f) (left writes g) (λ i. and_agrees (writes i) (not (f i)) (not (g i)) (λ w. ap not (same i w))) all
+      filter_agree (unlisted writes f) (unlisted writes g) (λ i. and_agrees (writes i) (not (f i)) (not (g i)) (λ w. ap not (same i w))) all
   listing_agrees (r ∷ rs) f g same =
       let block : (i : ℕ) → fresh writes (past r) f i ≡ fresh writes (past r) g i =
       λ i. and_agrees (writes i) (past r i && not (f i)) (past r i && not (g i)) (λ w. ap (λ (t : Bool). past r i && not t) (same i w)) in
@@ -46,62 +55,58 @@ module _ (writes : ℕ → Bool) (past : ℕ → ℕ → Bool) (all : List ℕ) 
 
 -- ---- of a trace
 
-module _ (app : App) (trace : List Entry) where
+module _ (app : App) (trace : List Entry) (marks : List Mark) (are : AreMarksOf trace (write_places trace) marks) where
+  -- The marks whose numbers pass a test are those of the writes of which another test says the same.
+  kept_marks : (test : ℕ → Bool) (other : ℕ → Bool) → ((i : ℕ) → writes_at trace i ≡ true → test (number_at trace i) ≡ other i)
+      → map Some (kept_at test 0 marks) ≡ map (mark_at trace) (filter (λ i. writes_at trace i && other i) (places trace))
+  kept_marks test other same =
+      sym (kept_at-map test (λ (m : Mark). Some m) 0 marks)
+      ∙ ap (kept_at test 0) (sym are)
+      ∙ kept_at-map test (mark_at trace) 0 (write_places trace)
+      ∙ ap (map (mark_at trace))
+      (kept_filter test (number_at trace) 0 (write_places trace) (all_numbered trace)
+      ∙ filter-filter (λ i. test (number_at trace i)) (writes_at trace) (places trace)
+      ∙ filter_agree (λ i. writes_at trace i && test (number_at trace i)) (λ i. writes_at trace i && other i)
+      (λ i. and_agrees (writes_at trace i) (test (number_at trace i)) (other i) (same i))
+      (places trace))
+
   -- at the start
-  pub none_yet : (reads : List ℕ) (listed : BTreeSet ℕ) → keys listed ≡ [] → still_to_list app trace reads listed ≡ order_of app trace reads
-  none_yet reads listed none =
-      listing_agrees (writes_at trace) (is_in_past app trace) (places trace) reads (is_listed trace listed) (λ i. false)
-      (λ i w. ap (λ (ns : List ℕ). list_any (is_key (number_at trace i)) ns) none)
+  pub none_yet : (reads left : List ℕ) → ((n : ℕ) → has left n ≡ nat_lt n (length marks)) → still_to_list app trace reads left ≡ order_of app trace reads
+  none_yet reads left all =
+      listing_agrees (writes_at trace) (is_in_past app trace) (places trace) reads (is_listed trace left) (λ i. false)
+      (λ i w. ap not (all (number_at trace i) ∙ lt-ltb (number_at trace i) (length marks) (number_within trace marks are i w)))
 
-  module _ (marks : List Mark) (are : AreMarksOf trace (write_places trace) marks) where
-    -- one read, behind the writes of its past that were added to those listed
-    module _ (r : ℕ) (added old new : BTreeSet ℕ) (ordered : IsOrdered nat_cmp added)
-        (within : (n : ℕ) → contains nat_cmp added n ≡ true → n < length marks)
-        (members : (i : ℕ) → writes_at trace i ≡ true
-        → contains nat_cmp added (number_at trace i) ≡ (is_in_past app trace r i && not (is_listed trace old i)))
-        (listed : (n : ℕ) → contains nat_cmp new n ≡ (contains nat_cmp old n || contains nat_cmp added n)) where
-      abbrev test : ℕ → Bool
-      test = fresh (writes_at trace) (is_in_past app trace r) (is_listed trace old)
+  -- one read, behind the writes of its past that were left
+  module _ (r : ℕ) (past old new : List ℕ) (members : (i : ℕ) → writes_at trace i ≡ true → has past (number_at trace i) ≡ is_in_past app trace r i)
+      (left : (n : ℕ) → has new n ≡ (has old n && not (has past n))) where
+    abbrev added : List Mark
+    added = kept_at (λ n. has past n && has old n) 0 marks
 
-      block : map (slice_get marks) (keys added) ≡ map (mark_at trace) (filter test (places trace))
-      block =
-          marks_of_set trace marks are added ordered within
-          ∙ ap (map (mark_at trace))
-          (filter-filter (λ i. contains nat_cmp added (number_at trace i)) (writes_at trace) (places trace)
-          ∙ filter_agree (λ i. writes_at trace i && contains nat_cmp added (number_at trace i)) test
-          (λ i.
-          and_agrees (writes_at trace i) (contains nat_cmp added (number_at trace i))
-          (is_in_past app trace r i && not (is_listed trace old i)) (members i))
-          (places trace))
+    block : map Some added ≡ map (mark_at trace) (filter (fresh (writes_at trace) (is_in_past app trace r) (is_listed trace old)) (places trace))
+    block =
+        kept_marks (λ n. has past n && has old n) (λ i. is_in_past app trace r i && not (is_listed trace old i))
+        (λ i w. ap₂ (λ (s t : Bool). s && t) (members i w) (sym (not_not (has old (number_at trace i)))))
 
-      past_is : (i : ℕ) → writes_at trace i ≡ true → is_listed trace new i ≡ (is_listed trace old i || is_in_past app trace r i)
-      past_is i w =
-          past_listed (is_listed trace old i) (is_in_past app trace r i) (is_listed trace new i)
-          (contains nat_cmp added (number_at trace i)) (listed (number_at trace i)) (members i w)
+    past_is : (i : ℕ) → writes_at trace i ≡ true → is_listed trace new i ≡ (is_listed trace old i || is_in_past app trace r i)
+    past_is i w =
+        ap not (left (number_at trace i))
+        ∙ not_left (has old (number_at trace i)) (has past (number_at trace i))
+        ∙ ap (λ (t : Bool). is_listed trace old i || t) (members i w)
 
-      pub one_read : (order : List (Option Mark)) (rs : List ℕ)
-          → ((order ++ map (slice_get marks) (keys added)) ++ mark_at trace r ∷ []) ++ map (mark_at trace) (still_to_list app trace rs new)
-          ≡ order ++ map (mark_at trace) (still_to_list app trace (r ∷ rs) old)
-      one_read order rs =
-          let past : List ℕ = filter test (places trace) in
-          let after : List ℕ =
-          listing (writes_at trace) (is_in_past app trace) (places trace) rs (λ i. is_listed trace old i || is_in_past app trace r i) in
-          append_assoc (order ++ map (slice_get marks) (keys added)) (mark_at trace r ∷ [])
-          (map (mark_at trace) (still_to_list app trace rs new))
-          ∙ append_assoc order (map (slice_get marks) (keys added)) (mark_at trace r ∷ map (mark_at trace) (still_to_list app trace rs new))
-          ∙ ap₂ (λ (ms : List (Option Mark)) (rest : List ℕ). order ++ (ms ++ mark_at trace r ∷ map (mark_at trace) rest)) block
-          (listing_agrees (writes_at trace) (is_in_past app trace) (places trace) rs (is_listed trace new)
-          (λ i. is_listed trace old i || is_in_past app trace r i) past_is)
-          ∙ ap (λ (ms : List (Option Mark)). order ++ ms) (sym (map-append (mark_at trace) past (r ∷ after)))
+    pub one_read : (order : List (Option Mark)) (rs : List ℕ)
+        → ((order ++ map Some added) ++ mark_at trace r ∷ []) ++ map (mark_at trace) (still_to_list app trace rs new)
+        ≡ order ++ map (mark_at trace) (still_to_list app trace (r ∷ rs) old)
+    one_read order rs =
+        let front : List ℕ = filter (fresh (writes_at trace) (is_in_past app trace r) (is_listed trace old)) (places trace) in
+        let after : List ℕ =
+        listing (writes_at trace) (is_in_past app trace) (places trace) rs (λ i. is_listed trace old i || is_in_past app trace r i) in
+        append_assoc (order ++ map Some added) (mark_at trace r ∷ []) (map (mark_at trace) (still_to_list app trace rs new))
+        ∙ append_assoc order (map Some added) (mark_at trace r ∷ map (mark_at trace) (still_to_list app trace rs new))
+        ∙ ap₂ (λ (ms : List (Option Mark)) (rest : List ℕ). order ++ (ms ++ mark_at trace r ∷ map (mark_at trace) rest)) block
+        (listing_agrees (writes_at trace) (is_in_past app trace) (places trace) rs (is_listed trace new)
+        (λ i. is_listed trace old i || is_in_past app trace r i) past_is)
+        ∙ ap (λ (ms : List (Option Mark)). order ++ ms) (sym (map-append (mark_at trace) front (r ∷ after)))
 
-    -- all other writes, at the end
-    pub all_others : (listed : BTreeSet ℕ) → IsOrdered nat_cmp listed
-        → map Some (runs 0 (keys listed) marks) ≡ map (mark_at trace) (still_to_list app trace [] listed)
-    all_others listed ordered =
-        let ws = write_places trace in
-        sym (runs-map (λ (m : Mark). Some m) 0 (keys listed) marks)
-        ∙ ap (runs 0 (keys listed)) (sym are)
-        ∙ runs-map (mark_at trace) 0 (keys listed) ws
-        ∙ ap (map (mark_at trace))
-        (runs_of_set (number_at trace) ws listed (all_numbered trace) ordered
-        ∙ filter-filter (λ i. not (is_listed trace listed i)) (writes_at trace) (places trace))
+  -- all other writes, at the end
+  pub all_others : (left : List ℕ) → map Some (kept_at (has left) 0 marks) ≡ map (mark_at trace) (still_to_list app trace [] left)
+  all_others left = kept_marks (has left) (λ i. not (is_listed trace left i)) (λ i w. sym (not_not (has left (number_at trace i))))

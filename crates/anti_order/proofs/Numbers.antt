@@ -1,13 +1,11 @@
 -- The writes of a trace by their numbers: places and marks.
-use Rattle.std.proofs.Common.{◌≡◌, ℕ, zero, suc, ◌+◌, ◌<◌, ◌++◌, Bool, true, false, cond, List, [], ◌∷◌, length, map, refl, sym, ap, ap₂, ◌∙◌, subst, append-nil, inl, inr, arith}
-use Rattle.std.specs.Prelude.{All, Option, Some, slice_get}
+use Rattle.std.proofs.Common.{◌≡◌, ℕ, zero, suc, ◌+◌, ◌<◌, ◌≤◌, ◌++◌, Bool, true, false, cond, List, [], ◌∷◌, length, map, refl, sym, ap, ◌∙◌, subst, append-nil, inl, inr, arith}
+use Rattle.std.specs.Prelude.{Some, not, slice_get}
 use Rattle.std.specs.List.{filter, range_with_len}
-use Rattle.std.specs.Ordering.{nat_cmp}
-use Rattle.std.specs.BTreeSet.{BTreeSet, IsOrdered, contains, keys}
 use Rattle.std.proofs.lemmas.Bool.{cases_lt}
 use Rattle.std.proofs.lemmas.List.{length-map, length_push, map-id, map_push}
-use Rattle.std.proofs.lemmas.List.Elements.{All-filter, All-head, All-tail, filter_passes}
-use Rattle.std.proofs.lemmas.List.FromFn.{map-range_with_len_more}
+use Rattle.std.proofs.lemmas.List.Filters.{length-filter_both}
+use Rattle.std.proofs.lemmas.List.FromFn.{length-range_with_len, map-range_with_len_more}
 use Rattle.std.proofs.lemmas.Option.{same_Some, slice_get_within}
 use Rattle.anti_kind.specs.declared.entry.Entry.{Entry}
 use Rattle.anti_trace.specs.declared.mark.Mark.{Mark}
@@ -16,7 +14,6 @@ use Rattle.law_causal.specs.Words.{wrote}
 use Rattle.law_serial.specs.Order.{is_some_id, writes_at}
 use Rattle.anti_order.specs.Answers.{AreMarksOf, mark_at}
 use Rattle.anti_order.specs.inner.Writes.{number_at, write_places}
-use Rattle.anti_order.proofs.Listed.{keys_kept}
 use Rattle.anti_order.proofs.Places.{is_at_within, places_more}
 
 -- ---- lists
@@ -26,29 +23,6 @@ range_more n =
     sym (map-id (range_with_len 0 (n + 1)))
     ∙ map-range_with_len_more (λ (i : ℕ). i) 0 n n (omega arith)
     ∙ ap (λ (is : List ℕ). is ++ n ∷ []) (map-id (range_with_len 0 n))
-
--- what a test keeps of what a function gives
-filter-map : (p : ℕ → Bool) (f : ℕ → ℕ) (xs : List ℕ) → filter p (map f xs) ≡ map f (filter (λ x. p (f x)) xs)
-filter-map p f [] = refl
-filter-map p f (x ∷ xs) = by_test (p (f x)) (filter-map p f xs)
-  where
-    by_test : (t : Bool) → filter p (map f xs) ≡ map f (filter (λ x. p (f x)) xs)
-        → cond t (f x ∷ filter p (map f xs)) (filter p (map f xs))
-        ≡ map f (cond t (x ∷ filter (λ x. p (f x)) xs) (filter (λ x. p (f x)) xs))
-    by_test true rest = ap (λ (ys : List ℕ). f x ∷ ys) rest
-    by_test false rest = rest
-
--- an item of a list that a function gives of another, item by item
-item_given : {X Y : Type 0} (f : X → Option Y) (xs : List X) (ys : List Y) → map Some ys ≡ map f xs
-    → (n : ℕ) (x : X) → slice_get xs n ≡ Some x → slice_get ys n ≡ f x
-item_given f [] ys are n x at = absurd (cc)
-item_given f (x ∷ xs) [] are n z at = absurd (cc)
-item_given f (x ∷ xs) (y ∷ ys) are zero z at =
-    let here : Some y ≡ f x = cc in
-    here ∙ ap f (same_Some x z at)
-item_given f (x ∷ xs) (y ∷ ys) are (suc n) z at =
-    let rest : map Some ys ≡ map f xs = cc in
-    item_given f xs ys rest n z at
 
 -- an item stays in front of others, and the last is the last
 found_left : (xs ys : List ℕ) (n x : ℕ) → slice_get xs n ≡ Some x → slice_get (xs ++ ys) n ≡ Some x
@@ -133,37 +107,17 @@ module _ (trace : List Entry) where
     pub as_many : length marks ≡ length (write_places trace)
     as_many = sym (length-map marks Some) ∙ ap length (sym are) ∙ length-map (write_places trace) (mark_at trace)
 
+    -- no more than there are entries
+    pub few : length marks ≤ length trace
+    few =
+        let count = as_many in
+        let both = length-filter_both (writes_at trace) (λ i. not (writes_at trace i)) (λ i. refl) (places trace) in
+        let all = length-range_with_len 0 (length trace) in
+        omega (arith, count, both, all)
+
     pub number_within : (i : ℕ) → writes_at trace i ≡ true → number_at trace i < length marks
     number_within i is =
         let count = as_many in
         let low : number_at trace i < length (write_places trace) =
         slice_get_within (write_places trace) (number_at trace i) i (under_number i is) in
         omega (arith, count, low)
-
-    -- the marks under the numbers of some writes are theirs
-    marks_under : (is : List ℕ) → All (λ i. writes_at trace i ≡ true) is
-        → map (slice_get marks) (map (number_at trace) is) ≡ map (mark_at trace) is
-    marks_under [] all = refl
-    marks_under (i ∷ is) all =
-        let here : slice_get marks (number_at trace i) ≡ mark_at trace i =
-        item_given (mark_at trace) (write_places trace) marks (sym are) (number_at trace i) i
-        (under_number i (All-head (λ j. writes_at trace j ≡ true) i is all)) in
-        ap₂ (λ (m : Option Mark) (ms : List (Option Mark)). m ∷ ms) here
-        (marks_under is (All-tail (λ j. writes_at trace j ≡ true) i is all))
-
-    -- those under the numbers of a set are the marks of the writes that it has
-    pub marks_of_set : (s : BTreeSet ℕ) → IsOrdered nat_cmp s → ((n : ℕ) → contains nat_cmp s n ≡ true → n < length marks)
-        → map (slice_get marks) (keys s) ≡ map (mark_at trace) (filter (λ i. contains nat_cmp s (number_at trace i)) (write_places trace))
-    marks_of_set s ordered low =
-        let ws = write_places trace in
-        let has : ℕ → Bool = contains nat_cmp s in
-        let kept : List ℕ = filter (λ i. has (number_at trace i)) ws in
-        let count = as_many in
-        let low_place : (n : ℕ) → has n ≡ true → n < length ws = λ n is. let within = low n is in omega (arith, count, within) in
-        let numbers : keys s ≡ map (number_at trace) kept =
-        keys_kept has (length ws) low_place s ordered (λ n. refl)
-        ∙ ap (filter has) (sym all_numbered)
-        ∙ filter-map has (number_at trace) ws in
-        ap (map (slice_get marks)) numbers
-        ∙ marks_under kept
-        (All-filter (λ i. has (number_at trace i)) (λ i. writes_at trace i ≡ true) ws (filter_passes (writes_at trace) (places trace)))

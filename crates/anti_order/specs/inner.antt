@@ -1,4 +1,5 @@
-pub mod Fresh
 pub mod Grounds
-pub mod Runs
+pub mod NumberSets
+pub mod PastWrites
+pub mod Pieces
 pub mod Writes

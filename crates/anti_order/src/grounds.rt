@@ -95,7 +95,7 @@ impl Grounds {
         match Course::along(alloc, app, trace, trail)? {
             Course::Loss(mark) => Ok(Grounds::Loss(mark)),
             Course::NoLoss(pasts) => {
-                let writes = Writes::of(alloc, trace)?;
+                let writes = Writes::of(alloc, app, trace)?;
                 Ok(Grounds::NoLoss { pasts, writes })
             }
         }

@@ -3,15 +3,18 @@
 
 mod answer;
 mod answer_counts;
-mod fresh;
 mod grounds;
 mod laws;
 mod marks;
+mod number_set;
 mod order_listing;
 mod orders;
+mod past_writes;
+mod pieces;
 mod writes;
 
-pub use answer::{Marks, OrderAnswer, SpanAnswer, SpanAnswers};
+pub use answer::{OrderAnswer, SpanAnswer, SpanAnswers};
 pub use answer_counts::{AnswerCounts, count_answers, count_answers_along};
 pub use laws::answered_orders_explain;
 pub use orders::{answers, answers_along, order, order_of};
+pub use pieces::{MarkPieces, Marks, Piece};

@@ -1,88 +1,85 @@
-ghost use Rattle.std.specs.Prelude.{ℕ, ◌≡◌, ◌<◌, ◌++◌, ◌||◌, [], ◌∷◌, Some, true, length, map, slice_get, All, IfOk, OnOk};
-ghost use Rattle.std.specs.BTreeSet.{IsOrdered, Updates, contains, keys};
-ghost use Rattle.std.specs.Ordering.{nat_cmp};
-ghost use Rattle.anti_ids.specs.List.{empty};
+ghost use Rattle.std.specs.Prelude.{ℕ, ◌≡◌, ◌<◌, ◌^◌, ◌&&◌, [], List, not, nat_lt, true, length, All, IfOk, OnOk};
 ghost use Rattle.anti_app.specs.declared.app.App.{App};
+ghost use Rattle.anti_trace.specs.declared.mark.Mark.{Mark as OneMark};
 ghost use Rattle.law_causal.specs.Reads.{is_at};
 ghost use Rattle.law_causal.specs.Words as words;
 ghost use Rattle.anti_past.specs.Pasts.{ArePastsOf};
 ghost use Rattle.law_serial.specs.Order.{order_of};
 ghost use Rattle.anti_order.specs.Answers.{AreMarksOf};
-ghost use Rattle.anti_order.specs.inner.Runs.{runs};
+ghost use Rattle.anti_order.specs.inner.NumberSets.{has, room, room_for};
+ghost use Rattle.anti_order.specs.inner.Pieces.{AddsRuns};
 ghost use Rattle.anti_order.specs.inner.Writes.{AreWritesOf};
 
-use crate::answer::Marks;
-use crate::fresh::fresh_writes;
 use crate::marks::mark_at;
+use crate::number_set::NumberSet;
+use crate::past_writes::past_writes;
+use crate::pieces::{Marks, Piece};
 use crate::writes::Writes;
 use anti_ids::NoMemory;
 use anti_past::Past;
-use anti_trace::{Mark, Trace};
+use anti_trace::Trace;
 use std::alloc::Global;
-use std::collections::BTreeSet;
 
-// An order in the making: the marks that stand in it, and the numbers of the writes that do.
+// An order in the making: its pieces, and the numbers of the writes that do not stand in it.
 #[derive(Drop)]
 struct Arranging {
-    order: Marks,
-    listed: BTreeSet<usize>,
+    pieces: Vec<Piece>,
+    left: NumberSet,
+}
+
+// Adds the writes with some numbers at the end, run by run.
+fn add_runs(pieces: &mut Vec<Piece>, numbers: &NumberSet) -> Result<(), NoMemory>
+    ensures { (writes : List OneMark) → ((n : ℕ) → has numbers.now n ≡ true → n < length writes)
+        → OnOk result (AddsRuns writes (has numbers.now) pieces.old.items pieces.new.items) }
+{
+    let mut from = 0;
+    while let Some(found) = numbers.run_from(from) {
+        pieces.push(Piece::Writes {
+            from: found.from,
+            to: found.to,
+        })?;
+        from = found.to;
+    }
+    Ok(())
 }
 
 impl Arranging {
-    // The order in which nothing stands yet, with room for so many marks.
-    fn new(alloc: Global, room: usize) -> Result<Arranging, NoMemory>
-        ensures order { IfOk result (λ a. a.order ≡ empty) }
-        ensures listed { IfOk result (λ a. keys a.listed ≡ []) }
+    // The order in which nothing stands yet, of so many writes.
+    fn new(alloc: Global, count: usize) -> Result<Arranging, NoMemory>
+        requires { count < 2 ^ 32 }
+        ensures pieces { IfOk result (λ a. a.pieces.items ≡ []) }
+        ensures left { (n : ℕ) → IfOk result (λ a. has a.left n ≡ nat_lt n count) }
+        ensures room { IfOk result (λ a. room a.left ≡ room_for count) }
     {
-        let order = Marks::with_room(alloc, room)?;
+        let left = NumberSet::all(alloc, count)?;
         Ok(Arranging {
-            order,
-            listed: BTreeSet::new(alloc),
+            pieces: Vec::new(alloc),
+            left,
         })
     }
 
-    // Puts the mark of the write with this number behind those that stand in the order.
-    fn add_write(&mut self, marks: &[Mark], number: usize) -> Result<(), NoMemory>
-        requires { number < length marks.now }
-        ensures order { OnOk result
-            (map Some self.new.order.items ≡ map Some self.old.order.items ++ slice_get marks.now number ∷ []) }
-        ensures listed { OnOk result (Updates nat_cmp self.old.listed self.new.listed number true) }
+    // Adds those of the writes with some numbers that do not stand in the order.
+    fn add_writes(&mut self, mut numbers: NumberSet) -> Result<(), NoMemory>
+        requires { room numbers ≡ room self.old.left }
+        ensures left { (n : ℕ) → OnOk result (has self.new.left n ≡ (has self.old.left n && not (has numbers n))) }
+        ensures room { OnOk result (room self.new.left ≡ room self.old.left) }
+        ensures pieces { (writes : List OneMark) → ((n : ℕ) → has self.old.left n ≡ true → n < length writes)
+            → OnOk result (AddsRuns writes (λ n. has numbers n && has self.old.left n) self.old.pieces.items self.new.pieces.items) }
     {
-        let mark = marks[number];
-        self.order.add(mark)?;
-        self.listed.insert(number)?;
+        numbers.keep(&self.left);
+        self.left.remove(&numbers);
+        add_runs(&mut self.pieces, &numbers)?;
         Ok(())
     }
 
-    // The same of numbers, in their order.
-    fn add_writes(&mut self, marks: &[Mark], numbers: &BTreeSet<usize>) -> Result<(), NoMemory>
-        requires { All (λ n. n < length marks.now) (keys numbers.now) }
-        ensures order { OnOk result
-            (map Some self.new.order.items ≡ map Some self.old.order.items ++ map (slice_get marks.now) (keys numbers.now)) }
-        ensures ordered { IsOrdered nat_cmp numbers.now }
-        ensures listed { (n : ℕ) → OnOk result (contains nat_cmp self.new.listed n
-            ≡ (contains nat_cmp self.old.listed n || contains nat_cmp numbers.now n)) }
+    // The pieces of the order, and behind them those of all writes that do not stand in it.
+    fn with_rest(self) -> Result<Vec<Piece>, NoMemory>
+        ensures { (writes : List OneMark) → ((n : ℕ) → has self.left n ≡ true → n < length writes)
+            → IfOk result (λ pieces. AddsRuns writes (has self.left) self.pieces.items pieces.items) }
     {
-        for number in numbers.iter() {
-            self.add_write(marks, *number)?;
-        }
-        Ok(())
-    }
-
-    // The order, and behind it those of these marks whose numbers are not listed, copied in runs.
-    fn with_rest(self, marks: &[Mark]) -> Result<Marks, NoMemory>
-        requires { All (λ n. n < length marks.now) (keys self.listed) }
-        ensures ordered { IsOrdered nat_cmp self.listed }
-        ensures order { IfOk result (λ order. order.items ≡ self.order.items ++ runs 0 (keys self.listed) marks.now) }
-    {
-        let Arranging { mut order, listed } = self;
-        let mut from = 0;
-        for number in listed.iter() {
-            order.append(&marks[from..*number])?;
-            from = *number + 1;
-        }
-        order.append(&marks[from..])?;
-        Ok(order)
+        let Arranging { mut pieces, left } = self;
+        add_runs(&mut pieces, &left)?;
+        Ok(pieces)
     }
 }
 
@@ -99,13 +96,12 @@ pub fn arranged(
     ensures { (app : App) → ArePastsOf app trace.now pasts.now
         → IfOk result (λ order. AreMarksOf trace.now (order_of app trace.now reads.now) order.items) }
 {
-    let marks = writes.marks.as_slice();
-    let room = marks.len().saturating_add(reads.len()); // so that it never moves
-    let mut arranging = Arranging::new(alloc, room)?;
+    let mut arranging = Arranging::new(alloc, writes.marks.get().len())?;
     for read in reads {
-        let fresh = fresh_writes(alloc, trace, writes, pasts, &arranging.listed, *read)?;
-        arranging.add_writes(marks, &fresh)?;
-        arranging.order.add(mark_at(trace, *read))?;
+        let past = past_writes(alloc, trace, writes, pasts, *read)?;
+        arranging.add_writes(past)?;
+        arranging.pieces.push(Piece::Alone(mark_at(trace, *read)))?;
     }
-    arranging.with_rest(marks)
+    let pieces = arranging.with_rest()?;
+    Ok(Marks::over(writes.marks.share()?, pieces))
 }

@@ -9,9 +9,10 @@ ghost use Rattle.anti_trace.specs.inner.Trails.{IsTrailIfKept};
 ghost use Rattle.anti_order.specs.Answers.{AreAnswersOf, AreMarksOf, IsAnswer};
 ghost use Rattle.anti_order.specs.inner.Grounds.{AreAnswersFor, AreGroundsOf};
 
-use crate::answer::{Marks, OrderAnswer, SpanAnswer, SpanAnswers};
+use crate::answer::{OrderAnswer, SpanAnswer, SpanAnswers};
 use crate::grounds::Grounds;
 use crate::marks::places_of;
+use crate::pieces::Marks;
 use anti_app::App;
 use anti_ids::NoMemory;
 use anti_kind::{Actor, Birth, Entry};
@@ -34,7 +35,8 @@ pub fn order_of(
         → IsAnswer app.now trace.now places answer) }
 {
     let known = PlaceByMark::of(alloc, trace)?;
-    let reads = places_of(alloc, &known, chain.as_slice())?;
+    let marks = chain.to_list(alloc)?;
+    let reads = places_of(alloc, &known, marks.as_slice())?;
     let grounds = Grounds::of(alloc, app, trace)?;
     grounds.answer(alloc, trace, reads.as_slice())
 }

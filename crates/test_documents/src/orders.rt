@@ -112,9 +112,12 @@ end 8
     ),
 ];
 
-// Whether an answer is an order with these marks.
-fn is_order(answer: &OrderAnswer, marks: &[(u32, u32)]) -> bool {
-    let OrderAnswer::Order(found) = answer else {
+// Whether an answer is an order with these marks. Where memory runs out it is not.
+fn is_order(alloc: Global, answer: &OrderAnswer, marks: &[(u32, u32)]) -> bool {
+    let OrderAnswer::Order(order) = answer else {
+        return false;
+    };
+    let Ok(found) = order.to_list(alloc) else {
         return false;
     };
     let mut left = marks;
@@ -149,7 +152,7 @@ fn has_order_at(alloc: Global, run: &PlayedRun, index: u32, marks: &[(u32, u32)]
         return false;
     };
     match order_of(alloc, &run.app, &run.trace, &chain) {
-        Ok(answer) => is_order(&answer, marks),
+        Ok(answer) => is_order(alloc, &answer, marks),
         Err(_) => false,
     }
 }
@@ -174,7 +177,7 @@ pub fn has_order(alloc: Global, run: &PlayedRun, object: u32, marks: &[(u32, u32
 {
     let birth = Birth { object, place: 1 };
     match order(alloc, &run.app, &run.trace, birth, 1) {
-        Ok(answer) => is_order(&answer, marks),
+        Ok(answer) => is_order(alloc, &answer, marks),
         Err(_) => false,
     }
 }
