@@ -2,6 +2,8 @@ pub mod Added
 pub mod Commas
 pub mod Cuts
 pub mod Items
+pub mod Overwriting
+pub mod Quoted
 pub mod Runs
 pub mod Shapes
 pub mod Summaries

@@ -1,2 +1,4 @@
 pub mod Cut
+pub mod Overwritten
+pub mod Quoting
 pub mod Runs

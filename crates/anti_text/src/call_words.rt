@@ -8,7 +8,6 @@ use crate::words::{quoted, region_name, sub_name_on};
 use anti_app::App;
 use anti_ids::{Lineage, Name, NoMemory, Value};
 use anti_kind::{Call, Message, MessageKind};
-use itoa::Buffer;
 
 /// The word of the kind of a message.
 pub fn kind_text(kind: MessageKind) -> &'static [u8]
@@ -27,16 +26,17 @@ pub fn value_and_baggage(out: &mut Output, message: &Message) -> Result<(), NoMe
     ensures { OnOk result (out.new ≡ out.old ++ value_and_baggage message.now) }
 {
     quoted(out, message.value.bytes())?;
-    out.put_all(&[b" ", message.baggage.bytes()])
+    out.put(b" ")?;
+    out.put(message.baggage.bytes())
 }
 
 /// Writes what a message to a handler says.
 pub fn handler_and_rest(out: &mut Output, message: &Message) -> Result<(), NoMemory>
     ensures { OnOk result (out.new ≡ out.old ++ handler_and_rest message.now) }
 {
-    let mut digits = Buffer::new();
-    let depth = digits.format(message.depth).as_bytes();
-    out.put_all(&[message.handler.bytes(), b" ", depth, b" "])?;
+    out.put(message.handler.bytes())?;
+    out.numbered(b" ", u64::from(message.depth))?;
+    out.put(b" ")?;
     value_and_baggage(out, message)
 }
 
@@ -46,8 +46,8 @@ fn posted_text(out: &mut Output, message: &Message, kind: MessageKind) -> Result
 {
     match kind {
         MessageKind::Reply => {
-            let mut digits = Buffer::new();
-            out.put_all(&[b"reply ", digits.format(message.to).as_bytes(), b" "])?;
+            out.numbered(b"reply ", u64::from(message.to))?;
+            out.put(b" ")?;
             value_and_baggage(out, message)
         }
         MessageKind::Request | MessageKind::Call | MessageKind::Send => {
@@ -70,7 +70,10 @@ fn post_text(out: &mut Output, message: &Message) -> Result<(), NoMemory>
 fn keyed(out: &mut Output, app: &App, word: &[u8], region: u32, key: &Name) -> Result<(), NoMemory>
     ensures { OnOk result (out.new ≡ out.old ++ word.now ++ key_at_region app.now region key.now) }
 {
-    out.put_all(&[word, region_name(app, region), b" ", key.bytes()])
+    out.put(word)?;
+    out.put(region_name(app, region))?;
+    out.put(b" ")?;
+    out.put(key.bytes())
 }
 
 // Writes a word, and a version and its part at a region.
@@ -85,24 +88,10 @@ fn parted(
     ensures { OnOk result (out.new ≡ out.old
         ++ word.now ++ part_at_region app.now region version part) }
 {
-    let mut digits = Buffer::new();
-    let mut others = Buffer::new();
-    out.put_all(&[
-        word,
-        region_name(app, region),
-        b" ",
-        digits.format(version).as_bytes(),
-        b" ",
-        others.format(part).as_bytes(),
-    ])
-}
-
-// Writes a word and a number.
-fn numbered(out: &mut Output, word: &[u8], number: u64) -> Result<(), NoMemory>
-    ensures { OnOk result (out.new ≡ out.old ++ word.now ++ decimal number) }
-{
-    let mut digits = Buffer::new();
-    out.put_all(&[word, digits.format(number).as_bytes()])
+    out.put(word)?;
+    out.put(region_name(app, region))?;
+    out.numbered(b" ", version)?;
+    out.numbered(b" ", u64::from(part))
 }
 
 // Writes the call that writes a value to a key.
@@ -116,7 +105,9 @@ fn write_text(
     ensures { OnOk result (out.new ≡ out.old ++ codes "write " ++ key.now ++ codes " "
         ++ quoted value.now ++ codes " " ++ lineage_text printer.now.app.now lineage.now) }
 {
-    out.put_all(&[b"write ", key.bytes(), b" "])?;
+    out.put(b"write ")?;
+    out.put(key.bytes())?;
+    out.put(b" ")?;
     quoted(out, value.bytes())?;
     out.put(b" ")?;
     printer.lineage(out, lineage)
@@ -142,7 +133,8 @@ fn look_text(
         ++ codes " " ++ lineage_text printer.now.app.now ids.now) }
 {
     out.put(look_word(dry))?;
-    out.put_all(&[region_name(printer.app, region), b" "])?;
+    out.put(region_name(printer.app, region))?;
+    out.put(b" ")?;
     printer.lineage(out, ids)
 }
 
@@ -150,7 +142,8 @@ fn look_text(
 fn pull_text(out: &mut Output, app: &App, store: u32, sub: u32) -> Result<(), NoMemory>
     ensures { OnOk result (out.new ≡ out.old ++ call_text app.now store (Call.Pull sub)) }
 {
-    out.put_all(&[b"pull ", sub_name_on(app, store, sub)])
+    out.put(b"pull ")?;
+    out.put(sub_name_on(app, store, sub))
 }
 
 // Writes the call that takes a cell once more for a subscription of the store.
@@ -164,13 +157,9 @@ fn repull_text(
     ensures { OnOk result (out.new ≡ out.old
         ++ call_text app.now store (Call.Repull sub version)) }
 {
-    let mut digits = Buffer::new();
-    out.put_all(&[
-        b"repull ",
-        sub_name_on(app, store, sub),
-        b" ",
-        digits.format(version).as_bytes(),
-    ])
+    out.put(b"repull ")?;
+    out.put(sub_name_on(app, store, sub))?;
+    out.numbered(b" ", version)
 }
 
 /// Writes a call at the object with a number.
@@ -205,11 +194,11 @@ pub fn call_text(
         } => parted(out, app, b"again ", *region, *version, *part),
         Call::Pull { sub } => pull_text(out, app, object, *sub),
         Call::Repull { sub, version } => repull_text(out, app, object, *sub, *version),
-        Call::Ack { version } => numbered(out, b"ack ", *version),
-        Call::Nack { version } => numbered(out, b"nack ", *version),
+        Call::Ack { version } => out.numbered(b"ack ", *version),
+        Call::Nack { version } => out.numbered(b"nack ", *version),
         Call::Post { message } => post_text(out, message.get()),
-        Call::Take { nth } => numbered(out, b"take ", u64::from(*nth)),
-        Call::Repost { number } => numbered(out, b"repost ", u64::from(*number)),
-        Call::TakeReply { number } => numbered(out, b"takereply ", u64::from(*number)),
+        Call::Take { nth } => out.numbered(b"take ", u64::from(*nth)),
+        Call::Repost { number } => out.numbered(b"repost ", u64::from(*number)),
+        Call::TakeReply { number } => out.numbered(b"takereply ", u64::from(*number)),
     }
 }

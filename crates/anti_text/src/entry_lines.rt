@@ -9,17 +9,13 @@ use crate::words::mark_text;
 use anti_app::App;
 use anti_ids::NoMemory;
 use anti_kind::{Actor, Entry};
-use itoa::Buffer;
 
 // Writes who made a call.
 pub fn actor_name(out: &mut Output, app: &App, actor: Actor) -> Result<(), NoMemory>
     ensures { OnOk result (out.new ≡ out.old ++ actor_name app.now actor) }
 {
     match actor {
-        Actor::Carrier(number) => {
-            let mut digits = Buffer::new();
-            out.put_all(&[b"~", digits.format(number).as_bytes()])
-        }
+        Actor::Carrier(number) => out.numbered(b"~", u64::from(number)),
         Actor::Process(birth) => mark_text(out, app, birth.object, birth.place),
         Actor::Newborn => Ok(()),
     }
@@ -30,10 +26,7 @@ fn span_text(out: &mut Output, actor: Actor, span: u32) -> Result<(), NoMemory>
     ensures { OnOk result (out.new ≡ out.old ++ span_text actor span) }
 {
     match actor {
-        Actor::Process(_) => {
-            let mut digits = Buffer::new();
-            out.put_all(&[b"/", digits.format(span).as_bytes()])
-        }
+        Actor::Process(_) => out.numbered(b"/", u64::from(span)),
         Actor::Carrier(_) | Actor::Newborn => Ok(()),
     }
 }
@@ -51,8 +44,8 @@ pub fn entry_line(out: &mut Output, printer: &Printer, entry: &Entry) -> Result<
     ensures { OnOk result (out.new ≡ out.old ++ entry_line printer.now.app.now entry.now) }
 {
     let app = printer.app;
-    let mut digits = Buffer::new();
-    out.put_all(&[digits.format(entry.stamp).as_bytes(), b" "])?;
+    out.number(entry.stamp)?;
+    out.put(b" ")?;
     mark_text(out, app, entry.object, entry.place)?;
     out.put(b" ")?;
     actor_text(out, app, entry.actor, entry.span)?;

@@ -105,10 +105,13 @@ impl IdTexts {
         }
     }
 
-    // The number of the text of an id; `None` where it is not kept.
-    fn number_of(&self, id: &WriteId) -> Option<usize>
+    // The number of the text of an id, which mostly is the next one; `None` where it is not kept.
+    fn number_of(&self, next: usize, id: &WriteId) -> Option<usize>
         ensures { IfSome result (λ n. slice_get self.now.ids.items n ≡ Some id.now) }
     {
+        if self.is_at(next, id) {
+            return Some(next);
+        }
         let start = *self.starts.get(id.store as usize)?;
         let number = start.wrapping_add(id.version as usize).wrapping_sub(1);
         if self.is_at(number, id) {
@@ -125,12 +128,12 @@ impl IdTexts {
             ≡ (out.old ++ run_text self.now.pieces run) ++ kept_text self.now.stores.items id.now) }
         ensures run { IfOk result (λ next. IsRun self.now.pieces next) }
     {
-        match self.number_of(id) {
+        match self.number_of(run.to, id) {
             Some(number) => self.pieces.go_on(out, run, number),
             None => {
                 self.pieces.write(out, run)?;
                 out.id(self.stores.as_slice(), id)?;
-                out.put_byte(b',')?;
+                out.put(b",")?;
                 Ok(PieceRun { from: 0, to: 0 })
             }
         }
@@ -142,12 +145,8 @@ impl IdTexts {
             (out.new ≡ out.old ++ flat_map (kept_text self.now.stores.items) lineage.now) }
     {
         let mut run = PieceRun { from: 0, to: 0 };
-        // an id stays where it was put, from where a `for` over the ids would copy it
-        let mut ids = lineage.iter();
-        let mut next = ids.next();
-        while let Some(id) = &next {
+        for id in lineage.iter() {
             run = self.go_on(out, run, id)?;
-            next = ids.next();
         }
         self.pieces.write(out, run)
     }

@@ -9,6 +9,7 @@ ghost use Rattle.anti_text.specs.Words.{handler_name, mark_text, object_name, se
 
 use crate::call_words::call_text;
 use crate::entry_lines::actor_name;
+use crate::json_strings::{close_string, open_string, put_string};
 use crate::output::Output;
 use crate::printer::Printer;
 use crate::process_lines::end_text;
@@ -21,31 +22,12 @@ use anti_kind::{Actor, Call, Reply};
 use anti_order::OrderAnswer;
 use anti_past::Span;
 use anti_proc::End;
-use itoa::Buffer;
-use serde_json::Value;
-
-/// Adds some text, and what was printed as a JSON string.
-#[tactic(auto, unfolding(crate::specs::Json::text))]
-pub fn add_string(
-    out: &mut Output,
-    printer: &Printer,
-    before: &[u8],
-    printed: &[u8],
-) -> Result<(), NoMemory>
-    ensures { OnOk result
-        (out.new ≡ out.old ++ before.now ++ compact_text (text printed.now)) }
-{
-    let value = Value::from(String::from_utf8_lossy(printer.alloc, printed)?);
-    let quoted = value.to_string(printer.alloc)?;
-    out.put_all(&[before, quoted.as_bytes()])
-}
 
 /// Adds some text and a number.
 pub fn add_number(out: &mut Output, before: &[u8], number: u64) -> Result<(), NoMemory>
     ensures { OnOk result (out.new ≡ out.old ++ before.now ++ decimal number) }
 {
-    let mut digits = Buffer::new();
-    out.put_all(&[before, digits.format(number).as_bytes()])
+    out.numbered(before, number)
 }
 
 /// Adds some text and who made an entry.
@@ -58,9 +40,9 @@ pub fn add_actor(
     ensures { OnOk result
         (out.new ≡ out.old ++ before.now ++ compact_text (text (actor_name printer.now.app.now actor))) }
 {
-    let mut name = Output::new(printer.alloc);
-    actor_name(&mut name, printer.app, actor)?;
-    add_string(out, printer, before, name.bytes())
+    let begun = open_string(out, before)?;
+    actor_name(out, printer.app, actor)?;
+    close_string(out, printer.alloc, begun)
 }
 
 /// Adds some text and the words of a call on an object.
@@ -74,9 +56,9 @@ pub fn add_call(
     ensures { OnOk result
         (out.new ≡ out.old ++ before.now ++ compact_text (text (call_text printer.now.app.now object call.now))) }
 {
-    let mut words = Output::new(printer.alloc);
-    call_text(&mut words, printer, object, call)?;
-    add_string(out, printer, before, words.bytes())
+    let begun = open_string(out, before)?;
+    call_text(out, printer, object, call)?;
+    close_string(out, printer.alloc, begun)
 }
 
 /// Adds some text and the name of an object.
@@ -90,7 +72,7 @@ pub fn add_object(
         (out.new ≡ out.old ++ before.now ++ compact_text (text (object_name printer.now.app.now object))) }
 {
     let name = object_name(printer.app, object);
-    add_string(out, printer, before, name)
+    put_string(out, printer.alloc, before, name)
 }
 
 /// Adds some text and the words of a reply.
@@ -103,9 +85,9 @@ pub fn add_reply(
     ensures { OnOk result
         (out.new ≡ out.old ++ before.now ++ compact_text (text (reply_text printer.now.app.now reply.now))) }
 {
-    let mut words = Output::new(printer.alloc);
-    reply_text(&mut words, printer, reply)?;
-    add_string(out, printer, before, words.bytes())
+    let begun = open_string(out, before)?;
+    reply_text(out, printer, reply)?;
+    close_string(out, printer.alloc, begun)
 }
 
 /// Adds some text and how a process ended.
@@ -118,9 +100,9 @@ pub fn add_end(
     ensures { OnOk result
         (out.new ≡ out.old ++ before.now ++ compact_text (text (end_text printer.now.app.now end))) }
 {
-    let mut words = Output::new(printer.alloc);
-    end_text(&mut words, printer.app, end)?;
-    add_string(out, printer, before, words.bytes())
+    let begun = open_string(out, before)?;
+    end_text(out, printer.app, end)?;
+    close_string(out, printer.alloc, begun)
 }
 
 /// Adds some text and the name of a handler of a service.
@@ -135,7 +117,7 @@ pub fn add_handler(
         (out.new ≡ out.old ++ before.now ++ compact_text (text (handler_name printer.now.app.now service handler))) }
 {
     let name = handler_name(printer.app, service, handler);
-    add_string(out, printer, before, name)
+    put_string(out, printer.alloc, before, name)
 }
 
 /// Adds some text and a place on an object.
@@ -149,9 +131,9 @@ pub fn add_mark(
     ensures { OnOk result
         (out.new ≡ out.old ++ before.now ++ compact_text (text (mark_text printer.now.app.now object place))) }
 {
-    let mut mark = Output::new(printer.alloc);
-    mark_text(&mut mark, printer.app, object, place)?;
-    add_string(out, printer, before, mark.bytes())
+    let begun = open_string(out, before)?;
+    mark_text(out, printer.app, object, place)?;
+    close_string(out, printer.alloc, begun)
 }
 
 /// Adds some text and the name of a service.
@@ -165,7 +147,7 @@ pub fn add_service(
         (out.new ≡ out.old ++ before.now ++ compact_text (text (service_name printer.now.app.now service))) }
 {
     let name = service_name(printer.app, service);
-    add_string(out, printer, before, name)
+    put_string(out, printer.alloc, before, name)
 }
 
 /// Adds some text and what is answered of the reads of a span.
@@ -178,9 +160,9 @@ pub fn add_answer(
     ensures { OnOk result
         (out.new ≡ out.old ++ before.now ++ compact_text (text (answer_text printer.now.app.now answer.now))) }
 {
-    let mut words = Output::new(printer.alloc);
-    answer_text(&mut words, printer, answer)?;
-    add_string(out, printer, before, words.bytes())
+    let begun = open_string(out, before)?;
+    answer_text(out, printer, answer)?;
+    close_string(out, printer.alloc, begun)
 }
 
 /// Adds some text and a span.
@@ -193,9 +175,9 @@ pub fn add_span(
     ensures { OnOk result
         (out.new ≡ out.old ++ before.now ++ compact_text (text (span_name printer.now.app.now span))) }
 {
-    let mut name = Output::new(printer.alloc);
-    span_name(&mut name, printer.app, span)?;
-    add_string(out, printer, before, name.bytes())
+    let begun = open_string(out, before)?;
+    span_name(out, printer.app, span)?;
+    close_string(out, printer.alloc, begun)
 }
 
 /// Adds some text and a choice, by its number.
@@ -208,7 +190,7 @@ pub fn add_choice(
     ensures { OnOk result
         (out.new ≡ out.old ++ before.now ++ compact_text (text (choice_numbered printer.now.app.now number))) }
 {
-    let mut words = Output::new(printer.alloc);
-    choice_numbered(&mut words, printer.app, number)?;
-    add_string(out, printer, before, words.bytes())
+    let begun = open_string(out, before)?;
+    choice_numbered(out, printer.app, number)?;
+    close_string(out, printer.alloc, begun)
 }

@@ -19,6 +19,9 @@ pub struct PieceRun {
     pub to: usize,
 }
 
+// Most texts are shorter.
+const PIECE_BYTES: usize = 16;
+
 /// Texts, one behind another. Contracts see the list of them.
 #[derive(Drop)]
 pub struct Pieces {
@@ -59,15 +62,13 @@ fn part(text: &[u8], from: usize, to: usize) -> &[u8]
 }
 
 impl Pieces {
-    /// No texts, and room for where so many of them end.
+    /// No texts, and room for so many of them.
     pub fn with_room(alloc: Global, count: usize) -> Result<Pieces, NoMemory>
         ensures { IfOk result (λ pieces. pieces ≡ []) }
     {
+        let text = Output::with_room(alloc, count.saturating_mul(PIECE_BYTES))?;
         let ends = Vec::with_capacity(alloc, count)?;
-        Ok(Pieces {
-            text: Output::new(alloc),
-            ends,
-        })
+        Ok(Pieces { text, ends })
     }
 
     /// The texts with that of an id and a comma behind them.
@@ -76,8 +77,8 @@ impl Pieces {
     {
         let Pieces { mut text, mut ends } = self;
         text.id(stores, id)?;
-        text.put_byte(b',')?;
-        ends.push(text.bytes().len())?;
+        text.put(b",")?;
+        ends.push(text.len())?;
         Ok(Pieces { text, ends })
     }
 
@@ -87,7 +88,7 @@ impl Pieces {
     {
         let Pieces { mut text, mut ends } = self;
         spaced_mark(&mut text, app, mark)?;
-        ends.push(text.bytes().len())?;
+        ends.push(text.len())?;
         Ok(Pieces { text, ends })
     }
 

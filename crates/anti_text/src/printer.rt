@@ -9,7 +9,7 @@ use crate::mark_texts::MarkTexts;
 use crate::output::Output;
 use anti_app::{App, store_names};
 use anti_ids::{Lineage, NoMemory};
-use anti_kind::Entry;
+use anti_order::{Marks, OrderAnswer};
 use anti_report::Report;
 use anti_trace::Mark;
 use std::alloc::Global;
@@ -26,12 +26,14 @@ pub struct Printer<'a> {
     ghost marked: { marks.app.now ≡ app.now },
 }
 
-// The entries whose marks are kept: none, where no span has an answer.
-fn marked<'r>(report: &'r Report) -> &'r [Entry] {
-    if report.spans.is_empty() {
-        return &[];
+// The marks of all writes, which the orders of a report share; none where it has no order.
+fn marked<'r>(report: &'r Report) -> &'r [Mark] {
+    for answered in report.spans.as_slice() {
+        if let OrderAnswer::Order(marks) = &answered.answer {
+            return marks.pieces().writes;
+        }
     }
-    report.trace.as_slice()
+    &[]
 }
 
 impl<'a> Printer<'a> {
@@ -58,9 +60,9 @@ impl<'a> Printer<'a> {
     }
 
     /// Writes marks, each behind a space.
-    pub fn marks(&self, out: &mut Output, marks: &[Mark]) -> Result<(), NoMemory>
+    pub fn marks(&self, out: &mut Output, marks: &Marks) -> Result<(), NoMemory>
         ensures { OnOk result
-            (out.new ≡ out.old ++ flat_map (spaced_mark self.now.app.now) marks.now) }
+            (out.new ≡ out.old ++ flat_map (spaced_mark self.now.app.now) marks.now.items) }
     {
         self.marks.marks(out, marks)
     }

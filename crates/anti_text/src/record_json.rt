@@ -12,6 +12,7 @@ use crate::json_items::Item;
 use crate::json_texts::add_number;
 use crate::output::Output;
 use crate::printer::Printer;
+use crate::record_text::first_room;
 use anti_app::{App, Waits};
 use anti_ids::{Bytes, NoMemory};
 use anti_report::{Form, Report};
@@ -71,7 +72,7 @@ fn add_record(out: &mut Output, printer: &Printer, report: &Report) -> Result<()
 fn printed(printer: &Printer, report: &Report) -> Result<Bytes, NoMemory>
     ensures { IfOk result (λ t. t ≡ plain (json_of printer.now.app.now report.now)) }
 {
-    let mut out = Output::new(printer.alloc);
+    let mut out = Output::with_room(printer.alloc, first_room(report))?;
     add_record(&mut out, printer, report)?;
     Ok(out.into_bytes())
 }

@@ -21,8 +21,15 @@ use anti_kind::Entry;
 use anti_order::SpanAnswer;
 use anti_report::{Form, Report};
 use anti_trace::{Aftermath, ProcessEnd, Trace};
-use itoa::Buffer;
 use std::alloc::Global;
+
+// Few lines of entries are shorter.
+const ENTRY_BYTES: usize = 64;
+
+/// For how many bytes there is room from the start in the text of a record.
+pub fn first_room(report: &Report) -> usize {
+    report.trace.as_slice().len().saturating_mul(ENTRY_BYTES)
+}
 
 // Writes the lines of the entries.
 fn entry_lines(out: &mut Output, printer: &Printer, trace: &[Entry]) -> Result<(), NoMemory>
@@ -86,8 +93,8 @@ fn all_lines(out: &mut Output, printer: &Printer, report: &Report) -> Result<(),
 fn end_line(out: &mut Output, entries: u32) -> Result<(), NoMemory>
     ensures { OnOk result (out.new ≡ out.old ++ codes "end " ++ decimal entries ++ codes "\n") }
 {
-    let mut digits = Buffer::new();
-    out.put_all(&[b"end ", digits.format(entries).as_bytes(), b"\n"])
+    out.numbered(b"end ", u64::from(entries))?;
+    out.put(b"\n")
 }
 
 // Writes the record of what a report tells, as text.
@@ -103,7 +110,7 @@ fn add_text(out: &mut Output, printer: &Printer, report: &Report) -> Result<(), 
 fn printed(printer: &Printer, report: &Report) -> Result<Bytes, NoMemory>
     ensures { IfOk result (λ t. t ≡ plain (text_of printer.now.app.now report.now)) }
 {
-    let mut out = Output::new(printer.alloc);
+    let mut out = Output::with_room(printer.alloc, first_room(report))?;
     add_text(&mut out, printer, report)?;
     Ok(out.into_bytes())
 }

@@ -7,7 +7,6 @@ use crate::printer::Printer;
 use crate::words::quoted;
 use anti_ids::{Lineage, Name, NoMemory};
 use anti_kind::{Message, MessageKind, Reply, Row};
-use itoa::Buffer;
 
 // Writes a message as it is taken.
 fn taken_text(
@@ -21,9 +20,8 @@ fn taken_text(
     match kind {
         MessageKind::Reply => value_and_baggage(out, message),
         MessageKind::Request | MessageKind::Call | MessageKind::Send => {
-            let mut digits = Buffer::new();
-            let number = digits.format(number).as_bytes();
-            out.put_all(&[number, b" ", kind_text(kind), b" "])?;
+            out.number(u64::from(number))?;
+            out.put_all(&[b" ", kind_text(kind), b" "])?;
             handler_and_rest(out, message)
         }
     }
@@ -33,8 +31,8 @@ fn taken_text(
 fn version_text(out: &mut Output, key: &Name, version: u64) -> Result<(), NoMemory>
     ensures { OnOk result (out.new ≡ out.old ++ version_text key.now version) }
 {
-    let mut digits = Buffer::new();
-    out.put_all(&[key.bytes(), b"@", digits.format(version).as_bytes()])
+    out.put(key.bytes())?;
+    out.numbered(b"@", version)
 }
 
 fn row_text(out: &mut Output, printer: &Printer, row: &Row) -> Result<(), NoMemory>
@@ -105,10 +103,7 @@ pub fn reply_text(out: &mut Output, printer: &Printer, reply: &Reply) -> Result<
         ),
         Reply::Moved => out.put(b"moved"),
         Reply::Pulled(row) => row_text(out, printer, row.get()),
-        Reply::Posted(number) => {
-            let mut digits = Buffer::new();
-            out.put_all(&[b"posted ", digits.format(*number).as_bytes()])
-        }
+        Reply::Posted(number) => out.numbered(b"posted ", u64::from(*number)),
         Reply::Got { number, message } => {
             out.put(b"got ")?;
             taken_text(out, *number, message.get(), message.get().kind)

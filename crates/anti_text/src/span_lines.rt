@@ -29,7 +29,7 @@ pub fn answer_text(
         }
         OrderAnswer::Order(marks) => {
             out.put(b"order")?;
-            printer.marks(out, marks.as_slice())
+            printer.marks(out, marks)
         }
     }
 }

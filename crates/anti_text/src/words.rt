@@ -6,7 +6,6 @@ use crate::output::Output;
 use anti_app::{App, HandlerDef, ObjectAt, number_on, object_at};
 use anti_ids::NoMemory;
 use anti_trace::Mark;
-use itoa::Buffer;
 
 /// The name of a store, by its number; no text where there is none.
 pub fn store_name(app: &App, store: usize) -> &[u8]
@@ -93,10 +92,8 @@ pub fn object_name(app: &App, object: u32) -> &[u8]
 pub fn mark_text(out: &mut Output, app: &App, object: u32, place: u32) -> Result<(), NoMemory>
     ensures { OnOk result (out.new ≡ out.old ++ mark_text app.now object place) }
 {
-    let mut digits = Buffer::new();
     out.put(object_name(app, object))?;
-    out.put_byte(b'.')?;
-    out.put(digits.format(place).as_bytes())
+    out.numbered(b".", u64::from(place))
 }
 
 /// Writes a mark behind a space.

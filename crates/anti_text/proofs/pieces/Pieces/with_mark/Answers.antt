@@ -9,7 +9,7 @@ written : (c : In_ok-push) → c.spaced_mark.new.out ≡ c.self.inside.text ++ s
 written c = c.in_ok-spaced_mark.ensures
 
 ended : (c : In_ok-push) → c.push.new.self.items ≡ c.self.inside.ends.items ++ length c.spaced_mark.new.out ∷ []
-ended c = c.in_ok-push.ensures.items ∙ ap (λ (t : List ℕ). c.self.inside.ends.items ++ length t ∷ []) c.bytes.ensures
+ended c = c.in_ok-push.ensures.items ∙ ap (λ (n : ℕ). c.self.inside.ends.items ++ n ∷ []) c.len.ensures
 
 pub invariant_of-result : goal.invariant_of-result
 invariant_of-result c =
