@@ -148,6 +148,29 @@ def missing(stores, ids, looks):
     )
 
 
+# Times that a line stands in a body of 64 lines beside two `repeat`s and what is done first, and turns of these.
+IDLE_LINES, IDLE_TURNS = 58, ["repeat 16", "repeat 16"]
+
+
+def idle(lines, first=(), then=()):
+    """A request writes 255 ids to eight stores without a replica where it runs, does what it is told then, and sends 256 messages. The
+    handler that they start does what it is told first, and then 58 times 256 of these lines in turn, which make no entry."""
+    stores = ", ".join(f'{{ name = "s{i}", kind = "kv", replicas = ["{("eu", "us")[i % 2]}"] }}' for i in range(16))
+    writes = ["repeat 15"] + [f"write s{2 * (i % 8) + 1} k v" for i in range(17)] + ["end"]
+    sends = IDLE_TURNS + ["send d h x", "end", "end"]
+    body = [*first, *IDLE_TURNS, *(lines[i % len(lines)] for i in range(IDLE_LINES)), "end", "end"]
+    return "\n".join(
+        [
+            'regions = ["eu", "us"]',
+            'choices = ["finish"]',
+            f"store = [{stores}]",
+            'request = [{ service = "c", handler = "h" }]',
+            f'[[service]]\nname = "c"\nregion = "eu"\nhandler = [{{ name = "h", body = {quoted([*writes, *then, *sends])} }}]',
+            f'[[service]]\nname = "d"\nregion = "eu"\nhandler = [{{ name = "h", body = {quoted(body)} }}]',
+        ]
+    )
+
+
 def on_stores(kind, regions, stores, requests, handlers):
     """`finish` of requests, each a handler and a value, on so many stores of a kind with a replica in each of so many regions."""
     names = [f"r{i}" for i in range(regions)]
@@ -250,3 +273,66 @@ def judged(handlers):
     services = "".join(f'[[service]]\nname = "w{i}"\nregion = "eu"\nhandler = [{", ".join(bodies[i])}]\n' for i in range(16))
     document = 'regions = ["eu"]\nstore = [{ name = "s", kind = "kv", replicas = ["eu"] }]\n' + services
     return document + "#" * (handlers * 1_024 - len(document))
+
+
+def application(regions, stores, services, requests):
+    """`finish` of requests, each a service, a handler and a value, on stores of a kind with replicas in these regions. A service has its region
+    and its handlers with their bodies."""
+    lines = [f"regions = {quoted(regions)}", 'choices = ["finish"]']
+    for name, kind, replicas in stores:
+        lines += ["[[store]]", f'name = "{name}"', f'kind = "{kind}"', f"replicas = {quoted(replicas)}"]
+    for name, region, handlers in services:
+        lines += ["[[service]]", f'name = "{name}"', f'region = "{region}"']
+        for handler, body in handlers.items():
+            lines += ["[[service.handler]]", f'name = "{handler}"', f"body = {quoted(body)}"]
+    for service, handler, value in requests:
+        lines += ["[[request]]", f'service = "{service}"', f'handler = "{handler}"', f'value = "{value}"']
+    return "\n".join(lines)
+
+
+REGIONS = ["us", "eu", "ap", "sa", "af", "me", "oc", "an"]
+
+
+def long_lineages(requests, ids, looks=16):
+    """Requests that carry so many ids, a multiple of 15, of three stores, at one of five services: a barrier behind each 15 writes, and a
+    message to the next service, which waits for all of them, looks so many times, reads, and carries on what it read."""
+    services = []
+    for i in range(5):
+        front = [f"repeat {ids // 15}", "repeat 5", *(f"write s{3 * i + j} $in v" for j in range(3)), "end", "barrier", "end"]
+        back = ["barrier", f"repeat {looks}", "dryrun", "end", f"read s{3 * i} $in as x", "transfer x"]
+        services.append((f"w{i}", "us", {"front": front + [f"send w{(i + 1) % 5} back $in"], "back": back}))
+    stores = [(f"s{i}", "kv", REGIONS[:1]) for i in range(15)]
+    return application(REGIONS[:1], stores, services, [(f"w{i % 5}", "front", f"key-{i}") for i in range(requests)])
+
+
+def short_spans(requests, writes):
+    """So many requests, each of which starts five processes of four short spans with a read each, over so many writes, a multiple of 64."""
+    front = ["send w work $in"] * 5 + ["read s0 $in as x", "transfer x"]
+    work = ["read s0 $in as x", "transfer x", "root", "read s1 $in as y", "transfer y", "barrier"]
+    work += ["root", "read s5 $in as u", "root", "read s0 $in as w"]
+    put = ["repeat 16", *(f"write s{i} k v" for i in range(4)), "end"]
+    stores = [(f"s{i}", "kv", REGIONS[:2]) for i in range(8)]
+    services = [("w", "us", {"front": front, "work": work}), ("z", "us", {"put": put})]
+    asked = [("z", "put", "z")] * (writes // 64) + [("w", "front", f"k{i}") for i in range(requests)]
+    return application(REGIONS[:2], stores, services, asked)
+
+
+def large_values(requests, parts, regions):
+    """Requests that each write three values in so many parts to 16 blobs at so many regions. Who reads them waits at two barriers."""
+    services = []
+    for i in range(16):
+        front = [f"write b{(i + j) % 16} $in {'z' * (64 * parts)}" for j in range(3)] + [f"send w{(i + j) % 16} look $in" for j in (1, 2, 3)]
+        look = ["barrier", f"read b{i} $in as x", "transfer x", "barrier", f"read b{(i + 1) % 16} $in as y"]
+        services.append((f"w{i}", REGIONS[i % regions], {"front": front, "look": look}))
+    stores = [(f"b{i}", "blob", REGIONS[:regions]) for i in range(16)]
+    return application(REGIONS[:regions], stores, services, [(f"w{i % 16}", "front", f"k{i}") for i in range(requests)])
+
+
+def full_stores(requests, turns, regions=3):
+    """Requests that each write so many times to three of 16 stores at so many regions, until these have no unit left."""
+    services = []
+    for i in range(16):
+        body = [f"repeat {turns}", *(f"write s{(i + j) % 16} $in v" for j in range(3)), "end"]
+        services.append((f"w{i}", REGIONS[i % regions], {"front": body}))
+    stores = [(f"s{i}", "kv", REGIONS[:regions]) for i in range(16)]
+    return application(REGIONS[:regions], stores, services, [(f"w{i % 16}", "front", f"k{i}") for i in range(requests)])
