@@ -1,6 +1,6 @@
 -- What the calls of an agenda change, and who is woken one after another.
-use Rattle.std.proofs.Common.{◌≡◌, ℕ, ◌+◌, ◌++◌, ◌⊎◌, ◌↔◌, Bool, true, false, List, [], ◌∷◌, length, cond, Contains, sym, ap, ◌∙◌, inl, inr, subst, Some, Ok, Err, OnOk, Result}
-use Rattle.std.specs.BTreeSet.{BTreeSet, Updates, contains, keys}
+use Rattle.std.proofs.Common.{◌≡◌, ℕ, ◌<◌, ◌++◌, ◌⊎◌, ◌↔◌, true, false, List, [], ◌∷◌, length, Contains, sym, ap, ◌∙◌, inl, inr, subst, Some, Ok, Err, OnOk, Result}
+use Rattle.std.specs.BTreeSet.{BTreeSet, keys}
 use Rattle.std.proofs.lemmas.List.Elements.{Contains-append_left, Contains-push, Contains-push_cases}
 use Rattle.anti_kind.specs.declared.awaited.Awaited.{Awaited}
 use Rattle.anti_kind.specs.declared.awaited.Brought.{Brought}
@@ -12,10 +12,14 @@ use Rattle.anti_agenda.specs.declared.offer.Offer.{Offer}
 use Rattle.anti_agenda.specs.declared.offer.Sleeper.{Sleeper}
 use Rattle.anti_agenda.specs.inner.Waking.{IsOneWaiting, NoneWaits, WakesIdle, WakesSome, WakesWaiting, brings}
 use Rattle.anti_agenda.proofs.Brought.{reaches_alike, shipped_brings, shipped_hands_out, shipped_reaches}
-use Rattle.anti_agenda.proofs.KeySets.{fewer_keys, same_or_apart, with_key, without_key}
-use Rattle.anti_agenda.proofs.Orders.{offer_cmp, offers_exact, offers_total, sleeper_cmp, sleepers_exact, sleepers_total}
+use Rattle.anti_agenda.proofs.KeySets.{same_or_apart}
+use Rattle.anti_agenda.proofs.Orders.{sleepers_exact, sleepers_total}
 
 -- ---- one call
+
+-- one more
+abbrev Adds : Offer → BTreeSet Offer → BTreeSet Offer → Type 0
+Adds offer old new = (other : Offer) → Contains (keys new) other ↔ ((other ≡ offer) ⊎ Contains (keys old) other)
 
 -- nothing else is touched
 pub rest_stays : (agenda : Agenda) (awake : BTreeSet Offer)
@@ -25,21 +29,19 @@ rest_stays agenda awake = record {
   idle = λ offer. (λ is. is, λ is. is);
 }
 
-pub woken : (agenda : Agenda) (offer : Offer) (awake : BTreeSet Offer) → Updates offer_cmp agenda.awake awake offer true
+pub woken : (agenda : Agenda) (offer : Offer) (awake : BTreeSet Offer) → Adds offer agenda.awake awake
     → IsWoken offer agenda (record { awake = awake; asleep = agenda.asleep; idle = agenda.idle })
-woken agenda offer awake updates = record {
-  awake = with_key offers_total offers_exact agenda.awake awake offer updates;
+woken agenda offer awake more = record {
+  awake = more;
   rest = rest_stays agenda awake;
 }
 
-pub gone : (agenda : Agenda) (offer : Offer) (awake : BTreeSet Offer) (was : Bool) → Updates offer_cmp agenda.awake awake offer false
-    → was ≡ contains offer_cmp agenda.awake offer → length awake.keys + cond was 1 0 ≡ length agenda.awake.keys
+pub gone : (agenda : Agenda) (offer : Offer) (awake : BTreeSet Offer)
+    → ((other : Offer) → Contains (keys awake) other ↔ (IsAwake agenda other × (other ≡ offer → ⊥)))
+    → (IsAwake agenda offer → length (keys awake) < length (keys agenda.awake))
     → IsGone offer agenda (record { awake = awake; asleep = agenda.asleep; idle = agenda.idle })
-gone agenda offer awake was updates test count = record {
-  left = record {
-    awake = without_key offers_total offers_exact agenda.awake awake offer updates;
-    fewer = fewer_keys offers_total offers_exact agenda.awake awake offer was test count;
-  };
+gone agenda offer awake others fewer = record {
+  left = record { awake = others; fewer = fewer };
   rest = rest_stays agenda awake;
 }
 
@@ -84,8 +86,8 @@ idled old with_one new offer awake asleep idle gone = record {
 
 -- one who was idle
 pub wakes_idle : (old new : Agenda) (offer : Offer) → old.idle.items ≡ new.idle.items ++ offer ∷ []
-    → Updates offer_cmp old.awake new.awake offer true → new.asleep ≡ old.asleep → WakesIdle old new
-wakes_idle old new offer popped updates same = record {
+    → Adds offer old.awake new.awake → new.asleep ≡ old.asleep → WakesIdle old new
+wakes_idle old new offer popped more same = record {
   some = record {
     awake = λ other is. (more other).1 (inr is);
     idle = λ other is.
@@ -105,17 +107,14 @@ wakes_idle old new offer popped updates same = record {
       ];
 }
   where
-    more : (other : Offer) → Contains (keys new.awake) other ↔ ((other ≡ offer) ⊎ Contains (keys old.awake) other)
-    more = with_key offers_total offers_exact old.awake new.awake offer updates
-
     was_idle : IsIdle old offer
     was_idle = subst (λ (os : List Offer). Contains os offer) (sym popped) (Contains-push new.idle.items offer)
 
 -- one who slept at the object for what is brought
 pub wakes_sleeper : (object : ℕ) (what : Brought) (old new : Agenda) (one : Sleeper) → IsOneWaiting object what old.asleep (Some one)
     → ((q : Sleeper) → Contains (keys new.asleep) q ↔ (Contains (keys old.asleep) q × (q ≡ one → ⊥)))
-    → Updates offer_cmp old.awake new.awake one.offer true → new.idle.items ≡ old.idle.items → WakesWaiting object what old new
-wakes_sleeper object what old new one waits fewer updates same = record {
+    → Adds one.offer old.awake new.awake → new.idle.items ≡ old.idle.items → WakesWaiting object what old new
+wakes_sleeper object what old new one waits fewer more same = record {
   some = record {
     awake = λ other is. (more other).1 (inr is);
     idle = λ other is. inl (subst (λ (os : List Offer). Contains os other) (sym same) is);
@@ -134,9 +133,6 @@ wakes_sleeper object what old new one waits fewer updates same = record {
       ];
 }
   where
-    more : (other : Offer) → Contains (keys new.awake) other ↔ ((other ≡ one.offer) ⊎ Contains (keys old.awake) other)
-    more = with_key offers_total offers_exact old.awake new.awake one.offer updates
-
     slept : IsAsleep old object one.awaited one.offer
     slept = subst (λ (at : ℕ). IsAsleep old at one.awaited one.offer) waits.1 waits.0
 

@@ -1,15 +1,12 @@
 -- The first that is awake, and the first who sleeps for what is brought.
-use Rattle.std.proofs.Common.{◌≡◌, ℕ, ◌<◌, true, false, List, [], ◌∷◌, length, All, Contains, Option, Bor, IsSome, refl, sym, ap, subst, arith, None, Some, IfSome}
+use Rattle.std.proofs.Common.{◌≡◌, ℕ, true, false, List, [], ◌∷◌, Contains, Option, refl, sym, ap, subst, arith, None, Some, IfSome}
 use Rattle.std.specs.declared.ops.Bound.TheVariants.{Included, Unbounded}
 use Rattle.std.specs.declared.cmp.Ordering.{Ordering}
 use Rattle.std.specs.BTreeMap.Range.{IsLeBy}
 use Rattle.std.specs.BTreeSet.{BTreeSet, IsKeyInRange, IsKeyRangeOf, contains, keys}
-use Rattle.std.specs.Option.{option_copied}
 use Rattle.std.specs.Ordering.{is_gt, nat_cmp, ordering_then}
 use Rattle.std.specs.Prelude.{slice_get}
-use Rattle.std.proofs.lemmas.Bool.{false_from_ne_true, false≢true}
-use Rattle.std.proofs.lemmas.List.Elements.{All-contains}
-use Rattle.std.proofs.lemmas.Option.{get_or_from_slice_get, slice_get_within}
+use Rattle.std.proofs.lemmas.Bool.{false_from_ne_true}
 use Rattle.anti_kind.specs.declared.awaited.Awaited.{Awaited}
 use Rattle.anti_kind.specs.declared.awaited.Brought.{Brought}
 use Rattle.anti_agenda.specs.Agendas.{IsFirst, sleeper}
@@ -17,21 +14,17 @@ use Rattle.anti_agenda.specs.declared.agenda.Agenda.{Agenda}
 use Rattle.anti_agenda.specs.declared.offer.Offer.{Offer}
 use Rattle.anti_agenda.specs.declared.offer.Offer.TheVariants.{Go}
 use Rattle.anti_agenda.specs.declared.offer.Sleeper.{Sleeper}
-use Rattle.anti_agenda.specs.inner.Waking.{NoneWaits, brings, first_brought}
+use Rattle.anti_agenda.specs.inner.Front.{offer_cmp}
+use Rattle.anti_agenda.specs.inner.Waking.{IsFirstOf, NoneWaits, brings, first_brought}
 use Rattle.anti_agenda.proofs.Brought.{IsFromFirst, brings_between, from_first}
 use Rattle.anti_agenda.proofs.KeySets.{found_is, is_found}
-use Rattle.anti_agenda.proofs.Orders.{at_most, awaited_cmp, before_or_same, none_before, offer_cmp, sleeper_cmp, sleepers_exact, sleepers_total, tied, up_to_both, up_to_first, up_to_second}
+use Rattle.anti_agenda.proofs.Orders.{at_most, awaited_cmp, none_before, sleeper_cmp, sleepers_exact, sleepers_total, tied, up_to_both, up_to_first, up_to_second}
 
 -- ---- the first that is awake
 
-pub first_found : (agenda : Agenda) (found : Option (Bor Offer)) → (0 < length (keys agenda.awake) → IsSome found)
-    → IfSome found (λ k. slice_get (keys agenda.awake) 0 ≡ Some k.now)
-    → IfSome found (λ k. All (IsLeBy offer_cmp k.now) (keys agenda.awake)) → IsFirst agenda (option_copied found)
-first_found agenda None some head all = λ offer is. false≢true (some (omega (arith, is.1)))
-first_found agenda (Some k) some head all = (
-  (0, slice_get_within (keys agenda.awake) 0 k.now head, get_or_from_slice_get (keys agenda.awake) 0 k.now k.now head),
-  λ other is. before_or_same k.now other (All-contains (IsLeBy offer_cmp k.now) (keys agenda.awake) other all is),
-)
+pub first_is : (agenda : Agenda) (first : Option Offer) → IsFirstOf agenda.awake first → IsFirst agenda first
+first_is agenda None is = is
+first_is agenda (Some first) is = is
 
 -- ---- the first who sleeps for what is brought
 

@@ -1,6 +1,7 @@
 mod Brought
 mod Changes
 mod Finding
+mod Fronts
 mod KeySets
 mod Marked
 mod Orders

@@ -11,13 +11,13 @@ use Rattle.anti_kind.specs.contracts.awaited.AwaitedOrd.TheImpl as awaited_order
 use Rattle.anti_kind.specs.declared.awaited.Awaited.{Awaited}
 use Rattle.anti_kind.specs.declared.awaited.Awaited.TheVariants.{Delivery, Handout, Reply, Version, Writing}
 use Rattle.anti_agenda.specs.Agendas.{IsBefore, IsBelow}
-use Rattle.anti_agenda.specs.contracts.offer.OfferOrd.TheImpl as offer_order
 use Rattle.anti_agenda.specs.contracts.offer.OfferOrd.TheImpl.Laws as offer_laws
 use Rattle.anti_agenda.specs.contracts.offer.SleeperOrd.TheImpl as sleeper_order
 use Rattle.anti_agenda.specs.contracts.offer.SleeperOrd.TheImpl.Laws as sleeper_laws
 use Rattle.anti_agenda.specs.declared.offer.Offer.{Offer}
 use Rattle.anti_agenda.specs.declared.offer.Offer.TheVariants.{Go, Take, Pull, Ship}
 use Rattle.anti_agenda.specs.declared.offer.Sleeper.{Sleeper}
+use Rattle.anti_agenda.specs.inner.Front.{offer_cmp}
 
 -- ---- by one part and then by another
 
@@ -51,9 +51,6 @@ pub least : (n : ℕ) → is_gt (nat_cmp 0 n) ≡ false
 least n = grind (arith)
 
 -- ---- offers
-
-abbrev pub offer_cmp : Offer → Offer → Ordering
-offer_cmp = offer_order.ghosts.cmp
 
 pub offers_total : IsTotalOrder offer_cmp
 offers_total = offer_laws.total-law

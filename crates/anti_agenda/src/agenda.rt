@@ -1,18 +1,18 @@
 ghost use Rattle.std.specs.Prelude.{OnErr, OnOk};
 ghost use Rattle.anti_agenda.specs.Agendas.{IsEmpty, IsFirst, IsGone, IsIdled, IsPutToSleep, IsUnchanged, IsWoken};
 
+use crate::awake::Awake;
 use crate::offer::{Offer, Sleeper};
 use crate::sleepers::Sleepers;
 use anti_ids::NoMemory;
 use anti_kind::Awaited;
 use std::alloc::Global;
-use std::collections::BTreeSet;
 
 /// The offers that may make an entry (awake), those that wait for something at an object (asleep), and those that were tried in vain for
 /// a cause that is not known (idle). Contracts see three lists.
 #[derive(Drop)]
 pub struct Agenda {
-    pub(crate) awake: BTreeSet<Offer>,
+    pub(crate) awake: Awake,
     pub(crate) asleep: Sleepers,
     pub(crate) idle: Vec<Offer>,
 }
@@ -23,7 +23,7 @@ impl Agenda {
         ensures { IsEmpty result }
     {
         Agenda {
-            awake: BTreeSet::new(alloc),
+            awake: Awake::new(alloc),
             asleep: Sleepers::new(alloc),
             idle: Vec::new(alloc),
         }
@@ -33,7 +33,7 @@ impl Agenda {
     pub fn first(&self) -> Option<Offer>
         ensures { IsFirst self.now result }
     {
-        self.awake.first().copied()
+        self.awake.first()
     }
 
     /// Wakes an offer, which may be awake. The only error is want of memory, and then the agenda is as it was.
@@ -49,7 +49,7 @@ impl Agenda {
     pub fn rest(&mut self, offer: Offer)
         ensures { IsGone offer self.old self.new }
     {
-        self.awake.remove(&offer);
+        self.awake.remove(offer);
     }
 
     /// Puts an offer that is awake to sleep, until what it awaits at the object is brought. The only error is want of memory,

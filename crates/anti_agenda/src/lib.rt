@@ -3,6 +3,7 @@
 #![tactic(auto)]
 
 mod agenda;
+mod awake;
 mod marks;
 mod offer;
 mod sleepers;

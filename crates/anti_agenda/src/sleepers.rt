@@ -1,7 +1,7 @@
-ghost use Rattle.std.specs.Prelude.{◌≡◌, ◌<◌, ◌⊎◌, ◌↔◌, Contains, length, OnErr, OnOk};
+ghost use Rattle.std.specs.Prelude.{◌≡◌, ◌<◌, ◌⊎◌, ◌↔◌, Contains, Some, length, OnErr, OnOk, IsTrue};
 ghost use Rattle.std.specs.BTreeSet.{IsEmpty, keys};
 ghost use Rattle.anti_agenda.specs.declared.offer.Sleeper.{Sleeper as Sleeping};
-ghost use Rattle.anti_agenda.specs.inner.Waking.{IsOneWaiting, brings, first_brought};
+ghost use Rattle.anti_agenda.specs.inner.Waking.{IsOneWaiting, NoneWaits, brings, first_brought};
 
 use crate::marks::Marks;
 use crate::offer::{Offer, Sleeper};
@@ -117,14 +117,24 @@ impl Sleepers {
         }
     }
 
+    /// Whether nobody was ever put to sleep at the object for such a thing as is brought. It takes no memory.
+    pub(crate) fn has_none_for(&self, object: u32, brought: Brought) -> bool
+        ensures { IsTrue result → NoneWaits object brought self.now }
+    {
+        let Some(first) = first_brought(brought) else {
+            return true;
+        };
+        if self.marks.has(object, first) {
+            return false;
+        }
+        true
+    }
+
     /// The first who sleeps at the object for what is brought. It takes no memory.
     pub(crate) fn one_waiting(&self, object: u32, brought: Brought) -> Option<Sleeper>
         ensures { IsOneWaiting object brought self.now result }
     {
         let first = first_brought(brought)?;
-        if !self.marks.has(object, first) {
-            return None;
-        }
         self.first_from(object, brought, first)
     }
 }

@@ -19,8 +19,8 @@ impl Agenda {
         Ok(())
     }
 
-    // Wakes those that sleep at the object for what is brought.
-    fn wake_waiting(&mut self, object: u32, brought: Brought) -> Result<(), NoMemory>
+    // Wakes those that sleep at the object for what is brought, one after another.
+    fn wake_each(&mut self, object: u32, brought: Brought) -> Result<(), NoMemory>
         ensures wakes { OnOk result (WakesWaiting object brought self.old self.new) }
         ensures none_waits { OnOk result (NoneWaits object brought self.new.asleep) }
     {
@@ -29,6 +29,17 @@ impl Agenda {
             self.awake.insert(sleeper.offer)?;
         }
         Ok(())
+    }
+
+    // Wakes those that sleep at the object for what is brought. Mostly nobody ever did, and then nobody is looked for.
+    fn wake_waiting(&mut self, object: u32, brought: Brought) -> Result<(), NoMemory>
+        ensures wakes { OnOk result (WakesWaiting object brought self.old self.new) }
+        ensures none_waits { OnOk result (NoneWaits object brought self.new.asleep) }
+    {
+        if self.asleep.has_none_for(object, brought) {
+            return Ok(());
+        }
+        self.wake_each(object, brought)
     }
 
     /// Wakes who may go on behind an entry at an object, which brought this: all that are idle, and those that sleep at the object for

@@ -1,11 +1,11 @@
--- Who is woken, one after another.
+-- Who is the first that is awake, and who is woken, one after another.
 use Rattle.std.specs.Prelude.{◌≡◌, ℕ, ◌⊎◌, ◌&&◌, ◌==◌, Bool, true, false, nat_le, Contains, Option, None, Some}
 use Rattle.std.specs.BTreeSet.{BTreeSet, keys}
 use Rattle.anti_kind.specs.declared.awaited.Awaited.{Awaited}
 use Rattle.anti_kind.specs.declared.awaited.Awaited.TheVariants.{Delivery, Handout, Reply, Version, Writing}
 use Rattle.anti_kind.specs.declared.awaited.Brought.{Brought}
 use Rattle.anti_kind.specs.declared.awaited.Brought.TheVariants as came
-use Rattle.anti_agenda.specs.Agendas.{IsAsleep, IsAwake, IsIdle, sleeper}
+use Rattle.anti_agenda.specs.Agendas.{IsAsleep, IsAwake, IsBefore, IsIdle, sleeper}
 use Rattle.anti_agenda.specs.declared.agenda.Agenda.{Agenda}
 use Rattle.anti_agenda.specs.declared.offer.Offer.{Offer}
 use Rattle.anti_agenda.specs.declared.offer.Sleeper.{Sleeper}
@@ -58,3 +58,8 @@ abbrev pub IsOneWaiting : ℕ → Brought → BTreeSet Sleeper → Option Sleepe
 IsOneWaiting object brought asleep None = NoneWaits object brought asleep
 IsOneWaiting object brought asleep (Some one) =
     Contains (keys asleep) one × (one.object ≡ object) × (brings brought one.awaited ≡ true)
+
+-- the first of all; none, where there is nobody
+abbrev pub IsFirstOf : BTreeSet Offer → Option Offer → Type 0
+IsFirstOf all None = (offer : Offer) → Contains (keys all) offer → ⊥
+IsFirstOf all (Some first) = Contains (keys all) first × ((other : Offer) → Contains (keys all) other → (other ≡ first) ⊎ IsBefore first other)

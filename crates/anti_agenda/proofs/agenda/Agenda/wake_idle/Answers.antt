@@ -8,7 +8,7 @@ loop-offer-preserved c =
     let old : Agenda = c.loop-offer.self in
     let new : Agenda = record { awake = c.insert.new.self; asleep = old.asleep; idle = c.pop.new.self } in
     more_idle c.args.self.now old new c.loop-offer.invariant
-    (wakes_idle old new c.in-Some.offer c.in-Some.ensures.items c.in_ok-insert.ensures.updates refl)
+    (wakes_idle old new c.in-Some.offer c.in-Some.ensures.items c.in_ok-insert.ensures.more refl)
 
 pub returns-clause-wakes : goal.returns-clause-wakes
 returns-clause-wakes c =

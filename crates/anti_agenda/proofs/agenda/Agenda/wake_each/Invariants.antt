@@ -1,6 +1,6 @@
 use Rattle.std.specs.BTreeSet.{btree_set_len}
 use Rattle.anti_agenda.specs.inner.Waking.{WakesWaiting}
-use Rattle.anti_agenda.proofs.agenda.Agenda.wake_waiting.Given as goal
+use Rattle.anti_agenda.proofs.agenda.Agenda.wake_each.Given as goal
 
 abbrev pub invariant-loop-sleeper : goal.invariant-loop-sleeper
 invariant-loop-sleeper l = WakesWaiting l.fn.object l.fn.brought l.fn.self l.self
