@@ -1,4 +1,4 @@
-ghost use Rattle.std.specs.Prelude.{◌≡◌, ◌≤◌, ◌^◌, length, Ok, IfOk, IfSome};
+ghost use Rattle.std.specs.Prelude.{◌≡◌, ◌≤◌, ◌^◌, [], length, Ok, IfOk, IfSome, IsTrue};
 ghost use Rattle.std.specs.Arc.{arc_value};
 ghost use Rattle.anti_ids.specs.Answers.{AnswersBut};
 ghost use Rattle.anti_ids.specs.List.{plain};
@@ -27,10 +27,11 @@ struct Stated {
 }
 
 /// The text that goes with a message. A text that was made here of a long lineage keeps this lineage beside it, so that it need not be read again; one
-/// from outside has none. Contracts see the text alone.
+/// from outside has none. Of the empty lineage a text that was made here is known, too. Contracts see the text alone.
 pub struct Baggage {
     text: Bytes,
     stated: Option<Arc<Stated>>,
+    is_root: bool,
 }
 
 impl Model for Baggage {
@@ -38,7 +39,7 @@ impl Model for Baggage {
     ghost use Rattle.std.specs.Coded.{coded_ℕ};
     ghost use Rattle.anti_ids.specs.List.{Listed};
     ghost use Rattle.anti_ids.specs.ListCalls.{list_code};
-    ghost use Rattle.anti_baggage.specs.inner.Kept.{IsKept};
+    ghost use Rattle.anti_baggage.specs.inner.Kept.{IsKept, IsOfRoot};
 
     ghost Value = { Listed ℕ };
 
@@ -46,13 +47,17 @@ impl Model for Baggage {
 
     ghost view = { λ b. b.text };
 
-    ghost invariant = { λ b. IsKept b.text b.stated };
+    ghost invariant = { λ b. IsKept b.text b.stated × IsOfRoot b.text b.is_root };
 }
 
 // By hand, so that no caller sees the fields.
 impl Drop for Baggage {
     fn drop(self) {
-        let Baggage { text, stated } = self;
+        let Baggage {
+            text,
+            stated,
+            is_root: _is_root,
+        } = self;
         drop(stated);
         drop(text);
     }
@@ -83,12 +88,23 @@ fn share(stated: &Arc<Stated>) -> Result<Arc<Stated>, NoMemory>
     }
 }
 
+// Whether it has no id.
+fn is_root(lineage: &Lineage) -> bool
+    ensures { IsTrue result → lineage.now ≡ [] }
+{
+    lineage.is_empty()
+}
+
 impl Baggage {
     /// The baggage with a text, whoever wrote it. It takes no memory.
     pub fn from_text(text: Bytes) -> Baggage
         ensures { result ≡ text }
     {
-        Baggage { text, stated: None }
+        Baggage {
+            text,
+            stated: None,
+            is_root: false,
+        }
     }
 
     /// The text of a lineage over the names of the stores by their numbers. The only error is want of memory.
@@ -97,12 +113,17 @@ impl Baggage {
     {
         let text = encode(alloc, stores, lineage)?;
         if lineage.len() < FEWEST_KEPT || !are_names(stores) || !is_over(stores, lineage) {
-            return Ok(Baggage { text, stated: None });
+            return Ok(Baggage {
+                text,
+                stated: None,
+                is_root: is_root(lineage),
+            });
         }
         let stated = kept(alloc, stores, lineage)?;
         Ok(Baggage {
             text,
             stated: Some(stated),
+            is_root: false,
         })
     }
 
@@ -126,6 +147,9 @@ impl Baggage {
     ) -> Result<Baggage, NoMemory>
         ensures { IfOk result (λ b. b ≡ plain (lineage_text stores.now lineage.now)) }
     {
+        if self.is_root && is_root(lineage) {
+            return self.copy(alloc);
+        }
         match self.known(stores) {
             Some(known) if are_same_ids(known, lineage) => self.copy(alloc),
             _ => Baggage::of(alloc, stores, lineage),
@@ -161,8 +185,13 @@ impl Copies for Baggage {
             Some(stated) => Ok(Baggage {
                 text,
                 stated: Some(share(stated)?),
+                is_root: self.is_root,
             }),
-            None => Ok(Baggage { text, stated: None }),
+            None => Ok(Baggage {
+                text,
+                stated: None,
+                is_root: self.is_root,
+            }),
         }
     }
 }

@@ -14,4 +14,4 @@ returns-in-Some c =
     let text = (is_its_text c.args.stores.now c.args.self.now.items c.in-Some.known.now known.states).1 in
     let same = c.if-are_same_ids.ensures refl in
     let items = text ∙ ap (λ (ids : List WriteId). lineage_text c.args.stores.now ids) same in
-    subst (λ b. IfOk c.copy.result (λ v. v ≡ b)) (without_room c.args.self.now (lineage_text c.args.stores.now c.args.lineage.now) items known.spare) c.copy.ensures
+    subst (λ b. IfOk c.copy-in-Some.result (λ v. v ≡ b)) (without_room c.args.self.now (lineage_text c.args.stores.now c.args.lineage.now) items known.spare) c.copy-in-Some.ensures
