@@ -2,6 +2,7 @@
 #![tactic(auto)]
 
 mod additions;
+mod changes;
 mod cursor;
 mod end;
 mod foreign;
@@ -12,7 +13,6 @@ mod next;
 mod process;
 mod quiet;
 mod run;
-mod state;
 mod statements;
 mod task;
 mod variables;

@@ -14,6 +14,7 @@ use crate::end::{End, ProcFault, end_as};
 use crate::foreign::brought;
 use crate::run::{Advance, Life, begun};
 use crate::task::{Role, Task};
+use crate::variables::make_room;
 use anti_app::App;
 use anti_ids::{Lineage, NoMemory};
 use anti_kind::{Birth, Call, Entry, Handle, Message, Reply};
@@ -89,10 +90,10 @@ impl Process {
     {
         match &self.life {
             Life::Runs(run) => Some(Asked {
-                object: run.next.object,
-                span: run.state.span,
-                call: &run.next.call,
-                carried: &run.state.carried,
+                object: run.at.next.object,
+                span: run.at.changes.span,
+                call: &run.at.next.call,
+                carried: &run.at.changes.carried,
             }),
             _ => None,
         }
@@ -149,7 +150,7 @@ impl Process {
         ensures err { OnErr result (self.new ≡ self.old) }
     {
         match &mut self.life {
-            Life::Runs(run) => run.state.make_room(),
+            Life::Runs(run) => make_room(&mut run.variables),
             _ => Ok(()),
         }
     }
@@ -169,7 +170,7 @@ impl Process {
             Advance::Over(end) => self.end(Life::Over(end)),
             Advance::Full(object) => self.end(Life::Full(object)),
             Advance::Goes(going) => match &mut self.life {
-                Life::Runs(run) => run.take(Box::into_inner(going)),
+                Life::Runs(run) => run.take(going),
                 Life::Over(_) | Life::Full(_) => {}
             },
         }

@@ -7,18 +7,18 @@ ghost use Rattle.anti_proc.specs.Meaning.{after_read, after_reply, after_write, 
 ghost use Rattle.anti_proc.specs.Trees.{branch};
 ghost use Rattle.anti_proc.specs.inner.Going.{going_tree};
 ghost use Rattle.anti_proc.specs.inner.Running.{AdvanceHasSpans, HasSpans, LifeHasSpans};
-ghost use Rattle.anti_proc.specs.inner.Standing.{full_in, going, life_tree, local_by, local_in, local_of, run_after, run_going, run_of, setting, setting_in, stage_or, stage_tree};
+ghost use Rattle.anti_proc.specs.inner.Standing.{full_in, going, life_tree, local_by, local_in, local_of, run_after, run_going, run_of, setting, setting_in, stage_or, stage_tree, variables_in};
 ghost use Rattle.anti_proc.specs.inner.Statements.{came_by};
 
+use crate::changes::{Changes, Since, first_variables, follow, set_or};
 use crate::cursor::Cursor;
 use crate::end::BodyEnd;
 use crate::given::Given;
 use crate::messages::hear;
 use crate::next::{After, Next, Stage, look_of};
-use crate::state::{Changes, Since, State, set_or};
 use crate::statements::{finds_none, is_idle};
 use crate::task::Task;
-use crate::variables::{Binding, Variable};
+use crate::variables::{Binding, Variable, Variables};
 use crate::way::Way;
 use anti_app::{App, body_of};
 use anti_baggage::Baggage;
@@ -27,14 +27,14 @@ use anti_kind::{Call, Handle, Message, Reply};
 use std::alloc::Global;
 use std::mem;
 
-/// A handler between two of its calls: how far it is in its body, what it knows, and its next call.
+/// A handler between two of its calls.
 #[derive(Drop)]
 pub struct Run {
     pub given: Given,
-    // behind the statement whose call is next
-    pub cursor: Cursor,
-    pub state: State,
-    pub next: Next,
+    /// How it went on to its next call. What became of its variables then is in them already.
+    pub at: Box<Going>,
+    /// The variables that are set.
+    pub variables: Variables,
     // The message that it posted or came with, before its next call. Its baggage may serve again, and it means nothing else.
     pub posted: Option<Handle<Message>>,
 }
@@ -52,6 +52,7 @@ pub enum Life {
 /// How a process goes on to a further call: how far it is then, what it knows, and the call.
 #[derive(Drop)]
 pub struct Going {
+    /// Behind the statement whose call is next.
     pub cursor: Cursor,
     pub changes: Changes,
     pub next: Next,
@@ -104,25 +105,31 @@ impl<'a> Way<'a> {
     }
 
     // How it goes on to the call that is next, or how it ends.
-    fn going(self, stage: Stage) -> Result<Going, BodyEnd>
-        ensures goes { (app : App) (given : Given) → let way = self.entry in
-            going_tree app given way.before.now result
-            ≡ stage_tree stage (setting app given) (local_in way) (going app given way.cursor) }
-        ensures spans { let way = self.entry in IfOk result (λ g. (g.cursor ≡ way.cursor)
-            × (g.changes.span ≡ way.changes.span)) }
+    fn going(self, stage: Stage) -> Result<Result<Box<Going>, BodyEnd>, NoMemory>
+        ensures goes { let way = self.entry in IfOk result (λ gone. (app : App) (given : Given)
+            → going_tree app given way.before.now gone
+            ≡ stage_tree stage (setting app given) (local_in way) (going app given way.cursor)) }
+        ensures spans { let way = self.entry in IfOk result (λ gone. IfOk gone (λ g.
+            (g.value.cursor ≡ way.cursor) × (g.value.changes.span ≡ way.changes.span))) }
     {
         let Way {
+            given,
             cursor,
             changes,
             ..
         } = self;
-        match stage {
-            Stage::Over(end) => Err(end),
-            Stage::Asks(next) => Ok(Going {
-                cursor,
-                changes,
-                next,
-            }),
+        let next = match stage {
+            Stage::Over(end) => return Ok(Err(end)),
+            Stage::Asks(next) => next,
+        };
+        let going = Going {
+            cursor,
+            changes,
+            next,
+        };
+        match Box::new(given.alloc, going) {
+            Ok(going) => Ok(Ok(going)),
+            Err(_) => Err(NoMemory),
         }
     }
 
@@ -191,20 +198,15 @@ fn first_run(
     };
     match gone {
         Err(end) => Ok(Life::Over(end)),
-        Ok(going) => {
-            let Going {
-                cursor,
-                changes,
-                next,
-            } = going;
-            let Ok(state) = State::first(given.alloc, changes) else {
+        Ok(mut at) => {
+            let since = mem::replace(&mut at.changes.since, Since::Same);
+            let Ok(variables) = first_variables(given.alloc, since) else {
                 return Err(NoMemory);
             };
             Ok(Life::Runs(Run {
                 given,
-                cursor,
-                state,
-                next,
+                at,
+                variables,
                 posted,
             }))
         }
@@ -217,14 +219,14 @@ fn set_out<'a>(
     given: &'a Given,
     changes: Changes,
     posted: Option<&'a Baggage>,
-) -> Result<Result<Going, BodyEnd>, NoMemory>
+) -> Result<Result<Box<Going>, BodyEnd>, NoMemory>
     requires app { CanRun app.now }
     requires first { changes.span ≡ 1 }
     ensures tree { IfOk result (λ gone. going_tree app.now given.now [] gone
         ≡ body_tree (body_of app.now given.now.role.service given.now.role.handler)
         (setting app.now given.now) (local_by changes [])) }
     ensures spans { IfOk result (λ gone. IfOk gone (λ g.
-        HasSpans app.now given.now.role g.cursor g.changes.span)) }
+        HasSpans app.now given.now.role g.value.cursor g.value.changes.span)) }
 {
     let cursor = Cursor::start(given.alloc);
     let mut way = Way {
@@ -236,7 +238,7 @@ fn set_out<'a>(
         changes,
     };
     let stage = way.go(None)?;
-    Ok(way.going(stage))
+    way.going(stage)
 }
 
 // The baggage of a message, where there is one.
@@ -255,9 +257,29 @@ fn keep(posted: &mut Option<Handle<Message>>, call: Call) {
 }
 
 impl Run {
+    // What it knows as it sets out to its next call.
+    fn changes(&self, since: Since) -> Result<Changes, NoMemory>
+        ensures { IfOk result (λ c. local_by c self.now.variables.items
+            ≡ record (local_of self.now) {
+              variables = variables_in since
+                  self.now.variables.items;
+            }) }
+    {
+        let known = &self.at.changes;
+        let carried = known.carried.copy(self.given.alloc)?;
+        let reply = known.reply.copy(self.given.alloc)?;
+        Ok(Changes {
+            span: known.span,
+            stopped: known.stopped,
+            carried,
+            reply,
+            since,
+        })
+    }
+
     // The baggage that it posts next, or else posted last or came with.
     fn last_baggage(&self) -> Option<&Baggage> {
-        match &self.next.call {
+        match &self.at.next.call {
             Call::Post { message } => Some(&message.get().baggage),
             _ => baggage_of(&self.posted),
         }
@@ -271,17 +293,17 @@ impl Run {
         stage: Option<Stage>,
     ) -> Result<Advance, NoMemory>
         requires app { CanRun app.now }
-        requires spans { HasSpans app.now self.now.given.role self.now.cursor changes.span }
+        requires spans { HasSpans app.now self.now.given.role self.now.at.value.cursor changes.span }
         ensures goes { IfOk result (λ a. run_after app.now self.now a
             ≡ stage_or stage (setting app.now self.now.given)
-            (local_by changes self.now.state.variables.items)
-            (going app.now self.now.given self.now.cursor)) }
+            (local_by changes self.now.variables.items)
+            (going app.now self.now.given self.now.at.value.cursor)) }
         ensures spans { IfOk result (λ a. AdvanceHasSpans app.now (Life.Runs self.now) a) }
     {
-        let Ok(cursor) = self.cursor.copy(self.given.alloc) else {
+        let Ok(cursor) = self.at.cursor.copy(self.given.alloc) else {
             return Err(NoMemory);
         };
-        let before = self.state.variables.as_slice();
+        let before = self.variables.as_slice();
         let mut way = Way {
             app,
             given: &self.given,
@@ -293,12 +315,12 @@ impl Run {
         let Ok(stage) = way.go(stage) else {
             return Err(NoMemory);
         };
-        match way.going(stage) {
+        let Ok(gone) = way.going(stage) else {
+            return Err(NoMemory);
+        };
+        match gone {
             Err(end) => Ok(Advance::Over(end)),
-            Ok(going) => match Box::new(self.given.alloc, going) {
-                Ok(going) => Ok(Advance::Goes(going)),
-                Err(_) => Err(NoMemory),
-            },
+            Ok(going) => Ok(Advance::Goes(going)),
         }
     }
 
@@ -311,14 +333,14 @@ impl Run {
         untracked: bool,
     ) -> Result<Advance, NoMemory>
         requires app { CanRun app.now }
-        requires spans { HasSpans app.now self.now.given.role self.now.cursor self.now.state.span }
+        requires spans { HasSpans app.now self.now.given.role self.now.at.value.cursor self.now.at.value.changes.span }
         ensures goes { IfOk result (λ a. run_after app.now self.now a
-            ≡ after_write id.now.store variable untracked (local_of self.now.state)
-            (going app.now self.now.given self.now.cursor) (Reply.Written id.now.key id.now.version)) }
+            ≡ after_write id.now.store variable untracked (local_of self.now)
+            (going app.now self.now.given self.now.at.value.cursor) (Reply.Written id.now.key id.now.version)) }
         ensures spans { IfOk result (λ a. AdvanceHasSpans app.now (Life.Runs self.now) a) }
     {
         let since = set_or(variable, Binding::Wrote(*id));
-        let mut changes = self.state.changes(self.given.alloc, since)?;
+        let mut changes = self.changes(since)?;
         if untracked {
             return self.go_on(app, changes, None);
         }
@@ -335,16 +357,16 @@ impl Run {
         reply: &Reply,
     ) -> Result<Advance, NoMemory>
         requires app { CanRun app.now }
-        requires spans { HasSpans app.now self.now.given.role self.now.cursor self.now.state.span }
+        requires spans { HasSpans app.now self.now.given.role self.now.at.value.cursor self.now.at.value.changes.span }
         ensures goes { IfOk result (λ a. run_after app.now self.now a
-            ≡ after_write self.now.next.object variable untracked (local_of self.now.state)
-            (going app.now self.now.given self.now.cursor) reply.now) }
+            ≡ after_write self.now.at.value.next.object variable untracked (local_of self.now)
+            (going app.now self.now.given self.now.at.value.cursor) reply.now) }
         ensures spans { IfOk result (λ a. AdvanceHasSpans app.now (Life.Runs self.now) a) }
     {
         match reply {
             Reply::Written { key, version } => {
                 let id = WriteId {
-                    store: self.next.object,
+                    store: self.at.next.object,
                     key: *key.get(),
                     version: *version,
                 };
@@ -357,23 +379,23 @@ impl Run {
     // What the reply to a read, a scan or a poll makes of it.
     fn saw(&self, app: &App, variable: Name, reply: &Reply) -> Result<Advance, NoMemory>
         requires app { CanRun app.now }
-        requires spans { HasSpans app.now self.now.given.role self.now.cursor self.now.state.span }
+        requires spans { HasSpans app.now self.now.given.role self.now.at.value.cursor self.now.at.value.changes.span }
         ensures goes { IfOk result (λ a. run_after app.now self.now a
-            ≡ after_read self.now.next.object variable (local_of self.now.state)
-            (going app.now self.now.given self.now.cursor) reply.now) }
+            ≡ after_read self.now.at.value.next.object variable (local_of self.now)
+            (going app.now self.now.given self.now.at.value.cursor) reply.now) }
         ensures spans { IfOk result (λ a. AdvanceHasSpans app.now (Life.Runs self.now) a) }
     {
         let since = match reply {
             Reply::Shown(rows) => Since::Set(Variable {
                 name: variable,
                 held: Binding::Saw {
-                    store: self.next.object,
+                    store: self.at.next.object,
                     rows: rows.copy(self.given.alloc)?,
                 },
             }),
             _ => Since::Same,
         };
-        let changes = self.state.changes(self.given.alloc, since)?;
+        let changes = self.changes(since)?;
         self.go_on(app, changes, None)
     }
 
@@ -386,11 +408,11 @@ impl Run {
         reply: &Reply,
     ) -> Result<Advance, NoMemory>
         requires app { CanRun app.now }
-        requires spans { HasSpans app.now self.now.given.role self.now.cursor self.now.state.span }
+        requires spans { HasSpans app.now self.now.given.role self.now.at.value.cursor self.now.at.value.changes.span }
         requires brought { brought.now ≡ came_by app.now reply.now }
         ensures goes { IfOk result (λ a. run_after app.now self.now a
-            ≡ after_reply (setting app.now self.now.given) variable (local_of self.now.state)
-            (going app.now self.now.given self.now.cursor) reply.now) }
+            ≡ after_reply (setting app.now self.now.given) variable (local_of self.now)
+            (going app.now self.now.given self.now.at.value.cursor) reply.now) }
         ensures spans { IfOk result (λ a. AdvanceHasSpans app.now (Life.Runs self.now) a) }
     {
         let Reply::Got { message, .. } = reply else {
@@ -401,7 +423,7 @@ impl Run {
             name: variable,
             held: Binding::Heard(value),
         });
-        let mut changes = self.state.changes(self.given.alloc, since)?;
+        let mut changes = self.changes(since)?;
         let stage = changes.carry(brought)?;
         self.go_on(app, changes, stage)
     }
@@ -409,26 +431,26 @@ impl Run {
     // What becomes of it where nothing changes, by the call that is given, or, where none is, by what its body does then.
     fn passed(&self, app: &App, stage: Option<Stage>) -> Result<Advance, NoMemory>
         requires app { CanRun app.now }
-        requires spans { HasSpans app.now self.now.given.role self.now.cursor self.now.state.span }
+        requires spans { HasSpans app.now self.now.given.role self.now.at.value.cursor self.now.at.value.changes.span }
         ensures goes { IfOk result (λ a. run_after app.now self.now a
-            ≡ stage_or stage (setting app.now self.now.given) (local_of self.now.state)
-            (going app.now self.now.given self.now.cursor)) }
+            ≡ stage_or stage (setting app.now self.now.given) (local_of self.now)
+            (going app.now self.now.given self.now.at.value.cursor)) }
         ensures spans { IfOk result (λ a. AdvanceHasSpans app.now (Life.Runs self.now) a) }
     {
-        let changes = self.state.changes(self.given.alloc, Since::Same)?;
+        let changes = self.changes(Since::Same)?;
         self.go_on(app, changes, stage)
     }
 
     /// What the reply to its next call makes of it, which brings a lineage.
     pub fn after(&self, app: &App, brought: &Lineage, reply: &Reply) -> Result<Advance, NoMemory>
         requires app { CanRun app.now }
-        requires spans { HasSpans app.now self.now.given.role self.now.cursor self.now.state.span }
+        requires spans { HasSpans app.now self.now.given.role self.now.at.value.cursor self.now.at.value.changes.span }
         requires brought { brought.now ≡ came_by app.now reply.now }
         ensures goes { IfOk result (λ a. run_after app.now self.now a
             ≡ branch (run_of app.now self.now) reply.now) }
         ensures spans { IfOk result (λ a. AdvanceHasSpans app.now (Life.Runs self.now) a) }
     {
-        match &self.next.after {
+        match &self.at.next.after {
             After::Wrote {
                 variable,
                 untracked,
@@ -439,7 +461,7 @@ impl Run {
                 self.passed(app, look_of(left, self.given.role.region, *dry))
             }
             After::Posted { variable } => {
-                self.passed(app, hear(self.next.object, *variable, reply))
+                self.passed(app, hear(self.at.next.object, *variable, reply))
             }
             After::Heard { variable } => self.heard(app, *variable, brought, reply),
             After::Left(end) => Ok(Advance::Over(*end)),
@@ -447,20 +469,16 @@ impl Run {
     }
 
     /// Takes over how it goes on, where there is room for one variable more. It takes no memory.
-    pub fn take(&mut self, going: Going)
-        requires { 0 < self.old.state.variables.spare }
-        ensures tree { (app : App) → run_of app self.new ≡ run_going app self.old going }
-        ensures spans { (app : App) → HasSpans app self.old.given.role going.cursor going.changes.span
+    pub fn take(&mut self, going: Box<Going>)
+        requires { 0 < self.old.variables.spare }
+        ensures tree { (app : App) → run_of app self.new ≡ run_going app self.old going.value }
+        ensures spans { (app : App) → HasSpans app self.old.given.role going.value.cursor going.value.changes.span
             → LifeHasSpans app (Life.Runs self.new) }
     {
-        let Going {
-            cursor,
-            changes,
-            next,
-        } = going;
-        self.cursor = cursor;
-        self.state.take(self.given.alloc, changes);
-        let Next { call, .. } = mem::replace(&mut self.next, next);
+        let mut left = mem::replace(&mut self.at, going);
+        let since = mem::replace(&mut self.at.changes.since, Since::Same);
+        follow(&mut self.variables, self.given.alloc, since);
+        let call = mem::replace(&mut left.next.call, Call::Take { nth: 1 });
         keep(&mut self.posted, call);
     }
 }

@@ -1,8 +1,8 @@
-ghost use Rattle.std.specs.Prelude.{◌≡◌, ◌<◌, option_map};
+ghost use Rattle.std.specs.Prelude.{◌≡◌, ◌<◌, OnErr, OnOk, option_map};
 ghost use Rattle.anti_proc.specs.Local.{held_in, with_held};
 ghost use Rattle.anti_proc.specs.inner.Variables.{place_among};
 
-use anti_ids::{List, Name, Value, WriteId};
+use anti_ids::{List, Name, NoMemory, Value, WriteId};
 use anti_kind::Rows;
 
 /// What a variable of a handler holds.
@@ -48,6 +48,15 @@ pub fn held_in<'a>(variables: &'a [Variable], name: &Name) -> Option<&'a Binding
         }
     }
     None
+}
+
+/// Makes room for one variable more.
+pub fn make_room(variables: &mut Variables) -> Result<(), NoMemory>
+    ensures items { variables.new.items ≡ variables.old.items }
+    ensures room { OnOk result (0 < variables.new.spare) }
+    ensures err { OnErr result (variables.new ≡ variables.old) }
+{
+    variables.reserve(1)
 }
 
 /// Sets a variable, where there is room for one more. It takes no memory.

@@ -4,10 +4,10 @@ ghost use Rattle.anti_proc.specs.Meaning.{Go, carry};
 ghost use Rattle.anti_proc.specs.inner.Standing.{local_in, stage_or, variables_in};
 
 use crate::additions::{add, all_absent, take_out};
+use crate::changes::{Changes, Since};
 use crate::cursor::Cursor;
 use crate::given::Given;
 use crate::next::Stage;
-use crate::state::{Changes, Since};
 use crate::variables::{Binding, Variable, held_in};
 use anti_app::App;
 use anti_baggage::Baggage;

@@ -17,7 +17,7 @@ abbrev pub HasSpans : App → Role → Cursor → ℕ → Type 0
 HasSpans app role cursor span = span + spans_of (block_from (left_to_run app role cursor)) < 2 ^ 32
 
 abbrev pub LifeHasSpans : App → Life → Type 0
-LifeHasSpans app (lives.Runs r) = HasSpans app r.given.role r.cursor r.state.span
+LifeHasSpans app (lives.Runs r) = HasSpans app r.given.role r.at.value.cursor r.at.value.changes.span
 LifeHasSpans app _ = Unit {0}
 
 -- The process is one of the application, as far as a call on it asks for that.

@@ -23,10 +23,9 @@ use Rattle.anti_proc.specs.declared.run.Going.{Going}
 use Rattle.anti_proc.specs.declared.run.Life.{Life}
 use Rattle.anti_proc.specs.declared.run.Life.TheVariants as lives
 use Rattle.anti_proc.specs.declared.run.Run.{Run}
-use Rattle.anti_proc.specs.declared.state.Changes.{Changes}
-use Rattle.anti_proc.specs.declared.state.Since.{Since}
-use Rattle.anti_proc.specs.declared.state.Since.TheVariants as sinces
-use Rattle.anti_proc.specs.declared.state.State.{State}
+use Rattle.anti_proc.specs.declared.changes.Changes.{Changes}
+use Rattle.anti_proc.specs.declared.changes.Since.{Since}
+use Rattle.anti_proc.specs.declared.changes.Since.TheVariants as sinces
 use Rattle.anti_proc.specs.declared.task.Role.{Role}
 use Rattle.anti_proc.specs.declared.variables.Variable.{Variable}
 use Rattle.anti_proc.specs.declared.way.Way.{Way}
@@ -40,13 +39,14 @@ use Rattle.anti_proc.specs.Trees.{Ask, Tree, Asks, Ends}
 abbrev pub setting : App → Given → Setting
 setting app given = record { app = app; role = given.role; input = given.input }
 
-abbrev pub local_of : State → Local
-local_of s = record {
-  span = s.span;
-  stopped = s.stopped;
-  carried = s.carried;
-  variables = s.variables.items;
-  reply = s.reply;
+-- what is known between two calls
+abbrev pub local_of : Run → Local
+local_of r = record {
+  span = r.at.value.changes.span;
+  stopped = r.at.value.changes.stopped;
+  carried = r.at.value.changes.carried;
+  variables = r.variables.items;
+  reply = r.at.value.changes.reply;
 }
 
 -- the variables, by what became of those that there were
@@ -123,7 +123,7 @@ stage_or None s l go = go l
 
 -- everything that a handler may still do
 abbrev pub run_of : App → Run → Tree
-run_of app r = next_tree r.next (setting app r.given) (local_of r.state) (going app r.given r.cursor)
+run_of app r = next_tree r.at.value.next (setting app r.given) (local_of r) (going app r.given r.at.value.cursor)
 
 abbrev pub life_tree : App → Life → Tree
 life_tree app (lives.Runs r) = run_of app r
@@ -159,7 +159,7 @@ its_role p = p.role
 -- everything that a handler may do that goes on so
 abbrev pub run_going : App → Run → Going → Tree
 run_going app r g =
-    next_tree g.next (setting app r.given) (local_by g.changes r.state.variables.items) (going app r.given g.cursor)
+    next_tree g.next (setting app r.given) (local_by g.changes r.variables.items) (going app r.given g.cursor)
 
 -- the same of one that may have ended
 abbrev pub run_after : App → Run → Advance → Tree
@@ -184,7 +184,7 @@ full_by _ = None
 
 -- there is room for one variable more
 abbrev pub has_room : Life → Type 0
-has_room (lives.Runs r) = 0 < r.state.variables.spare
+has_room (lives.Runs r) = 0 < r.variables.spare
 has_room _ = Unit {0}
 
 abbrev pub HasRoom : Process → Type 0

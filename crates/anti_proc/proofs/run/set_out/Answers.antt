@@ -1,5 +1,6 @@
 use Rattle.std.proofs.Common.{◌∙◌, ℕ, ap, sym, subst}
 use Rattle.std.specs.Prelude.{[]}
+use Rattle.std.proofs.lemmas.Result.{IfOk-weaker}
 use Rattle.anti_proc.specs.inner.Going.{going_tree}
 use Rattle.anti_proc.specs.inner.Running.{HasSpans}
 use Rattle.anti_proc.specs.inner.Standing.{local_by}
@@ -13,7 +14,9 @@ go-requires-clause-spans c =
 
 pub returns-clause-tree : goal.returns-clause-tree
 returns-clause-tree c =
-    ap (λ before. going_tree c.args.app.now c.args.given.now before.now c.going.result) (sym c.go.ensures.before)
-    ∙ c.going.ensures.goes c.args.app.now c.args.given.now
+    IfOk-weaker c.going.result _ _
+    (λ gone goes. ap (λ before. going_tree c.args.app.now c.args.given.now before.now gone) (sym c.go.ensures.before)
+    ∙ goes c.args.app.now c.args.given.now
     ∙ c.in_ok-stage.ensures.goes
-    ∙ begins c.args.app.now c.args.given.now c.start-cursor.result (local_by c.args.changes []) c.start-cursor.ensures
+    ∙ begins c.args.app.now c.args.given.now c.start-cursor.result (local_by c.args.changes []) c.start-cursor.ensures)
+    c.going.ensures.goes

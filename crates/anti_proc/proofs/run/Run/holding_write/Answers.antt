@@ -23,9 +23,9 @@ module _ (id : WriteId) (variable : Option (List ℕ)) (l next : Local) (go : Go
 pub returns-then-untracked-clause-goes : goal.returns-then-untracked-clause-goes
 returns-then-untracked-clause-goes c =
     let r = c.args.self.now in
-    let l : Local = local_of r.state in
-    let next : Local = local_by c.in_ok-changes.changes r.state.variables.items in
-    let go : Go = going c.args.app.now r.given r.cursor in
+    let l : Local = local_of r in
+    let next : Local = local_by c.in_ok-changes.changes r.variables.items in
+    let go : Go = going c.args.app.now r.given r.at.value.cursor in
     IfOk-weaker c.go_on.result _ _
     (λ a goes. goes ∙ without_its_id c.args.id.now c.args.variable l next go (c.in_ok-changes.ensures ∙ c.set_or-since.ensures l) c.args.untracked c.if-untracked.true)
     c.go_on.ensures.goes
@@ -33,10 +33,10 @@ returns-then-untracked-clause-goes c =
 pub returns-clause-goes : goal.returns-clause-goes
 returns-clause-goes c =
     let r = c.args.self.now in
-    let l : Local = local_of r.state in
-    let next : Local = local_by c.in_ok-changes.changes r.state.variables.items in
-    let go : Go = going c.args.app.now r.given r.cursor in
+    let l : Local = local_of r in
+    let next : Local = local_by c.in_ok-changes.changes r.variables.items in
+    let go : Go = going c.args.app.now r.given r.at.value.cursor in
     IfOk-weaker c.go_on-2.result _ _
-    (λ a goes. goes ∙ c.in_ok-stage.ensures.goes r.state.variables.items (setting c.args.app.now r.given) go
+    (λ a goes. goes ∙ c.in_ok-stage.ensures.goes r.variables.items (setting c.args.app.now r.given) go
     ∙ with_its_id c.args.id.now c.args.variable l next go (c.in_ok-changes.ensures ∙ c.set_or-since.ensures l) c.args.untracked c.if-untracked.false)
     c.go_on-2.ensures.goes

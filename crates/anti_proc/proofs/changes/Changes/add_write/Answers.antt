@@ -1,7 +1,7 @@
 use Rattle.std.proofs.Common.{refl}
 use Rattle.std.proofs.lemmas.Result.{IfOk-weaker}
 use Rattle.anti_proc.specs.inner.Standing.{local_by}
-use Rattle.anti_proc.proofs.state.Changes.add_write.Goals as goal
+use Rattle.anti_proc.proofs.changes.Changes.add_write.Goals as goal
 
 pub returns-clause-goes : goal.returns-clause-goes
 returns-clause-goes c =
