@@ -175,7 +175,7 @@ pub fn store_number(app: &App, name: &Name) -> u32
 pub fn store_names(alloc: Global, app: &App) -> Result<Vec<Name>, NoMemory>
     ensures { IfOk result (λ names. names.items ≡ store_names app.now) }
 {
-    let mut names = Vec::new(alloc);
+    let mut names = Vec::with_capacity(alloc, app.stores.len())?;
     for store in app.stores.as_slice() {
         names.push(store.name)?;
     }
@@ -199,7 +199,7 @@ pub fn stores_here(alloc: Global, app: &App, region: u32) -> Result<Vec<u32>, No
     requires { CanRun app.now }
     ensures { IfOk result (λ here. here.items ≡ stores_here app.now region) }
 {
-    let mut here = Vec::new(alloc);
+    let mut here = Vec::with_capacity(alloc, app.stores.len())?;
     for (number, store) in app.stores.as_slice().iter().enumerate() {
         if is_here(region, store) {
             here.push(number as u32)?;
