@@ -1,5 +1,5 @@
 -- What a pass is answered, from what the object answers under the turn.
-use Rattle.std.proofs.Common.{◌≡◌, ◌≢◌, ℕ, ◌+◌, ◌<◌, ◌≤◌, false, List, [], ◌∷◌, ◌++◌, map, Option, Some, Result, Ok, Err, IfOk, OnErr, refl, sym, ap, subst, ◌∙◌, append-nil, inl, arith}
+use Rattle.std.proofs.Common.{◌≡◌, ◌≢◌, ℕ, ◌+◌, ◌<◌, ◌≤◌, false, List, [], ◌∷◌, ◌++◌, map, Option, Some, refl, sym, ap, subst, ◌∙◌, append-nil, inl, arith}
 use Rattle.std.proofs.lemmas.List.Elements.{All-nil, All-cons}
 use Rattle.anti_kind.specs.declared.asking.Asking.{Asking}
 use Rattle.anti_kind.specs.declared.entry.Entry.{Entry}
@@ -14,7 +14,6 @@ use Rattle.anti_turn.specs.Lists.{times, IsFront, GoesOn, Adds}
 use Rattle.anti_turn.proofs.Fronts.{entries_of_others}
 use Rattle.anti_shared.specs.Passes.{GoesFrom, seat_of, calls_of}
 use Rattle.anti_shared.specs.inner.Seating.{ended_in}
-use Rattle.anti_shared.specs.inner.Offers.{answer_of}
 use Rattle.anti_shared.specs.inner.Reaching.{upto_rises}
 use Rattle.anti_shared.proofs.Numbered.{times_first, times_later, ended_same, calls_more}
 
@@ -23,31 +22,23 @@ abbrev pub sight : ℕ → List Entry → ℕ → View
 sight n seen visits = record { seen = seen; made = calls_of n seen; visits = visits }
 
 module _ (start : Start) (q : Asking) (n : ℕ) (found left : List Entry) where
-  abbrev pub IsOffered : Result Answer Asking → Type 0
-  IsOffered r =
-      IfOk r (λ a. Gives start found n q left a) × OnErr r (left ≡ found) × OnErr r (ready start found q.call ≡ false)
-
   -- nothing is added, or one entry of this number
   adds_none : left ≡ found → Adds seat_of n found left
   adds_none same = record { more = []; whole = same ∙ sym (append-nil found); own = All-nil (λ (e : Entry). seat_of e ≡ n) }
 
-  adds_given : (a : Answer) → Gives start found n q left a → Adds seat_of n found left
-  adds_given (Made place stamp reply) gives =
+  pub adds : (a : Answer) → Gives start found n q left a → Adds seat_of n found left
+  adds (Made place stamp reply) gives =
       let e = entry_of q n place stamp reply in
       record { more = e ∷ []; whole = gives.2; own = All-cons (λ (e : Entry). seat_of e ≡ n) e [] refl (All-nil (λ (e : Entry). seat_of e ≡ n)) }
-  adds_given NotYet gives = adds_none gives.0
-  adds_given (Full a b c) gives = adds_none gives.0
-  adds_given (Spent clock) gives = adds_none gives.0
-  adds_given NoMemory gives = adds_none gives.0
-
-  pub adds : (r : Result Answer Asking) → IsOffered r → Adds seat_of n found left
-  adds (Ok a) offered = adds_given a offered.0
-  adds (Err back) offered = adds_none offered.1
+  adds NotYet gives = adds_none gives.0
+  adds (Full a b c) gives = adds_none gives.0
+  adds (Spent clock) gives = adds_none gives.0
+  adds NoMemory gives = adds_none gives.0
 
   -- what the history had reached it has reached still
-  pub reached_still : (r : Result Answer Asking) → IsOffered r → (region most : ℕ) → most ≤ upto start found region → most ≤ upto start left region
-  reached_still r offered region most there =
-      let more = adds r offered in
+  pub reached_still : (a : Answer) → Gives start found n q left a → (region most : ℕ) → most ≤ upto start found region → most ≤ upto start left region
+  reached_still a gives region most there =
+      let more = adds a gives in
       subst (λ (h : List Entry). most ≤ upto start h region) (sym more.whole) (let rises = upto_rises start region found more.more in omega arith)
 
   wants : (a : Answer) → Gives start found n q left a → a ≡ NoMemory → Goes start left q
@@ -58,9 +49,8 @@ module _ (start : Start) (q : Asking) (n : ℕ) (found left : List Entry) where
   wants NoMemory gives is = subst (λ (h : List Entry). Goes start h q) (sym gives.0) gives.1
 
   -- memory is wanted only for what can be done
-  pub wanted : (s : Option Start) → s ≡ Some start → (r : Result Answer Asking) → IsOffered r → IfOk r (λ a. a ≡ NoMemory → GoesFrom s left q)
-  wanted s is (Ok a) offered = λ wanting. subst (λ (t : Option Start). GoesFrom t left q) (sym is) (wants a offered.0 wanting)
-  wanted s is (Err back) offered = tt
+  pub wanted : (s : Option Start) → s ≡ Some start → (a : Answer) → Gives start found n q left a → a ≡ NoMemory → GoesFrom s left q
+  wanted s is a gives wanting = subst (λ (t : Option Start). GoesFrom t left q) (sym is) (wants a gives wanting)
 
   module _ (seen : List Entry) (ended : List ℕ) (visits : ℕ) (goes : GoesOn seat_of (n ∷ ended) seen found) where
     mine : calls_of n found ≡ calls_of n seen
@@ -73,8 +63,8 @@ module _ (start : Start) (q : Asking) (n : ℕ) (found left : List Entry) where
       visits = inl (omega arith);
     }
 
-    given_answers : (a : Answer) → Gives start found n q left a → Answers start q (sight n seen visits) (sight n left (visits + 1)) a
-    given_answers (Made place stamp reply) gives =
+    answers : (a : Answer) → Gives start found n q left a → Answers start q (sight n seen visits) (sight n left (visits + 1)) a
+    answers (Made place stamp reply) gives =
         let e = entry_of q n place stamp reply in (
           found,
           (
@@ -89,26 +79,22 @@ module _ (start : Start) (q : Asking) (n : ℕ) (found left : List Entry) where
             },
           ),
         )
-    given_answers NotYet gives = (refused gives.0, subst (λ (h : List Entry). ready start h q.call ≡ false) (sym gives.0) gives.1)
-    given_answers (Full a b c) gives = (refused gives.0, rw gives.0 gives.1)
-    given_answers (Spent clock) gives = (refused gives.0, rw gives.0 gives.1)
-    given_answers NoMemory gives = record { front = (refused gives.0).front; made = (refused gives.0).made; visits = omega arith }
+    answers NotYet gives = (refused gives.0, subst (λ (h : List Entry). ready start h q.call ≡ false) (sym gives.0) gives.1)
+    answers (Full a b c) gives = (refused gives.0, rw gives.0 gives.1)
+    answers (Spent clock) gives = (refused gives.0, rw gives.0 gives.1)
+    answers NoMemory gives = record { front = (refused gives.0).front; made = (refused gives.0).made; visits = omega arith }
 
-    answers : (r : Result Answer Asking) → IsOffered r → Answers start q (sight n seen visits) (sight n left (visits + 1)) (answer_of r)
-    answers (Ok a) offered = given_answers a offered.0
-    answers (Err back) offered = (refused offered.1, subst (λ (h : List Entry). ready start h q.call ≡ false) (sym offered.1) offered.2)
-
-    pub answered : (s : Option Start) → s ≡ Some start → (r : Result Answer Asking) → IsOffered r → IsLegal start seen → IsLegal start left
-        → Answered s q (sight n seen visits) (sight n left (visits + 1)) (answer_of r)
-    answered s is r offered legal later =
-        subst (λ (t : Option Start). Answered t q (sight n seen visits) (sight n left (visits + 1)) (answer_of r)) (sym is) (answers r offered, legal, later)
+    pub answered : (s : Option Start) → s ≡ Some start → (a : Answer) → Gives start found n q left a → IsLegal start seen → IsLegal start left
+        → Answered s q (sight n seen visits) (sight n left (visits + 1)) a
+    answered s is a gives legal later =
+        subst (λ (t : Option Start). Answered t q (sight n seen visits) (sight n left (visits + 1)) a) (sym is) (answers a gives, legal, later)
 
     -- the calls of the passes that ended stay
-    pub ended_stay : ((m : ℕ) → times m (n ∷ ended) ≤ 1) → (r : Result Answer Asking) → IsOffered r → map (ended_in left) ended ≡ map (ended_in seen) ended
-    ended_stay distinct r offered =
+    pub ended_stay : ((m : ℕ) → times m (n ∷ ended) ≤ 1) → (a : Answer) → Gives start found n q left a → map (ended_in left) ended ≡ map (ended_in seen) ended
+    ended_stay distinct a gives =
         ended_same ended seen left (λ m stands.
         let apart : n ≢ m = λ same. absurd (
         let once = distinct n in
         let first = times_first n ended in
         let here : 0 < times n ended = subst (λ (k : ℕ). 0 < times k ended) (sym same) stands in omega arith) in
-        entries_of_others seat_of n m apart found left (adds r offered) ∙ goes.own m (let later = times_later m n ended in omega arith))
+        entries_of_others seat_of n m apart found left (adds a gives) ∙ goes.own m (let later = times_later m n ended in omega arith))

@@ -1,5 +1,4 @@
 pub mod Keeping
 pub mod Marks
 pub mod Seating
-pub mod Offers
 pub mod Reaching

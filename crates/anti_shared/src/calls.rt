@@ -1,8 +1,7 @@
-ghost use Rattle.std.specs.Prelude.{◌≡◌, All, IfOk, IfErr};
+ghost use Rattle.std.specs.Prelude.{◌≡◌, All, None, IfNone, IfSome};
 ghost use Rattle.anti_kind.specs.Shipments.{IsShip};
 ghost use Rattle.anti_kind.specs.Ports.{Answered};
 ghost use Rattle.anti_shared.specs.Passes.{GoesFrom, HasLoaded, after_call, after_calls, start_of, view_of};
-ghost use Rattle.anti_shared.specs.inner.Offers.{answer_of};
 
 use crate::marking::tell;
 use crate::pass::Pass;
@@ -12,22 +11,30 @@ use std::sync::Wait;
 use std::thread;
 
 impl<M: Machine> Shared<M> {
-    // Takes the turn, offers what is asked, and gives the turn back. Then it raises the marks that grew. What is not ready comes back.
-    fn visit<R: Wait>(&self, rt: &R, pass: &mut Pass<M>, asking: Asking) -> Result<Answer, Asking>
+    // Takes the turn, offers what is asked, and gives the turn back. Then it raises the marks that grew. What is not ready is put into
+    // `waiting`.
+    fn visit<R: Wait>(
+        &self,
+        rt: &R,
+        pass: &mut Pass<M>,
+        asking: Asking,
+        waiting: &mut Option<Asking>,
+    ) -> Answer
         requires of { pass.old.id ≡ self.now.id }
         requires object { asking.object ≡ self.now.id.object }
-        ensures answered { Answered (start_of M.start pass.old.id) asking (view_of pass.old) (view_of pass.new) (answer_of result) }
-        ensures waits { IfOk result (λ answer. answer ≡ Answer.NotYet → ⊥) }
-        ensures back { IfErr result (λ back. back ≡ asking) }
+        requires none { waiting.old ≡ None }
+        ensures answered { Answered (start_of M.start pass.old.id) asking (view_of pass.old) (view_of pass.new) result }
+        ensures waits { IfNone waiting.new (result ≡ Answer.NotYet → ⊥) }
+        ensures back { IfSome waiting.new (λ back. (back ≡ asking) × (result ≡ Answer.NotYet)) }
         ensures pass { pass.new ≡ after_call pass.old pass.new.seen pass.new.mine pass.new.raised }
         ensures own { All (λ e. e.seat ≡ pass.old.number) pass.new.mine }
         ensures loaded { HasLoaded M.start pass.old pass.new.seen }
-        ensures memory { IfOk result (λ answer. answer ≡ Answer.NoMemory → GoesFrom (start_of M.start pass.old.id) pass.new.seen asking) }
-        ensures ship { IsShip asking.call → IfOk result (λ answer. answer ≡ Answer.NoMemory → ⊥) }
+        ensures memory { result ≡ Answer.NoMemory → GoesFrom (start_of M.start pass.old.id) pass.new.seen asking }
+        ensures ship { IsShip asking.call → result ≡ Answer.NoMemory → ⊥ }
     {
         let number = pass.seat.number();
         let mut held = self.turn.enter(rt, &mut pass.seat);
-        let answer = held.value.offer(number, asking);
+        let answer = held.value.offer(number, asking, waiting);
         let risen = held.value.risen(&pass.raised);
         self.turn.leave(&mut pass.seat, held);
         tell(&self.turn, &mut pass.seat, &mut pass.raised, risen);
@@ -60,10 +67,7 @@ impl<M: Machine> Shared<M> {
             clock,
             call: c,
         };
-        match self.visit(rt, pass, asking) {
-            Ok(answer) => answer,
-            Err(_) => Answer::NotYet,
-        }
+        self.visit(rt, pass, asking, &mut None)
     }
 
     /// Makes a call on the object once it is ready: it tries until then, and never answers `NotYet`. Memory is wanted only for a call that
@@ -94,9 +98,11 @@ impl<M: Machine> Shared<M> {
             call: c,
         };
         for _ in rt.forever() {
-            match self.visit(rt, pass, asking) {
-                Ok(answer) => return answer,
-                Err(back) => asking = back,
+            let mut waiting = None;
+            let answer = self.visit(rt, pass, asking, &mut waiting);
+            match waiting {
+                None => return answer,
+                Some(back) => asking = back,
             }
             thread::yield_now();
         }

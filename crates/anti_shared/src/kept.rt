@@ -1,5 +1,5 @@
-ghost use Rattle.std.specs.Prelude.{◌≡◌, [], ◌<◌, false, IfOk, IfErr, OnErr};
-ghost use Rattle.anti_kind.specs.Objects.{IsLegal, ready};
+ghost use Rattle.std.specs.Prelude.{◌≡◌, [], ◌<◌, false, None, IfOk, IfErr, IfNone, IfSome};
+ghost use Rattle.anti_kind.specs.Objects.{IsLegal};
 ghost use Rattle.anti_kind.specs.Shipments.{IsShip, upto};
 ghost use Rattle.anti_kind.specs.Machines.{StandsFor};
 ghost use Rattle.anti_kind.specs.Lones.{IsNumbered};
@@ -112,21 +112,32 @@ impl<M: Machine> Kept<M> {
         Box::into_inner(self.recorded).into_parts()
     }
 
-    // Makes what is asked of the object, under the number of the pass that asks, or says why it does not. What is not ready is given back.
-    pub(crate) fn offer(&mut self, seat: u32, asking: Asking) -> Result<Answer, Asking>
-        requires { asking.object ≡ self.old.object }
-        ensures gives { IfOk result (λ answer. Gives (M.start self.old.first) self.old.history seat asking self.new.history answer) }
-        ensures waits { IfOk result (λ answer. answer ≡ Answer.NotYet → ⊥) }
-        ensures back { IfErr result (λ back. back ≡ asking) }
-        ensures not_yet { OnErr result (ready (M.start self.old.first) self.old.history asking.call ≡ false) }
-        ensures same { OnErr result (self.new.history ≡ self.old.history) }
+    // Makes what is asked of the object, under the number of the pass that asks, or says why it does not. What is not ready is put into
+    // `waiting`: in a result it would be moved with each answer.
+    pub(crate) fn offer(
+        &mut self,
+        seat: u32,
+        asking: Asking,
+        waiting: &mut Option<Asking>,
+    ) -> Answer
+        requires object { asking.object ≡ self.old.object }
+        requires none { waiting.old ≡ None }
+        ensures gives { Gives (M.start self.old.first) self.old.history seat asking self.new.history result }
+        ensures waits { IfNone waiting.new (result ≡ Answer.NotYet → ⊥) }
+        ensures back { IfSome waiting.new (λ back. (back ≡ asking) × (result ≡ Answer.NotYet)) }
         ensures object { self.new.object ≡ self.old.object }
         ensures first { self.new.first ≡ self.old.first }
         ensures before { IsLegal (M.start self.old.first) self.old.history }
         ensures after { IsLegal (M.start self.old.first) self.new.history }
-        ensures ship { IsShip asking.call → IfOk result (λ answer. answer ≡ Answer.NoMemory → ⊥) }
+        ensures ship { IsShip asking.call → result ≡ Answer.NoMemory → ⊥ }
     {
-        self.recorded.offer(seat, asking)
+        match self.recorded.offer(seat, asking) {
+            Ok(answer) => answer,
+            Err(back) => {
+                *waiting = Some(back);
+                Answer::NotYet
+            }
+        }
     }
 
     // How many versions, from the first on, are whole at a region.

@@ -1,26 +1,26 @@
-use Rattle.std.proofs.Common.{◌≡◌, ℕ, IfOk, ap, sym, ◌∙◌, subst}
+use Rattle.std.proofs.Common.{◌≡◌, ℕ, ap, sym, ◌∙◌, subst}
 use Rattle.anti_kind.specs.declared.entry.Entry.{Entry}
 use Rattle.anti_kind.specs.declared.port.Answer.TheVariants.{NoMemory}
 use Rattle.anti_kind.specs.Objects.{IsLegal}
 use Rattle.anti_kind.specs.Ports.{Answered}
+use Rattle.anti_kind.specs.Records.{Gives}
 use Rattle.anti_kind.proofs.Histories.{legal_front}
 use Rattle.anti_turn.specs.Lists.{Adds, top}
 use Rattle.anti_turn.specs.Places.{Place, without_turn}
 use Rattle.anti_shared.specs.Passes.{PassView, GoesFrom, HasLoaded, seat_of, start_of, view_of}
-use Rattle.anti_shared.specs.inner.Offers.{answer_of}
 use Rattle.anti_shared.specs.inner.Seating.{pass_of}
 use Rattle.anti_shared.proofs.Seated.{visited_seat, seated_visit, visited_pass, visited_own, told_there, has_loaded, started}
-use Rattle.anti_shared.proofs.Answering.{IsOffered, adds, reached_still, wanted, answered, ended_stay}
+use Rattle.anti_shared.proofs.Answering.{adds, reached_still, wanted, answered, ended_stay}
 use Rattle.anti_shared.proofs.shared.Shared.visit.Goals as goal
 use Rattle.anti_shared.proofs.shared.Shared.visit.Goals.{After-offer-answer, After-tell}
 use Rattle.anti_shared.proofs.shared.Shared.visit.Given as given
 
 -- what was answered under the turn, to the number of the seat
 offered : (g : given.Over) (c : After-offer-answer g)
-    → IsOffered (g.M.Machine.start c.enter-held.result.value.first) c.args.asking c.pass.inside.seat.number c.enter-held.result.value.history c.offer-answer.new.self.history c.offer-answer.result
+    → Gives (g.M.Machine.start c.enter-held.result.value.first) c.enter-held.result.value.history c.pass.inside.seat.number c.args.asking c.offer-answer.new.self.history c.offer-answer.result
 offered g c =
-    subst (λ (n : ℕ). IsOffered (g.M.Machine.start c.enter-held.result.value.first) c.args.asking n c.enter-held.result.value.history c.offer-answer.new.self.history c.offer-answer.result)
-    c.number-number.ensures.is (c.offer-answer.ensures.gives, c.offer-answer.ensures.same, c.offer-answer.ensures.not_yet)
+    subst (λ (n : ℕ). Gives (g.M.Machine.start c.enter-held.result.value.first) c.enter-held.result.value.history n c.args.asking c.offer-answer.new.self.history c.offer-answer.result)
+    c.number-number.ensures.is c.offer-answer.ensures.gives
 
 -- what the seat had seen is a front of what was found
 seen_legal : (g : given.Over) (c : After-offer-answer g) → IsLegal (g.M.Machine.start c.enter-held.result.value.first) c.pass.inside.seat.seen
@@ -57,7 +57,7 @@ returns-clause-answered g c =
     let seat = c.pass.inside.seat in
     let part : ℕ × g.row.M.Denot = (c.enter-held.result.value.object, c.enter-held.result.value.first) in
     let is = started start seat part c.enter-held.ensures.fixed in
-    subst (λ (z : PassView g.row.M.Denot × Place Entry (ℕ × g.row.M.Denot)). Answered (start_of start z.0.id) c.args.asking (view_of z.0) (view_of (pass_of z.1)) (answer_of c.offer-answer.result))
+    subst (λ (z : PassView g.row.M.Denot × Place Entry (ℕ × g.row.M.Denot)). Answered (start_of start z.0.id) c.args.asking (view_of z.0) (view_of (pass_of z.1)) c.offer-answer.result)
     (λ i. (c.pass.view_is i, sym (moved g c) i))
     (answered (start part.1) c.args.asking seat.number c.enter-held.result.value.history c.offer-answer.new.self.history seat.seen seat.ended seat.visits
     c.enter-held.ensures.list (start_of start (pass_of seat).id) is c.offer-answer.result (offered g at.After-offer-answer) (seen_legal g at.After-offer-answer) c.offer-answer.ensures.after)
@@ -82,7 +82,7 @@ returns-clause-memory g c =
     let seat = c.pass.inside.seat in
     let part : ℕ × g.row.M.Denot = (c.enter-held.result.value.object, c.enter-held.result.value.first) in
     let is = started start seat part c.enter-held.ensures.fixed in
-    subst (λ (z : PassView g.row.M.Denot × Place Entry (ℕ × g.row.M.Denot)). IfOk c.offer-answer.result (λ a. a ≡ NoMemory → GoesFrom (start_of start z.0.id) (pass_of z.1).seen c.args.asking))
+    subst (λ (z : PassView g.row.M.Denot × Place Entry (ℕ × g.row.M.Denot)). c.offer-answer.result ≡ NoMemory → GoesFrom (start_of start z.0.id) (pass_of z.1).seen c.args.asking)
     (λ i. (c.pass.view_is i, sym (moved g c) i))
     (wanted (start part.1) c.args.asking seat.number c.enter-held.result.value.history c.offer-answer.new.self.history (start_of start (pass_of seat).id) is c.offer-answer.result
     (offered g at.After-offer-answer))
