@@ -57,8 +57,9 @@ impl Replicas {
             → IfOk result (λ reply. reply ≡ Shown (plain (shown_row (showing_whole s) h region key.now ∷ []))) }
     {
         let row = self.shown_row(region, key)?;
-        let mut rows = Rows::new(self.alloc);
-        rows.add(row)?;
-        Ok(Reply::Shown(rows))
+        // room for just this row, since an entry keeps it
+        let mut rows = Vec::with_capacity(self.alloc, 1)?;
+        rows.push_reserved(row);
+        Ok(Reply::Shown(Rows::from(rows)))
     }
 }
