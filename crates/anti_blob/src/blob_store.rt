@@ -68,8 +68,8 @@ impl Machine for Blob {
         self.base.keyed_due(c)
     }
 
-    fn apply(&mut self, c: &Call) -> Result<(), NoMemory> {
-        self.base.keyed_apply(c)
+    fn apply(&mut self, c: &Call, reply: &Reply) -> Result<(), NoMemory> {
+        self.base.keyed_apply(c, reply)
     }
 }
 

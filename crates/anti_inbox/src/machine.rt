@@ -167,7 +167,7 @@ impl Machine for Inbox {
         }
     }
 
-    fn apply(&mut self, c: &Call) -> Result<(), NoMemory> {
+    fn apply(&mut self, c: &Call, _reply: &Reply) -> Result<(), NoMemory> {
         let need = self.need(c);
         self.note(c)?;
         self.held += 1;

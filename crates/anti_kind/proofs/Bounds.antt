@@ -3,9 +3,9 @@ use Rattle.std.proofs.Common.{◌≡◌, ℕ, Bool, true, false, cond, ◌+◌, 
 use Rattle.anti_ids.specs.declared.limits.TheConstants.{MOST_UNITS}
 use Rattle.anti_kind.specs.Kinds.{facts_of}
 use Rattle.anti_kind.specs.declared.entry.Entry.{Entry}
-use Rattle.anti_kind.specs.Objects.{Start, store, inbox, held, owed, need, Follows, IsLegal}
+use Rattle.anti_kind.specs.Objects.{Start, store, inbox, held, owed, need, weight, Follows, IsLegal}
 use Rattle.anti_kind.specs.Starts.{IsStart}
-use Rattle.anti_kind.proofs.Histories.{by_entries, length_held, fits_number}
+use Rattle.anti_kind.proofs.Histories.{by_entries, length_held, fits_number, held_more, legal_more}
 use Rattle.anti_kind.proofs.Balance.{store_units}
 use Rattle.anti_kind.proofs.Deliveries.{inbox_units, start_owes}
 
@@ -31,6 +31,10 @@ within_units start h sane l =
 pub held_within : (start : Start) (h : List Entry) → IsStart start → IsLegal start h → held h ≤ MOST_UNITS
 held_within start h sane l = omega (arith, within_units start h sane l)
 
--- and so is its length
+-- so is what an entry weighs
+pub weight_within : (start : Start) (h : List Entry) (e : Entry) → IsStart start → IsLegal start h → Follows start h e → weight e.reply ≤ MOST_UNITS
+weight_within start h e sane l f = omega (arith, held_more h e, held_within start (h ++ e ∷ []) sane (legal_more start h e l f))
+
+-- and its length
 pub length_within : (start : Start) (h : List Entry) → IsStart start → IsLegal start h → length h ≤ MOST_UNITS
 length_within start h sane l = omega (arith, within_units start h sane l, length_held h)

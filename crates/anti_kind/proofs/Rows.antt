@@ -53,6 +53,13 @@ rows_write s h e key value lineage f is =
     let due : e.reply ≡ store_due s h (Write key value lineage) = f.reply ∙ ap (λ (c : Call). store_due s h c) is in
     rows_more h e ∙ ap (λ (c : Call). rows h ++ wrote c e.reply) is ∙ ap (λ (r : Reply). rows h ++ wrote (Write key value lineage) r) due
 
+-- and its reply has the key that the write gets
+pub key_given : (s : Store) (h : List Entry) (e : Entry) (name value : List ℕ) (lineage : List WriteId) → Follows (store s) h e → e.call ≡ Write name value lineage
+    → (key : List ℕ) (version : ℕ) → e.reply ≡ Written key version → key ≡ key_for s.kind h name
+key_given s h e name value lineage f is key version given =
+    let due : Written key version ≡ Written (key_for s.kind h name) (length (rows h) + 1) = sym given ∙ f.reply ∙ ap (λ (c : Call). store_due s h c) is in
+    cc
+
 -- what is kept beside a write is what it stores
 pub stored_is_over : (s : Store) (h : List Entry) (e : Entry) (key value : List ℕ) (lineage : List WriteId) → Follows (store s) h e → e.call ≡ Write key value lineage
     → stored e.call e.reply ≡ over s h key lineage

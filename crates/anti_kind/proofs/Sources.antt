@@ -79,6 +79,15 @@ pull_gives s h l n there =
     let some : (r : Row) × (next s h n ≡ Some r) = some_there (next s h n) there in
     (some.0, record { next = some.1; row = row_in s h l some.0 (subscribed_in s h n (slice_get s.subs n) some.0 some.1) })
 
+-- its reply has the version of that row
+pub next_given : (s : Store) (h : List Entry) (e : Entry) → IsLegal (store s) h → Follows (store s) h e → (n : ℕ) → e.call ≡ Pull n
+    → (r : Row) → e.reply ≡ Pulled r → next s h n ≡ row_of h r.version
+next_given s h e l f n is r given =
+    let got : (x : Row) × IsGiven s h n x = pull_gives s h l n (ap (λ (c : Call). store_ready s h c) (sym is) ∙ f.is_ready) in
+    let due : Pulled r ≡ Pulled got.0 = sym given ∙ f.reply ∙ ap (λ (c : Call). store_due s h c) is ∙ ap (λ (o : Option Row). Pulled (unwrap_or o (absent []))) got.1.next in
+    let same : r ≡ got.0 = cc in
+    got.1.next ∙ sym got.1.row ∙ ap (λ (x : Row). row_of h x.version) (sym same)
+
 -- A version that a subscription pulled has its row.
 
 pub pull_of : (n : ℕ) (c : Call) → is_pull_by n c ≡ true → c ≡ Pull n

@@ -168,6 +168,22 @@ impl Copies for Call {
     }
 }
 
+impl Reply {
+    ghost use Rattle.std.specs.Prelude.{◌≡◌, ◌-◌, ◌^◌, min};
+    ghost use Rattle.anti_kind.specs.Objects.{weight};
+
+    /// The units of an entry with this reply, one for each row that it shows and one where it shows none, or `u32::MAX` where they are more.
+    /// It takes no memory.
+    pub fn weight(&self) -> u32
+        ensures { result ≡ min (weight self.now) (2 ^ 32 - 1) }
+    {
+        match self {
+            Reply::Shown(rows) => rows.len().max(1).min(u32::MAX as usize) as u32,
+            _ => 1,
+        }
+    }
+}
+
 impl Copies for Reply {
     ghost use Rattle.std.specs.Prelude.{◌≡◌, IfOk, IsOk};
 

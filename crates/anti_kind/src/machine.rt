@@ -10,7 +10,7 @@ pub trait Machine {
     ghost use Rattle.anti_kind.specs.Waiting.{waits};
     ghost use Rattle.anti_kind.specs.Objects.{Start, ready, need, held, owed, due, Follows};
     ghost use Rattle.anti_kind.specs.Shipments.{upto, next_ship, IsShip};
-    ghost use Rattle.anti_kind.specs.Machines.{StandsFor, MayMake};
+    ghost use Rattle.anti_kind.specs.Machines.{StandsFor, MayMake, MayApply};
 
     ghost start: { Self → Start };
 
@@ -53,11 +53,12 @@ pub trait Machine {
         ensures due { (h : List Entry) → StandsFor (start self.now) (Stands self.now) h → IfOk result (λ r. r ≡ due (start self.now) h c.now) }
         ensures ship { IsShip c.now → IsOk result };
 
-    /// Makes a call that is ready and fits. The reply that it is due is told by `due` before. Where there is no memory it stands for what
-    /// it stood for. A `Ship` takes no memory.
-    fn apply(&mut self, c: &Call) -> Result<(), NoMemory>
-        requires { MayMake (start self.old) (Stands self.old) c.now }
-        ensures stands { (h : List Entry) (e : Entry) → StandsFor (start self.old) (Stands self.old) h → Follows (start self.old) h e → e.call ≡ c.now → OnOk result (Stands self.new (h ++ e ∷ [])) }
+    /// Makes a call that is ready and fits, with the reply that it is due, which `due` tells before. Where there is no memory it stands for
+    /// what it stood for. A `Ship` takes no memory.
+    fn apply(&mut self, c: &Call, reply: &Reply) -> Result<(), NoMemory>
+        requires { MayApply (start self.old) (Stands self.old) c.now reply.now }
+        ensures stands { (h : List Entry) (e : Entry) → StandsFor (start self.old) (Stands self.old) h → Follows (start self.old) h e
+            → e.call ≡ c.now → e.reply ≡ reply.now → OnOk result (Stands self.new (h ++ e ∷ [])) }
         ensures err { (h : List Entry) → Stands self.old h → OnErr result (Stands self.new h) }
         ensures start { start self.new ≡ start self.old }
         ensures ship { IsShip c.now → IsOk result };

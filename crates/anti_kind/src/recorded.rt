@@ -202,7 +202,7 @@ impl<M: Machine> Recorded<M> {
         ensures ship { IsShip entry.call → IsOk result }
     {
         self.history.reserve(room)?;
-        self.machine.apply(&entry.call)?;
+        self.machine.apply(&entry.call, &entry.reply)?;
         self.last = entry.stamp;
         self.history.put(entry);
         Ok(())

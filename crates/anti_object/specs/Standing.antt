@@ -1,6 +1,7 @@
 -- How an object of an application stands for a history.
 use Rattle.std.specs.Prelude.{◌≡◌, ℕ, List, [], Some}
 use Rattle.anti_kind.specs.declared.call.Call.{Call}
+use Rattle.anti_kind.specs.declared.call.Reply.{Reply}
 use Rattle.anti_kind.specs.declared.entry.Entry.{Entry}
 use Rattle.anti_kind.specs.Objects.{Start}
 use Rattle.anti_kind.specs.Machines.{StandsFor}
@@ -42,9 +43,9 @@ ObjectStands (machines.Inbox m) h = inboxes.InboxStands m h
 abbrev pub ObjectAt : Object → List Entry → Type 0
 ObjectAt o h = StandsFor (object_start o) (ObjectStands o) h
 
--- after some history for which the object stands the call is ready and fits
-abbrev pub MayMake : Object → Call → Type 0
-MayMake o c = kind_machines.MayMake (object_start o) (ObjectStands o) c
+-- after some history for which the object stands the call is ready and fits, and is due this reply
+abbrev pub MayApply : Object → Call → Reply → Type 0
+MayApply o c r = kind_machines.MayApply (object_start o) (ObjectStands o) c r
 
 -- the object with a number, on which nothing has happened yet
 pub record IsNew (app : App) (number : ℕ) (o : Object) : Type 0 where

@@ -82,8 +82,8 @@ impl Machine for Object {
         each!(self, machine => machine.due(c))
     }
 
-    fn apply(&mut self, c: &Call) -> Result<(), NoMemory> {
-        each!(self, machine => machine.apply(c))
+    fn apply(&mut self, c: &Call, reply: &Reply) -> Result<(), NoMemory> {
+        each!(self, machine => machine.apply(c, reply))
     }
 }
 

@@ -121,13 +121,13 @@ impl Machine for Queue {
         }
     }
 
-    fn apply(&mut self, c: &Call) -> Result<(), NoMemory> {
+    fn apply(&mut self, c: &Call, reply: &Reply) -> Result<(), NoMemory> {
         match c {
             Call::Write {
                 key,
                 value,
                 lineage,
-            } => self.write(key.get(), value, lineage.get()),
+            } => self.write(key.get(), value, lineage.get(), reply),
             Call::Ship {
                 region,
                 version,

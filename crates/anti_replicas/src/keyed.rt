@@ -55,13 +55,13 @@ impl Replicas {
         }
     }
 
-    /// Makes a call that is ready and fits, in a store that is read by keys. Where there is no memory it stands for what it stood for. A
-    /// `Ship` takes no memory.
-    pub fn keyed_apply(&mut self, c: &Call) -> Result<(), NoMemory>
+    /// Makes a call that is ready and fits, with the reply that it is due, in a store that is read by keys. Where there is no memory it
+    /// stands for what it stood for. A `Ship` takes no memory.
+    pub fn keyed_apply(&mut self, c: &Call, reply: &Reply) -> Result<(), NoMemory>
         requires { MayKeyed self.old c.now }
         ensures stands { (kind : StoreKind) (number : ℕ) (regions : List ℕ) (h : List Entry) (e : Entry)
             → At self.old (keyed kind number regions) h → (facts_of kind).keyed ≡ true
-            → Follows (store (keyed kind number regions)) h e → e.call ≡ c.now
+            → Follows (store (keyed kind number regions)) h e → e.call ≡ c.now → e.reply ≡ reply.now
             → OnOk result (Stands self.new (keyed kind number regions) (h ++ e ∷ [])) }
         ensures err { (s : Store) (h : List Entry) → Stands self.old s h → OnErr result (Stands self.new s h) }
         ensures number { number_of self.new ≡ number_of self.old }
@@ -78,9 +78,8 @@ impl Replicas {
                 self.pass(c);
                 Ok(())
             }
-            Call::Scan { region, prefix } => {
-                let units = self.scan_units(*region, prefix);
-                self.note(units);
+            Call::Scan { .. } => {
+                self.note(reply.weight());
                 Ok(())
             }
             _ => unreachable!(), // no other call is ready, by the table

@@ -2,36 +2,37 @@ ghost use Rattle.std.specs.Prelude.{◌≡◌, List, [], ◌∷◌, ◌++◌, On
 ghost use Rattle.anti_kind.specs.declared.call.Call.TheVariants.{Write};
 ghost use Rattle.anti_kind.specs.declared.entry.Entry.{Entry};
 ghost use Rattle.anti_kind.specs.Objects.{Follows};
-ghost use Rattle.anti_kind.specs.Machines.{MayMake};
+ghost use Rattle.anti_kind.specs.Machines.{MayMake, MayApply};
 
 use crate::topic_store::Topic;
 use anti_ids::{Lineage, Name, NoMemory, Value};
-use anti_kind::Call;
+use anti_kind::{Call, Reply};
 
 impl Topic {
     ghost use Rattle.anti_topic.specs.TopicStates.{its_start, TopicStands, At};
     ghost use Rattle.anti_topic.specs.inner.Changes.{IsQuiet};
 
-    // Writes a value to a channel: it is the next cell there.
+    // Writes a value to a channel: it is the next cell there, with the key that the reply says.
     pub(crate) fn write(
         &mut self,
         channel: &Name,
         value: &Value,
         lineage: &Lineage,
+        reply: &Reply,
     ) -> Result<(), NoMemory>
-        requires { MayMake (its_start self.old) (TopicStands self.old)
-            (Write channel.now value.now lineage.now) }
+        requires { MayApply (its_start self.old) (TopicStands self.old)
+            (Write channel.now value.now lineage.now) reply.now }
         ensures stands { (h : List Entry) (e : Entry) → At self.old h
-            → Follows (its_start self.old) h e → e.call ≡ Write channel.now value.now lineage.now
+            → Follows (its_start self.old) h e → e.call ≡ Write channel.now value.now lineage.now → e.reply ≡ reply.now
             → OnOk result (TopicStands self.new (h ++ e ∷ [])) }
         ensures err { (h : List Entry) → TopicStands self.old h → OnErr result (TopicStands self.new h) }
         ensures start { its_start self.new ≡ its_start self.old }
     {
-        let Some(key) = self.channels.next_key(channel) else {
-            unreachable!(); // the channel is plain, since the call is ready
+        let Reply::Written { key, .. } = reply else {
+            unreachable!(); // that is the reply to a write
         };
         self.channels.make_place(*channel)?;
-        self.base.write(key, value, lineage)?;
+        self.base.write(*key.get(), value, lineage)?;
         self.channels.add(channel);
         Ok(())
     }

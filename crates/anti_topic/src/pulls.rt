@@ -5,7 +5,7 @@ ghost use Rattle.anti_kind.specs.declared.entry.Entry.{Entry};
 ghost use Rattle.anti_kind.specs.Stored.{row_of};
 ghost use Rattle.anti_kind.specs.Store.{absent, next, was_pulled};
 ghost use Rattle.anti_kind.specs.Objects.{Follows};
-ghost use Rattle.anti_kind.specs.Machines.{MayMake};
+ghost use Rattle.anti_kind.specs.Machines.{MayApply};
 
 use crate::pull_cursor::PullCursor;
 use crate::topic_store::Topic;
@@ -90,16 +90,18 @@ impl Topic {
         cursor.last = version;
     }
 
-    // Pulls the next cell of a subscription. It takes no memory.
-    pub(crate) fn pull(&mut self, number: u32)
-        requires { MayMake (its_start self.old) (TopicStands self.old) (Pull number) }
+    // Pulls the next cell of a subscription, which the reply hands out. It takes no memory.
+    pub(crate) fn pull(&mut self, number: u32, reply: &Reply)
+        requires { MayApply (its_start self.old) (TopicStands self.old) (Pull number) reply.now }
         ensures stands { (h : List Entry) (e : Entry) → At self.old h
-            → Follows (its_start self.old) h e → e.call ≡ Pull number
+            → Follows (its_start self.old) h e → e.call ≡ Pull number → e.reply ≡ reply.now
             → TopicStands self.new (h ++ e ∷ []) }
         ensures start { its_start self.new ≡ its_start self.old }
     {
-        let version = self.next_version(number);
-        self.move_on(number, version);
+        let Reply::Pulled(cell) = reply else {
+            unreachable!(); // that is the reply to a pull
+        };
+        self.move_on(number, cell.get().version);
         self.base.note(1);
     }
 }

@@ -117,15 +117,15 @@ impl Machine for Topic {
         }
     }
 
-    fn apply(&mut self, c: &Call) -> Result<(), NoMemory> {
+    fn apply(&mut self, c: &Call, reply: &Reply) -> Result<(), NoMemory> {
         match c {
             Call::Write {
                 key,
                 value,
                 lineage,
-            } => self.write(key.get(), value, lineage.get()),
+            } => self.write(key.get(), value, lineage.get(), reply),
             Call::Pull { sub } => {
-                self.pull(*sub);
+                self.pull(*sub, reply);
                 Ok(())
             }
             _ => {

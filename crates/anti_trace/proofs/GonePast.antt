@@ -11,7 +11,7 @@ use Rattle.anti_kind.specs.Objects.{Follows}
 use Rattle.anti_app.specs.declared.app.App.{App}
 use Rattle.anti_app.specs.Objects.{object_count}
 use Rattle.anti_object.specs.declared.object.Object.{Object}
-use Rattle.anti_object.specs.Standing.{object_start, ObjectAt, ObjectStands, MayMake, IsNew}
+use Rattle.anti_object.specs.Standing.{object_start, ObjectAt, ObjectStands, MayApply, IsNew}
 use Rattle.anti_object.specs.Starts.{start_of}
 use Rattle.anti_object.proofs.Histories.{at_more}
 use Rattle.anti_object.proofs.Starts.{start_past, start_there}
@@ -77,8 +77,11 @@ module _ (app : App) (before : List Entry) (e : Entry) (objects : List Object) (
     follows : Follows (object_start old) (entries_on e.object before) e
     follows = all.follows (object_start old) was.start
 
-    pub may_make : MayMake old e.call
-    may_make = record { history = entries_on e.object before; stands_for = was.stands; is_ready = follows.is_ready; fits = follows.fits }
+    pub may_apply : MayApply old e.call e.reply
+    may_apply = record {
+      may = record { history = entries_on e.object before; stands_for = was.stands; is_ready = follows.is_ready; fits = follows.fits };
+      is_due = follows.reply;
+    }
 
     pub gone_past : (new : Object) → object_start new ≡ object_start old
         → ((h : List Entry) → ObjectAt old h → Follows (object_start old) h e → ObjectStands new (h ++ e ∷ []))

@@ -68,7 +68,7 @@ fn go_past(objects: &mut Vec<Object>, entry: &Entry) -> Result<(), NoMemory>
     ensures { (app : App) (before : Entries) → AreBefore app before entry.now objects.old.items
         → OnOk result (AreAfter app (before ++ entry.now ∷ []) objects.new.items) }
 {
-    objects[entry.object as usize].apply(&entry.call)?;
+    objects[entry.object as usize].apply(&entry.call, &entry.reply)?;
     Ok(())
 }
 

@@ -13,11 +13,11 @@ returns-in_err-note-clause-err c = λ h stands.
 pub overflow_sub-self : goal.overflow_sub-self
 overflow_sub-self c =
     let some : 1 ≤ c.args.self.now.owed + c.need-need.result =
-    some_unit c.args.self.now c.args.c.now c.need-need.result c.requires (c.need-need.ensures c.requires.history c.requires.stands_for) in
+    some_unit c.args.self.now c.args.c.now c.need-need.result c.requires.may (c.need-need.ensures c.requires.may.history c.requires.may.stands_for) in
     omega (arith, c.note.ensures.keeps.owed_is)
 
 pub returns-clause-stands : goal.returns-clause-stands
-returns-clause-stands c = λ h e at f is.
+returns-clause-stands c = λ h e at f is replies.
     let m = c.args.self.now in
     stands_more m h e at f c.note.new.self _ c.need-need.result (c.need-need.ensures h at ∙ ap (λ (x : Call). need (start_of m) h x) (sym is))
     c.note.ensures.keeps (c.in_ok-note.ensures.ok h e at f is) refl

@@ -16,6 +16,14 @@ follows g c = rw (← c.self.view_is) at c.requires.follows
 room_is : (g : given.Over) (c : After-reserve g) → c.args.room ≡ owed (g.M.Machine.start c.self.inside.machine) c.self.inside.history.items + need (g.M.Machine.start c.self.inside.machine) c.self.inside.history.items c.args.entry.call
 room_is g c = rw (← c.self.view_is) at c.requires.room
 
+pub apply-requires : goal.apply-requires
+apply-requires g c =
+    let f = follows g (goal.at.apply-requires g c).After-reserve in
+    record {
+      may = record { history = c.self.inside.history.items; stands_for = c.self.invariant.stands_for; is_ready = f.is_ready; fits = f.fits };
+      is_due = f.reply;
+    }
+
 -- the reserved room is that of one entry at least
 pub put-requires : goal.put-requires
 put-requires g c =
@@ -43,4 +51,4 @@ invariant_of-self-2 g c =
     let f = follows g d in
     subst (λ (s : Start). IsRecorded s (g.M.Machine.Stands c.apply.new.self) c.args.entry.stamp c.put.new.self) (sym c.apply.ensures.start)
     (recorded_more start (g.M.Machine.Stands c.self.inside.machine) (g.M.Machine.Stands c.apply.new.self) c.self.inside.last c.args.room c.self.inside.history c.put.new.self c.args.entry
-    c.self.invariant f (c.in_ok-apply.ensures.stands h c.args.entry c.self.invariant.stands_for f refl) (room_is g d) (new_is g (goal.at.invariant_of-self-2 g c).After-put))
+    c.self.invariant f (c.in_ok-apply.ensures.stands h c.args.entry c.self.invariant.stands_for f refl refl) (room_is g d) (new_is g (goal.at.invariant_of-self-2 g c).After-put))

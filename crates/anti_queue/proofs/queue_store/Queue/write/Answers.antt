@@ -1,19 +1,17 @@
-use Rattle.std.proofs.Common.{◌≡◌, true, Some, refl, sym, ap, subst, ◌∙◌}
-use Rattle.anti_ids.specs.Names.{is_plain}
-use Rattle.anti_kind.specs.declared.call.Call.{Call}
-use Rattle.anti_kind.specs.Store.{Store, key_for, store_ready}
+use Rattle.std.proofs.Common.{refl, sym, subst, ◌∙◌}
+use Rattle.anti_kind.specs.Store.{Store}
 use Rattle.anti_kind.specs.Objects.{store, Follows, IsLegal}
 use Rattle.anti_kind.specs.Starts.{IsStart}
 use Rattle.anti_kind.specs.Machines.{StandsFor}
+use Rattle.anti_kind.proofs.Rows.{key_given}
 use Rattle.anti_queue.specs.QueueStates.{its_store, its_start, QueueStands}
 use Rattle.anti_queue.proofs.Standing.{base_at}
 use Rattle.anti_queue.proofs.Written.{stands_written}
 use Rattle.anti_queue.proofs.queue_store.Queue.write.Goals as goal
 
 pub returns-clause-stands : goal.returns-clause-stands
-returns-clause-stands c = λ h e at f is.
+returns-clause-stands c = λ h e at f is given.
     let m = c.make_room.new.self in
-    let s = its_store c.args.self.now in
     let channel = c.args.channel.now in
     let made = c.in_ok-make_room.ensures in
     let at' : StandsFor (its_start m) (QueueStands m) h = record {
@@ -22,9 +20,7 @@ returns-clause-stands c = λ h e at f is.
       state = made.stands h at.state;
     } in
     let f' : Follows (its_start m) h e = subst (λ (t : Store). Follows (store t) h e) (sym made.store) f in
-    let plain : is_plain channel ≡ true = ap (λ (x : Call). store_ready s h x) (sym is) ∙ f.is_ready in
-    let some : Some c.in-Some.key ≡ Some (key_for s.kind h channel) = sym c.in-Some.is ∙ c.next_key.ensures s h at.legal at.state.channels refl plain in
-    let key : c.in-Some.key ≡ key_for s.kind h channel = cc in
+    let key = c.get.ensures ∙ key_given (its_store c.args.self.now) h e channel c.args.value.now c.args.lineage.now f is _ _ (given ∙ c.in-Written.is) in
     let wrote = c.in_ok-write.ensures in
     stands_written m h e channel c.args.value.now c.args.lineage.now at' f' is made.room c.write.new.self c.add-2.new.self c.add.new.self
     wrote.number wrote.regions (wrote.stands (its_store m) h e channel (base_at m h at') f' is key)
