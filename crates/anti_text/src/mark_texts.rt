@@ -1,4 +1,4 @@
-ghost use Rattle.std.specs.Prelude.{◌≡◌, ◌++◌, true, map, IfOk, IsTrue, OnOk};
+ghost use Rattle.std.specs.Prelude.{◌≡◌, ◌/◌, ◌%◌, ◌++◌, true, map, IfOk, IsTrue, OnOk};
 ghost use Rattle.std.specs.List.{flat_map};
 ghost use Rattle.anti_order.specs.inner.Pieces.{IsWithin, marks_in};
 ghost use Rattle.anti_text.specs.Spans.{spaced_mark};
@@ -32,22 +32,35 @@ fn texts_of(alloc: Global, app: &App, marks: &[Mark]) -> Result<Pieces, NoMemory
     Ok(texts)
 }
 
-// Whether marks are the same, told by a loop that calls nothing, as `==` of slices does for each item.
+// A mark as one number.
+fn number_of(mark: Mark) -> u64
+    ensures object { result % 4294967296 ≡ mark.object }
+    ensures place { result / 4294967296 ≡ mark.place }
+{
+    u64::from(mark.place) * 0x1_0000_0000 + u64::from(mark.object)
+}
+
+// Whether two marks are the same, by one comparison.
+fn is_same(one: Mark, other: Mark) -> bool
+    ensures { IsTrue result → one ≡ other }
+{
+    number_of(one) == number_of(other)
+}
+
+// Whether marks are the same. All of them are compared, many at once: the loop has no exit but its end.
 fn are_same(one: &[Mark], other: &[Mark]) -> bool
     ensures { IsTrue result → one.now ≡ other.now }
 {
     if one.len() != other.len() {
         return false;
     }
+    let mut same = true;
     let mut at = 0;
     for mark in one {
-        let there = other[at];
-        if there.object != mark.object || there.place != mark.place {
-            return false;
-        }
+        same &= is_same(*mark, other[at]);
         at += 1;
     }
-    true
+    same
 }
 
 // Writes marks one by one.
