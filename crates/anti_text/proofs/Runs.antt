@@ -1,8 +1,9 @@
 -- A run with one more text, and another run behind it.
-use Rattle.std.proofs.Common.{◌≡◌, ℕ, ◌+◌, ◌-◌, ◌<◌, ◌≤◌, suc, List, [], ◌∷◌, ◌++◌, length, take, drop, get_or, sym, ap, ◌∙◌, arith}
-use Rattle.std.specs.List.{concat}
+use Rattle.std.proofs.Common.{◌≡◌, ℕ, ◌+◌, ◌-◌, ◌<◌, ◌≤◌, zero, suc, List, [], ◌∷◌, ◌++◌, Some, length, map, take, drop, get_or, slice_get, option_map, sym, ap, ◌∙◌, arith}
+use Rattle.std.specs.List.{concat, flat_map}
 use Rattle.std.proofs.lemmas.List.{append-nil, append_assoc, get_or-drop, length-drop}
 use Rattle.std.proofs.lemmas.List.Folds.{concat-append}
+use Rattle.std.proofs.lemmas.Option.{get_or_from_slice_get, slice_get-map, slice_get_within}
 use Rattle.std.proofs.Math.Seq.{take-suc}
 
 -- the texts from one on, and one more
@@ -34,3 +35,28 @@ another pieces number within =
     let place : number + 0 ≡ number = omega arith in
     ap (λ (n : ℕ). concat (take n (drop number pieces))) one
     ∙ more_is pieces number 0 (omega (arith, within)) ∙ ap (λ (n : ℕ). get_or pieces n []) place
+
+-- the text that is kept of an item
+pub is_kept : {X : Type 0} (f : X → List ℕ) (pieces : List (List ℕ)) (items : List X) (number : ℕ) (x : X)
+    → pieces ≡ map f items → slice_get items number ≡ Some x → slice_get pieces number ≡ Some (f x)
+is_kept f pieces items number x kept there =
+    ap (λ (ps : List (List ℕ)). slice_get ps number) kept ∙ slice_get-map f items number ∙ ap (option_map f) there
+
+-- the first of the items behind a number, and those behind it
+pub first_behind : {X : Type 0} (number : ℕ) (items : List X) (x : X) (xs : List X) → drop number items ≡ x ∷ xs
+    → (slice_get items number ≡ Some x) × (drop (suc number) items ≡ xs)
+first_behind {X} zero items x xs is = (ap (λ (ys : List X). slice_get ys 0) is, ap (λ (ys : List X). drop 1 ys) is)
+first_behind (suc n) [] x xs is = absurd (cc)
+first_behind (suc n) (y ∷ ys) x xs is = first_behind n ys x xs is
+
+-- Of items that are left the first goes over to the run before them, where its text is kept behind that.
+pub goes_over : {X : Type 0} (f : X → List ℕ) (pieces : List (List ℕ)) (from to : ℕ) (x : X) (left rest : List X)
+    → from ≤ to → slice_get pieces to ≡ Some (f x) → left ≡ x ∷ rest
+    → concat (take ((to + 1) - from) (drop from pieces)) ++ flat_map f rest ≡ concat (take (to - from) (drop from pieces)) ++ flat_map f left
+goes_over {X} f pieces from to x left rest ascends there is =
+    let run = concat (take (to - from) (drop from pieces)) in
+    ap (λ (t : List ℕ). t ++ flat_map f rest)
+    (one_more [] pieces from to ascends (slice_get_within pieces to (f x) there)
+    ∙ ap (λ (t : List ℕ). run ++ t) (get_or_from_slice_get pieces to (f x) [] there))
+    ∙ append_assoc run (f x) (flat_map f rest)
+    ∙ ap (λ (xs : List X). run ++ flat_map f xs) (sym is)

@@ -1,13 +1,14 @@
-ghost use Rattle.std.specs.Prelude.{◌≡◌, ◌++◌, Some, true, map, slice_get, IfOk, IfSome, OnOk};
+ghost use Rattle.std.specs.Prelude.{◌≡◌, ◌++◌, ◌∷◌, ◌<◌, Some, true, length, map, slice_get, IfNone, IfOk, IfSome, OnOk};
 ghost use Rattle.std.specs.List.{flat_map};
 ghost use Rattle.anti_baggage.specs.Texts.{lineage_text};
 ghost use Rattle.anti_text.specs.inner.Runs.{IsRun, kept_text, run_text};
 
-use crate::lists::{empty_lists, item_at, item_count};
+use crate::lists::item_at;
 use crate::output::Output;
 use crate::pieces::{PieceRun, Pieces};
-use anti_ids::{Lineage, Name, NoMemory, WriteId};
-use anti_kind::{Entry, Reply};
+use crate::written_ids::WrittenIds;
+use anti_ids::{Ids, Lineage, Name, NoMemory, WriteId};
+use anti_kind::Entry;
 use std::alloc::Global;
 
 /// Writes lineages over the names of the stores by their numbers, by the texts of the ids of the writes of a record, each made once.
@@ -15,58 +16,9 @@ use std::alloc::Global;
 pub struct IdTexts {
     /// The names of the stores.
     pub stores: Vec<Name>,
-    ids: Vec<WriteId>,
+    written: WrittenIds,
     pieces: Pieces,
-    // At which of the ids those of each store begin.
-    starts: Vec<usize>,
-    ghost kept: { pieces ≡ map (kept_text stores.items) ids.items },
-}
-
-// Adds the id that an entry wrote, where it is the next of its store.
-fn add_written(lists: &mut Vec<Vec<WriteId>>, entry: &Entry) -> Result<(), NoMemory> {
-    let Reply::Written { key, version } = &entry.reply else {
-        return Ok(());
-    };
-    let store = entry.object;
-    let Some(list) = lists.get_mut(store as usize) else {
-        return Ok(());
-    };
-    if version.checked_sub(1) != Some(list.len() as u64) {
-        return Ok(());
-    }
-    list.push(WriteId {
-        store,
-        key: *key.get(),
-        version: *version,
-    })?;
-    Ok(())
-}
-
-// The ids that entries wrote on each of so many stores, in the order of their versions.
-fn ids_by_store(
-    alloc: Global,
-    stores: usize,
-    entries: &[Entry],
-) -> Result<Vec<Vec<WriteId>>, NoMemory> {
-    let mut lists = empty_lists(alloc, stores)?;
-    for entry in entries {
-        add_written(&mut lists, entry)?;
-    }
-    Ok(lists)
-}
-
-// The ids of lists, one behind another, and at which of them those of each list begin.
-fn in_a_row(
-    alloc: Global,
-    lists: Vec<Vec<WriteId>>,
-) -> Result<(Vec<WriteId>, Vec<usize>), NoMemory> {
-    let mut ids = Vec::with_capacity(alloc, item_count(lists.as_slice()))?;
-    let mut starts = Vec::with_capacity(alloc, lists.len())?;
-    for list in lists {
-        starts.push(ids.len())?;
-        ids.extend_from_slice(list.as_slice())?;
-    }
-    Ok((ids, starts))
+    ghost kept: { pieces ≡ map (kept_text stores.items) written.ids.items },
 }
 
 fn pieces_of(alloc: Global, stores: &[Name], ids: &[WriteId]) -> Result<Pieces, NoMemory>
@@ -79,46 +31,86 @@ fn pieces_of(alloc: Global, stores: &[Name], ids: &[WriteId]) -> Result<Pieces, 
     Ok(pieces)
 }
 
+// Whether two ids are the same.
+fn are_same(one: &WriteId, other: &WriteId) -> bool
+    ensures { result ≡ true → one.now ≡ other.now }
+{
+    *one == *other
+}
+
+// What stands behind an id at the front of a list; `None` where it does not stand there.
+fn behind_front<'a>(ids: &'a [WriteId], id: &WriteId) -> Option<&'a [WriteId]>
+    ensures { IfSome result (λ behind. ids.now ≡ id.now ∷ behind.now) }
+{
+    let (front, behind) = ids.split_first()?;
+    if are_same(front, id) {
+        Some(behind)
+    } else {
+        None
+    }
+}
+
 impl IdTexts {
-    /// The texts of the ids that entries wrote.
-    pub fn of(alloc: Global, stores: Vec<Name>, entries: &[Entry]) -> Result<IdTexts, NoMemory>
+    /// The texts of the ids that entries wrote, by processes that are born on so many objects.
+    pub fn of(
+        alloc: Global,
+        stores: Vec<Name>,
+        objects: usize,
+        entries: &[Entry],
+    ) -> Result<IdTexts, NoMemory>
         ensures { IfOk result (λ texts. texts.stores.items ≡ stores.items) }
     {
-        let lists = ids_by_store(alloc, stores.len(), entries)?;
-        let (ids, starts) = in_a_row(alloc, lists)?;
-        let pieces = pieces_of(alloc, stores.as_slice(), ids.as_slice())?;
+        let written = WrittenIds::of(alloc, stores.len(), objects, entries)?;
+        let pieces = pieces_of(alloc, stores.as_slice(), written.ids.as_slice())?;
         Ok(IdTexts {
             stores,
-            ids,
+            written,
             pieces,
-            starts,
         })
     }
 
     // Whether the text of a number is that of an id.
     fn is_at(&self, number: usize, id: &WriteId) -> bool
-        ensures { result ≡ true → slice_get self.now.ids.items number ≡ Some id.now }
+        ensures { result ≡ true → slice_get self.now.written.ids.items number ≡ Some id.now }
     {
-        match item_at(self.ids.as_slice(), number) {
-            Some(kept) => *kept == *id,
+        match item_at(self.written.ids.as_slice(), number) {
+            Some(kept) => are_same(kept, id),
             None => false,
         }
     }
 
-    // The number of the text of an id, which mostly is the next one; `None` where it is not kept.
-    fn number_of(&self, next: usize, id: &WriteId) -> Option<usize>
-        ensures { IfSome result (λ n. slice_get self.now.ids.items n ≡ Some id.now) }
+    // The number of the text of an id; `None` where it is not kept.
+    fn number_of(&self, id: &WriteId) -> Option<usize>
+        ensures { IfSome result (λ n. slice_get self.now.written.ids.items n ≡ Some id.now) }
     {
-        if self.is_at(next, id) {
-            return Some(next);
-        }
-        let start = *self.starts.get(id.store as usize)?;
-        let number = start.wrapping_add(id.version as usize).wrapping_sub(1);
+        let number = self.written.place_of(id)?;
         if self.is_at(number, id) {
             Some(number)
         } else {
             None
         }
+    }
+
+    // Goes on with a run while the ids that come are those whose texts come next, and gives the first other id.
+    fn in_step<'l>(&self, ids: &mut Ids<'l>, run: &mut PieceRun) -> Option<&'l WriteId>
+        requires { IsRun self.now.pieces run.old }
+        ensures run { IsRun self.now.pieces run.new }
+        ensures none { IfNone result (run_text self.now.pieces run.new
+            ≡ run_text self.now.pieces run.old ++ flat_map (kept_text self.now.stores.items) ids.old) }
+        ensures some { IfSome result (λ id. run_text self.now.pieces run.new
+            ++ flat_map (kept_text self.now.stores.items) (id.now ∷ ids.new)
+            ≡ run_text self.now.pieces run.old ++ flat_map (kept_text self.now.stores.items) ids.old) }
+        ensures less { IfSome result (λ _. length ids.new < length ids.old) }
+    {
+        let mut rest = self.written.ids.as_slice().split_at(run.to).1;
+        while let Some(id) = ids.next() {
+            let Some(behind) = behind_front(rest, id) else {
+                return Some(id);
+            };
+            run.to = self.pieces.behind(run.to);
+            rest = behind;
+        }
+        None
     }
 
     // Goes on with an id and a comma behind a run.
@@ -128,7 +120,7 @@ impl IdTexts {
             ≡ (out.old ++ run_text self.now.pieces run) ++ kept_text self.now.stores.items id.now) }
         ensures run { IfOk result (λ next. IsRun self.now.pieces next) }
     {
-        match self.number_of(run.to, id) {
+        match self.number_of(id) {
             Some(number) => self.pieces.go_on(out, run, number),
             None => {
                 self.pieces.write(out, run)?;
@@ -145,7 +137,8 @@ impl IdTexts {
             (out.new ≡ out.old ++ flat_map (kept_text self.now.stores.items) lineage.now) }
     {
         let mut run = PieceRun { from: 0, to: 0 };
-        for id in lineage.iter() {
+        let mut ids = lineage.iter();
+        while let Some(id) = self.in_step(&mut ids, &mut run) {
             run = self.go_on(out, run, id)?;
         }
         self.pieces.write(out, run)

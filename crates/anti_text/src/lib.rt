@@ -23,6 +23,7 @@ mod run_summary;
 mod span_lines;
 mod wait_lines;
 mod words;
+mod written_ids;
 
 pub use placement::placement_line;
 pub use record_json::{RecordJson, json, print_json};

@@ -101,8 +101,8 @@ impl Pieces {
         part(self.text.bytes(), edge(ends, run.from), edge(ends, run.to))
     }
 
-    // The number behind that of a text.
-    fn behind(&self, number: usize) -> usize
+    /// The number behind that of a text.
+    pub fn behind(&self, number: usize) -> usize
         requires { number < length self.now }
         ensures { result ≡ number + 1 }
     {

@@ -42,7 +42,8 @@ impl<'a> Printer<'a> {
         ensures { IfOk result (λ printer. printer.app.now ≡ app.now) }
     {
         let stores = store_names(alloc, app)?;
-        let ids = IdTexts::of(alloc, stores, report.trace.as_slice())?;
+        let objects = app.stores.len().saturating_add(app.services.len());
+        let ids = IdTexts::of(alloc, stores, objects, report.trace.as_slice())?;
         let marks = MarkTexts::of(alloc, app, marked(report))?;
         Ok(Printer {
             alloc,
