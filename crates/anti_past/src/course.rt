@@ -29,7 +29,7 @@ impl Course {
         ensures { IfOk result (IsCourseOf app.now trace.now) }
     {
         let mut walk = Walk::new(alloc, app)?;
-        let mut pasts = Vec::new(alloc);
+        let mut pasts = Vec::with_capacity(alloc, trace.len() as usize)?;
         for index in 0..trace.len() {
             match walk.step(app, trace, trail, index)? {
                 Step::Loss(mark) => return Ok(Course::Loss(mark)),
