@@ -1,5 +1,5 @@
 -- Stores with two subscriptions, in tests: what they start as is a start.
-use Rattle.std.proofs.Common.{◌≡◌, true, ℕ, ◌<◌, [], ◌∷◌, sym, arith}
+use Rattle.std.proofs.Common.{◌≡◌, true, ℕ, ◌<◌, [], ◌∷◌, Result, Ok, Err, IfOk, sym, arith}
 use Rattle.std.specs.List.{Contains}
 use Rattle.std.proofs.lemmas.List.Elements.{All-nil, All-cons}
 use Rattle.anti_ids.specs.Names.{is_plain}
@@ -8,7 +8,8 @@ use Rattle.anti_kind.specs.declared.store_kind.Sub.{Sub}
 use Rattle.anti_kind.specs.declared.store_kind.StoreKind.{StoreKind}
 use Rattle.anti_kind.specs.declared.store_kind.StoreKind.TheVariants.{Queue, Topic}
 use Rattle.anti_kind.specs.Starts.{IsStart, IsStore, HasTries}
-use Rattle.anti_kind.specs.Store.{store_of}
+use Rattle.anti_kind.specs.Objects.{Start, store}
+use Rattle.anti_kind.specs.Store.{Store, is_replica, store_of}
 use Rattle.anti_queue.specs.QueueStarts.{queue_start}
 use Rattle.anti_topic.specs.TopicStates.{topic_start}
 
@@ -39,3 +40,9 @@ topic_starts a b here_a plain_a here_b plain_b = two_subs Topic 0 a b tt (is_her
 pub queue_starts : (a b : Sub) → a.region ≡ 0 → is_plain a.channel ≡ true → b.region ≡ 0 → is_plain b.channel ≡ true
     → IsStart (queue_start 0 (0 ∷ []) (a ∷ b ∷ []) 2)
 queue_starts a b here_a plain_a here_b plain_b = two_subs Queue 2 a b (omega arith, omega arith) (is_here a here_a plain_a) (is_here b here_b plain_b)
+
+-- what is made as a store that is numbered 0 and has a replica in region 0
+pub is_first : {M E : Type 0} (its : M → Start) (made : Result M E) (s : Store) → s.number ≡ 0 → is_replica s 0 ≡ true → IfOk made (λ m. its m ≡ store s)
+    → IfOk made (λ m. (t : Store) × (its m ≡ store t) × (t.number ≡ 0) × (is_replica t 0 ≡ true))
+is_first its (Ok m) s number replica is = (s, is, number, replica)
+is_first its (Err e) s number replica is = tt

@@ -1,4 +1,4 @@
-use crate::made::assert_of;
+use crate::made::{assert_of, assert_so};
 use anti_app::{App, AppFault, Choice, Part, Place, StoreDef, read_app};
 use anti_kind::StoreKind;
 use anti_lang::Statement;
@@ -393,7 +393,7 @@ fn is_whole(app: &App) -> bool {
 
 #[test]
 fn documents_are_read(rt: HostRuntime) {
-    assert!(rt; states(rt.alloc(), WHOLE, &Wanted::Whole));
+    assert_so(&rt, states(rt.alloc(), WHOLE, &Wanted::Whole));
 }
 
 // Whether all that may be left out was left out.
@@ -407,5 +407,5 @@ fn is_bare(app: &App) -> bool {
 
 #[test]
 fn a_document_may_be_short(rt: HostRuntime) {
-    assert!(rt; states(rt.alloc(), b"regions = ['us']", &Wanted::Bare));
+    assert_so(&rt, states(rt.alloc(), b"regions = ['us']", &Wanted::Bare));
 }

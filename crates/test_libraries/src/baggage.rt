@@ -1,6 +1,6 @@
 ghost use Rattle.std.specs.Prelude.{◌^◌, ◌≤◌, length};
 
-use crate::made::{assert_of, versions};
+use crate::made::{assert_at, assert_of, assert_so, versions};
 use anti_baggage::{Baggage, BaggageFault, decode, encode, escape, texts_state_lineages};
 use anti_ids::{Bytes, Copies, Lineage, List, Name};
 use std::alloc::Global;
@@ -177,8 +177,8 @@ static COUNTS: [u64; 3] = [7, 8, 256];
 
 #[test]
 fn a_text_serves_again(rt: HostRuntime) {
-    for count in &COUNTS {
-        assert!(rt; is_kept(rt.alloc(), *count), "at {count}");
+    for (place, count) in COUNTS.iter().enumerate() {
+        assert_at(&rt, place, is_kept(rt.alloc(), *count));
     }
 }
 
@@ -204,13 +204,16 @@ fn makes_another(alloc: Global) -> bool {
 
 #[test]
 fn another_lineage_has_another_text(rt: HostRuntime) {
-    assert!(rt; makes_another(rt.alloc()));
+    assert_so(&rt, makes_another(rt.alloc()));
+}
+
+// Whether bytes that are no plain text are escaped.
+fn are_escaped(alloc: Global) -> bool {
+    let mut text = List::new(alloc);
+    escape(&mut text, b"a-~ %\xff").is_ok() && text.bytes() == b"a-~%20%25%FF".as_slice()
 }
 
 #[test]
 fn bytes_are_escaped(rt: HostRuntime) {
-    let mut text = List::new(rt.alloc());
-    assert!(rt;
-        escape(&mut text, b"a-~ %\xff").is_ok() && text.bytes() == b"a-~%20%25%FF".as_slice()
-    );
+    assert_so(&rt, are_escaped(rt.alloc()));
 }

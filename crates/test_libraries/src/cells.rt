@@ -1,4 +1,5 @@
 // Keys of cells: c#n for the nth cell of the channel c, where that is a name.
+use crate::made::assert_at;
 use anti_ids::Name;
 use anti_replicas::{Channels, cell_key};
 use std::alloc::Global;
@@ -36,10 +37,8 @@ fn is_keyed(alloc: Global, length: usize, number: u64, wanted: bool) -> bool {
 
 #[test]
 fn a_key_that_is_no_name_is_none(rt: HostRuntime) {
-    for (length, number, wanted) in &CELLS {
-        assert!(rt;
-            is_keyed(rt.alloc(), *length, *number, *wanted),
-            "cell {number} of {length} bytes"
-        );
+    for (place, (length, number, wanted)) in CELLS.iter().enumerate() {
+        let is_so = is_keyed(rt.alloc(), *length, *number, *wanted);
+        assert_at(&rt, place, is_so);
     }
 }

@@ -1,3 +1,4 @@
+use crate::made::{assert_at, assert_so};
 use anti_edge::{
     MemorySink, MemorySource, ReadRefused, RealSink, RealSource, Source, SureSource, read_all,
     write_all,
@@ -22,14 +23,15 @@ fn is_read<S: Source>(
 #[test]
 fn a_real_source_passes_bytes_on(rt: HostRuntime) {
     let mut source = RealSource::new(b"hello".as_slice());
-    assert!(rt; is_read(rt.alloc(), &mut source, 5, Ok(b"hello")));
+    assert_so(&rt, is_read(rt.alloc(), &mut source, 5, Ok(b"hello")));
 }
 
 #[test]
 fn a_real_sink_passes_bytes_on(rt: HostRuntime) {
     let mut kept = Vec::new(rt.alloc());
     let mut sink = RealSink::new(&mut kept);
-    assert!(rt; write_all(&mut sink, b"hello").is_ok() && kept.as_slice() == b"hello".as_slice());
+    let is_written = write_all(&mut sink, b"hello").is_ok();
+    assert_so(&rt, is_written && kept.as_slice() == b"hello".as_slice());
 }
 
 // A stream of the system that moves one byte in a call, and behind so many calls fails some. It counts its calls.
@@ -110,52 +112,52 @@ static FAILURES: [Failure; 8] = [
     (4, 64, ErrorKind::Interrupted),
 ];
 
-// Whether a read that fails is told as a fault, counted once, and the last.
-fn is_read_fault(alloc: Global, (before, times, kind): Failure) -> bool {
+// Whether of a stream with such a failure all bytes are refused so, after so many faults; the last call that fails is then the last there
+// is where that is a fault.
+fn is_read_to(
+    alloc: Global,
+    (before, times, kind): Failure,
+    refused: ReadRefused,
+    faults: u64,
+) -> bool {
     let mut stream = Failing::new(before, times, kind);
     let mut source = RealSource::new(&mut stream);
-    is_read(alloc, &mut source, 5, Err(ReadRefused::Fault))
-        && source.faults() == 1
-        && stream.ended()
+    is_read(alloc, &mut source, 5, Err(refused))
+        && source.faults() == faults
+        && stream.ended() == (faults == 1)
 }
 
-// Whether a write that fails is told as a fault, counted once, and the last.
-fn is_write_fault((before, times, kind): Failure) -> bool {
+// Whether what is written to it fails after so many faults, of which there is one or none; and the same of the last call.
+fn is_written_to((before, times, kind): Failure, faults: u64) -> bool {
     let mut stream = Failing::new(before, times, kind);
     let mut sink = RealSink::new(&mut stream);
-    write_all(&mut sink, b"hello").is_err() && sink.faults() == 1 && stream.ended()
+    let fails = faults == 1;
+    write_all(&mut sink, b"hello").is_err() == fails
+        && sink.faults() == faults
+        && stream.ended() == fails
 }
 
 #[test]
 fn an_error_of_the_system_is_a_fault(rt: HostRuntime) {
     for (number, failure) in FAILURES.iter().enumerate() {
-        let is_told = is_read_fault(rt.alloc(), *failure) && is_write_fault(*failure);
-        assert!(rt; is_told, "failure {number}");
+        let is_told = is_read_to(rt.alloc(), *failure, ReadRefused::Fault, 1);
+        assert_at(&rt, number, is_told && is_written_to(*failure, 1));
     }
 }
 
-// How many calls go well before some are interrupted, and how many are, which is not too often.
-static INTERRUPTIONS: [(u8, u8); 4] = [(0, 1), (0, 63), (1, 1), (4, 63)];
-
-// Whether more than five bytes are found all the same where a stream without an end is read, and nothing is a fault.
-fn is_read_on(alloc: Global, before: u8, times: u8) -> bool {
-    let mut stream = Failing::new(before, times, ErrorKind::Interrupted);
-    let mut source = RealSource::new(&mut stream);
-    is_read(alloc, &mut source, 5, Err(ReadRefused::TooLong)) && source.faults() == 0
-}
-
-// Whether all is written all the same, and nothing is a fault.
-fn is_written_on(before: u8, times: u8) -> bool {
-    let mut stream = Failing::new(before, times, ErrorKind::Interrupted);
-    let mut sink = RealSink::new(&mut stream);
-    write_all(&mut sink, b"hello").is_ok() && sink.faults() == 0
-}
+// Calls that are interrupted, but not too often. A stream without an end is then read on to more than five bytes.
+static INTERRUPTIONS: [Failure; 4] = [
+    (0, 1, ErrorKind::Interrupted),
+    (0, 63, ErrorKind::Interrupted),
+    (1, 1, ErrorKind::Interrupted),
+    (4, 63, ErrorKind::Interrupted),
+];
 
 #[test]
 fn an_interrupted_call_is_made_again(rt: HostRuntime) {
-    for (before, times) in &INTERRUPTIONS {
-        let is_made = is_read_on(rt.alloc(), *before, *times) && is_written_on(*before, *times);
-        assert!(rt; is_made, "{times} times behind {before} calls");
+    for (number, failure) in INTERRUPTIONS.iter().enumerate() {
+        let is_read = is_read_to(rt.alloc(), *failure, ReadRefused::TooLong, 0);
+        assert_at(&rt, number, is_read && is_written_to(*failure, 0));
     }
 }
 
@@ -203,7 +205,7 @@ fn is_read_so(alloc: Global, (most, fail, limit, first, left): &Reading) -> bool
 #[test]
 fn a_source_in_memory_fails_where_it_is_told(rt: HostRuntime) {
     for (number, reading) in READINGS.iter().enumerate() {
-        assert!(rt; is_read_so(rt.alloc(), reading), "reading {number}");
+        assert_at(&rt, number, is_read_so(rt.alloc(), reading));
     }
 }
 
@@ -240,14 +242,19 @@ fn is_written_so(alloc: Global, (room, most, fail, all, taken, then): &Writing) 
 #[test]
 fn a_sink_in_memory_fails_where_it_is_told(rt: HostRuntime) {
     for (number, writing) in WRITINGS.iter().enumerate() {
-        assert!(rt; is_written_so(rt.alloc(), writing), "writing {number}");
+        assert_at(&rt, number, is_written_so(rt.alloc(), writing));
+    }
+}
+
+// Whether more bytes than are allowed are refused.
+fn is_too_long(alloc: Global) -> bool {
+    match SureSource::new(alloc, b"hello") {
+        Ok(mut source) => is_read(alloc, &mut source, 4, Err(ReadRefused::TooLong)),
+        Err(_) => false,
     }
 }
 
 #[test]
 fn more_than_is_allowed_is_not_read(rt: HostRuntime) {
-    let Ok(mut source) = SureSource::new(rt.alloc(), b"hello") else {
-        panic!(rt; "no memory");
-    };
-    assert!(rt; is_read(rt.alloc(), &mut source, 4, Err(ReadRefused::TooLong)));
+    assert_so(&rt, is_too_long(rt.alloc()));
 }

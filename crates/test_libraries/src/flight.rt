@@ -1,16 +1,18 @@
 ghost use Rattle.std.specs.Prelude.{IfSome};
 ghost use Rattle.anti_flight.specs.Tickets.{Holds};
 
+use crate::made::{assert_of, assert_so};
 use anti_flight::{Flight, Ticket};
 use anti_ids::NoMemory;
 use std::alloc::Global;
 use std::sync::Wait;
 use std::thread::{Threads, join};
 
-// A list of letters, which of them leaves, counted from 0, and what is left.
+// A list of letters, which of them leaves, counted from 0, the letter, and what is left.
 struct Row {
     letters: &'static [u8],
     leaves: u32,
+    letter: u8,
     left: &'static [u8],
 }
 
@@ -18,31 +20,37 @@ static ROWS: [Row; 6] = [
     Row {
         letters: b"abc",
         leaves: 1,
+        letter: b'b',
         left: b"ac",
     },
     Row {
         letters: b"abc",
         leaves: 0,
+        letter: b'a',
         left: b"bc",
     },
     Row {
         letters: b"abc",
         leaves: 2,
+        letter: b'c',
         left: b"ab",
     },
     Row {
         letters: b"ab",
         leaves: 0,
+        letter: b'a',
         left: b"b",
     },
     Row {
         letters: b"a",
         leaves: 0,
+        letter: b'a',
         left: b"",
     },
     Row {
         letters: b"aaaaa",
         leaves: 3,
+        letter: b'a',
         left: b"aaaa",
     },
 ];
@@ -86,21 +94,33 @@ fn has(list: &Flight<u8>, letters: &[u8]) -> bool {
     at.is_none() && list.len() as usize == letters.len()
 }
 
-// Whether a letter leaves as a row says, and its ticket with it. `None` where memory runs out.
-fn leaves(alloc: Global, row: &Row) -> Option<bool> {
-    let mut list = filled(alloc, row.letters)?;
-    let gone = nth(&list, row.leaves)?;
+// Whether a letter leaves a list as a row says, and its ticket with it.
+fn leaves(mut list: Flight<u8>, row: &Row) -> bool {
+    let Some(gone) = nth(&list, row.leaves) else {
+        return false;
+    };
     let before = has(&list, row.letters) && list.holds(&gone);
     let next = list.next();
     let letter = list.unlink(gone);
-    let left = has(&list, row.left) && !list.holds(&gone) && list.next() == next;
-    Some(before && left && row.letters.get(row.leaves as usize) == Some(&letter))
+    before
+        && has(&list, row.left)
+        && !list.holds(&gone)
+        && list.next() == next
+        && letter == row.letter
+}
+
+// The same of the list of its letters. `false` where memory runs out, too.
+fn is_left(alloc: Global, row: &Row) -> bool {
+    match filled(alloc, row.letters) {
+        Some(list) => leaves(list, row),
+        None => false,
+    }
 }
 
 #[test]
 fn a_letter_leaves(rt: HostRuntime) {
     for row in &ROWS {
-        assert!(rt; leaves(rt.alloc(), row) == Some(true), "{:?}", row.letters);
+        assert_of(&rt, row.letters, is_left(rt.alloc(), row));
     }
 }
 
@@ -124,7 +144,10 @@ fn fills_or_keeps(alloc: Global, letters: &[u8]) -> bool {
 
 #[test]
 fn a_letter_without_memory_leaves_the_list(rt: HostRuntime) {
-    assert!(rt; fills_or_keeps(rt.alloc(), b"abcdefghijklmnopqrstuvwxyz"));
+    assert_so(
+        &rt,
+        fills_or_keeps(rt.alloc(), b"abcdefghijklmnopqrstuvwxyz"),
+    );
 }
 
 // Takes an item out, and lets the list go.
@@ -158,5 +181,5 @@ fn leaves_there<R: Threads + Wait + Sync + AllocGlobal>(rt: &R) -> bool {
 
 #[test]
 fn a_letter_leaves_in_another_thread(rt: HostRuntime) {
-    assert!(rt; leaves_there(&rt));
+    assert_so(&rt, leaves_there(&rt));
 }

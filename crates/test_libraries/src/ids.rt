@@ -1,6 +1,6 @@
 ghost use Rattle.std.specs.Prelude.{◌≤◌};
 
-use crate::made::{assert_of, id, lineage, versions};
+use crate::made::{assert_of, assert_so, id, lineage, versions};
 use anti_ids::{
     Bytes, Copies, Lineage, LineageRefused, List, Name, NameFault, RoomyFull, Value, ValueFault,
     WriteId,
@@ -114,7 +114,7 @@ fn are_sets(alloc: Global) -> bool {
 
 #[test]
 fn lineages_are_sets(rt: HostRuntime) {
-    assert!(rt; are_sets(rt.alloc()));
+    assert_so(&rt, are_sets(rt.alloc()));
 }
 
 // Whether two lineages have the same ids.
@@ -158,7 +158,7 @@ fn is_full(alloc: Global) -> bool {
     let Ok(id) = id(0, b"k", 257) else {
         return false;
     };
-    let Ok(one) = lineage(alloc, &[(b"k", 257)]) else {
+    let Ok(one) = lineage(alloc, &[0], &[(b"k", 257)]) else {
         return false;
     };
     let Ok(full) = versions(alloc, 0, b"k", 256) else {
@@ -169,7 +169,7 @@ fn is_full(alloc: Global) -> bool {
 
 #[test]
 fn full_lineages_stay_as_they_were(rt: HostRuntime) {
-    assert!(rt; is_full(rt.alloc()));
+    assert_so(&rt, is_full(rt.alloc()));
 }
 
 // Whether a value has a copy.
@@ -211,7 +211,10 @@ fn are_lineages_kept(alloc: Global) -> bool {
 #[test]
 fn lists_have_the_room_that_they_reserve(rt: HostRuntime) {
     let alloc = rt.alloc();
-    assert!(rt; is_copied(alloc) && are_bytes_kept(alloc) && are_lineages_kept(alloc));
+    assert_so(
+        &rt,
+        is_copied(alloc) && are_bytes_kept(alloc) && are_lineages_kept(alloc),
+    );
 }
 
 // Whether what is empty gives nothing.
@@ -223,5 +226,5 @@ fn are_empty(alloc: Global) -> bool {
 
 #[test]
 fn what_is_empty_gives_nothing(rt: HostRuntime) {
-    assert!(rt; are_empty(rt.alloc()));
+    assert_so(&rt, are_empty(rt.alloc()));
 }

@@ -1,4 +1,4 @@
-use crate::made::assert_of;
+use crate::made::{assert_at, assert_of, assert_so};
 use anti_ids::{Bytes, List};
 use anti_lang::{
     Body, KeyWord, LangCode, LangFault, Line, Lines, Statement, ValueWord, parse, print, read_line,
@@ -449,11 +449,11 @@ static FAULTS: [(Text, u32, LangCode); 19] = [
 #[test]
 fn bodies_are_parsed(rt: HostRuntime) {
     let alloc = rt.alloc();
-    for text in &GOOD {
-        assert!(rt; is_printed(alloc, text, text), "at {text:?}");
+    for (place, text) in GOOD.iter().enumerate() {
+        assert_at(&rt, place, is_printed(alloc, text, text));
     }
-    assert!(rt; is_printed(alloc, SPACED[0], SPACED[1]));
-    for (text, line, code) in &FAULTS {
-        assert!(rt; is_wrong(alloc, text, *line, *code), "at {text:?}");
+    assert_so(&rt, is_printed(alloc, SPACED[0], SPACED[1]));
+    for (place, (text, line, code)) in FAULTS.iter().enumerate() {
+        assert_at(&rt, place, is_wrong(alloc, text, *line, *code));
     }
 }

@@ -27,6 +27,8 @@ mod made;
 #[cfg(test)]
 mod place;
 #[cfg(test)]
+mod ports;
+#[cfg(test)]
 mod queue;
 #[cfg(test)]
 mod shared;

@@ -65,25 +65,28 @@ pub fn versions(
     Ok(lineage)
 }
 
-/// These keys with their versions, each from 1 on, of the store 0.
-pub fn lineage(alloc: Global, ids: &[(&[u8], u64)]) -> Result<Lineage, &'static str> {
-    let mut lineage = Lineage::root(alloc);
+/// A key of a store and its version.
+pub type Version<'a> = (&'a [u8], u64);
+
+// Adds these keys with their versions, and answers whether each may be added.
+fn add_all(lineage: &mut Lineage, store: u32, ids: &[Version]) -> bool {
     for (key, version) in ids {
-        if !add(&mut lineage, 0, key, *version) {
+        if !add(lineage, store, key, *version) {
+            return false;
+        }
+    }
+    true
+}
+
+/// These keys with their versions, each from 1 on, of each of these stores.
+pub fn lineage(alloc: Global, stores: &[u32], ids: &[Version]) -> Result<Lineage, &'static str> {
+    let mut lineage = Lineage::root(alloc);
+    for store in stores {
+        if !add_all(&mut lineage, *store, ids) {
             return Err("no lineage");
         }
     }
     Ok(lineage)
-}
-
-/// A handle on a value.
-pub fn handle<T: Drop>(alloc: Global, value: T) -> Result<Handle<T>, &'static str>
-    ensures { IfOk result (λ handle. handle ≡ value) }
-{
-    match Handle::new(alloc, value) {
-        Ok(handle) => Ok(handle),
-        Err(_) => Err("no handle"),
-    }
 }
 
 /// A message to the handler `work`, whose value is a letter. `None` where memory runs out.
@@ -121,7 +124,24 @@ pub fn sub(channel: &[u8]) -> Result<Sub, &'static str>
     Ok(Sub { channel, region: 0 })
 }
 
+// An assertion in a test is proved with the test: these are proved once.
+
+/// Asserts what is to hold.
+pub fn assert_so(rt: &impl Abort, holds: bool) {
+    assert!(rt; holds);
+}
+
 /// Asserts what is to hold of a text.
 pub fn assert_of(rt: &impl Abort, text: &[u8], holds: bool) {
     assert!(rt; holds, "at {text:?}");
+}
+
+/// Asserts what is to hold of the row of a table at this place, counted from 0.
+pub fn assert_at(rt: &impl Abort, place: usize, holds: bool) {
+    assert!(rt; holds, "at row {place}");
+}
+
+/// Asserts that none of the steps is wrong.
+pub fn assert_right(rt: &impl Abort, wrong: Option<usize>) {
+    assert!(rt; wrong.is_none(), "step {wrong:?}");
 }

@@ -1,9 +1,9 @@
 // Whether barriers, transfers and roots stand where they must: what the check says of documents.
 
+use crate::made::assert_at;
 use anti_app::read_app;
 use anti_place::{Placement, Reason, placed};
 use std::alloc::{AllocError, Global};
-use std::process::Abort;
 
 // The bodies of the handlers `one`, `two` and `three`.
 type Bodies = [&'static str; 3];
@@ -234,27 +234,22 @@ fn is_told(alloc: Global, bodies: &Bodies, wanted: Placement) -> bool {
     placed(&app) == wanted
 }
 
-// Asserts that the check says so.
-fn assert_told(rt: &impl Abort, alloc: Global, bodies: &Bodies, wanted: Placement) {
-    assert!(rt; is_told(alloc, bodies, wanted), "{bodies:?}");
-}
-
 #[test]
 fn placed_applications_are_told(rt: HostRuntime) {
-    for bodies in &PLACED {
-        assert_told(&rt, rt.alloc(), bodies, Placement::Yes);
+    for (place, bodies) in PLACED.iter().enumerate() {
+        assert_at(&rt, place, is_told(rt.alloc(), bodies, Placement::Yes));
     }
 }
 
 #[test]
 fn the_first_failing_line_is_told(rt: HostRuntime) {
-    for (bodies, handler, line, reason) in &UNPLACED {
+    for (place, (bodies, handler, line, reason)) in UNPLACED.iter().enumerate() {
         let wanted = Placement::No {
             service: 0,
             handler: *handler,
             line: *line,
             reason: *reason,
         };
-        assert_told(&rt, rt.alloc(), bodies, wanted);
+        assert_at(&rt, place, is_told(rt.alloc(), bodies, wanted));
     }
 }

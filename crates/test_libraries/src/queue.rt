@@ -1,6 +1,8 @@
-ghost use Rattle.std.specs.Prelude.{[], IfOk};
+ghost use Rattle.std.specs.Prelude.{◌≡◌, [], true, IfOk};
 ghost use Rattle.anti_queue.specs.QueueStates.{its_start, QueueStands};
 ghost use Rattle.anti_kind.specs.Machines.{StandsFor};
+ghost use Rattle.anti_kind.specs.Objects.{store};
+ghost use Rattle.anti_kind.specs.Store.{Store, is_replica};
 
 use crate::made::sub;
 use crate::steps::{Asked, Step, Told, assert_steps};
@@ -8,11 +10,12 @@ use anti_ids::NoMemory;
 use anti_queue::Queue;
 use std::alloc::Global;
 
-// The store 0, of which the only replica is in region 0, with two subscriptions to the channel n. It hands a message out twice at
-// most.
+/// The store 0, of which the only replica is in region 0, with two subscriptions to the channel n. It hands a message out twice at
+/// most.
 #[tactic(auto, using(crate::proofs::Subscribed::queue_starts))]
-fn queue(alloc: Global) -> Result<Queue, NoMemory>
-    ensures { IfOk result (λ m. StandsFor (its_start m) (QueueStands m) []) }
+pub fn queue(alloc: Global) -> Result<Queue, NoMemory>
+    ensures fresh { IfOk result (λ m. StandsFor (its_start m) (QueueStands m) []) }
+    ensures here { IfOk result (λ m. (s : Store) × (its_start m ≡ store s) × (s.number ≡ 0) × (is_replica s 0 ≡ true)) }
 {
     let Ok(first) = sub(b"n") else {
         return Err(NoMemory);

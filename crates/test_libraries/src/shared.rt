@@ -3,102 +3,24 @@ ghost use Rattle.anti_kv.specs.KvStates.{its_start, kv_start};
 ghost use Rattle.anti_shared.specs.Passes.{first_pass, port_start};
 ghost use Rattle.anti_shim.specs.Sights.{IsHere};
 
-use crate::made::{lineage, versions};
-use anti_ids::{Lineage, Name, Value, WriteId};
-use anti_kind::{Actor, Answer, Call, Entry, Handle, Machine, Port, Reply, WaitPort};
-use anti_kv::Kv;
-use anti_shared::{Kept, Pass, Shared, SharedPort};
-use anti_shim::{
-    Barrier, BarrierAnswer, Caller, KvStore, ShimFault, StoreShim, barrier, barrier_wait, dry_run,
+use crate::made::{assert_so, lineage, versions};
+use crate::ports::{
+    OfPort, READ, SHIP, Told, WRITE, answers, caller, is_answered, is_held, writes,
 };
+use crate::steps::{Asked, call_of};
+use anti_kind::{Actor, Answer, Call, Entry, Machine, Port, Reply, WaitPort};
+use anti_kv::Kv;
+use anti_shared::{Pass, Shared, SharedPort};
+use anti_shim::{Barrier, KvStore, barrier_wait};
 use std::alloc::Global;
 use std::sync::Wait;
 use std::thread::{Threads, join};
 
-// What a store is asked of the key `k`.
-#[derive(Clone, Copy)]
-enum Asked {
-    // To read it, in region 0.
-    Read,
-    // To write the value `v` to it, with the empty lineage.
-    Write,
-    // To bring a version to region 0.
-    Ship,
-}
-
-// What is told.
-#[derive(Clone, Copy)]
-enum Told {
-    // That the call was made.
-    Made,
-    // That it was made, and the place of its entry.
-    MadeAt(u32),
-    // That it is not ready.
-    NotYet,
-    // The units that the store holds, those that it owes, and those that the call needs, which are together more than it has.
-    Full(u32, u32, u32),
-    // That no stamp is left behind this one.
-    Spent(u64),
-    // That this version was written, but is not in the lineage, which is full.
-    LineageFull(u64),
-    // That nobody wrote this version.
-    Unwritten(u64),
-    // How many sights a barrier has.
-    Sights(usize),
-    // That of a lineage this version alone is missing.
-    Missing(u64),
-}
-
-// The write that is asked. `None` where memory runs out.
-fn write(alloc: Global) -> Option<Call> {
-    let Ok(key) = Name::new(b"k") else {
-        return None;
-    };
-    let Ok(key) = Handle::new(alloc, key) else {
-        return None;
-    };
-    let Ok(value) = Value::new(alloc, b"v") else {
-        return None;
-    };
-    match Handle::new(alloc, Lineage::root(alloc)) {
-        Ok(lineage) => Some(Call::Write {
-            key,
-            value,
-            lineage,
-        }),
-        Err(_) => None,
-    }
-}
-
-// The call that is asked, of a version where it brings one. `None` where memory runs out.
-fn call_of(alloc: Global, asked: Asked, version: u64) -> Option<Call> {
+// The call that is asked; where it brings a version, this one.
+fn call_at(alloc: Global, asked: Asked, version: u64) -> Option<Call> {
     match asked {
-        Asked::Read => match Name::new(b"k") {
-            Ok(key) => Some(Call::Read { region: 0, key }),
-            Err(_) => None,
-        },
-        Asked::Write => write(alloc),
-        Asked::Ship => Some(Call::Ship {
-            region: 0,
-            version,
-            part: 1,
-        }),
-    }
-}
-
-// Whether an answer tells this.
-fn is_told(answer: &Answer, told: Told) -> bool {
-    match answer {
-        Answer::Made { place, .. } => match told {
-            Told::Made => true,
-            Told::MadeAt(wanted) => *place == wanted,
-            _ => false,
-        },
-        Answer::NotYet => matches!(told, Told::NotYet),
-        Answer::Full { held, owed, need } =>
-            matches!(told, Told::Full(a, b, c) if *held == a && *owed == b && *need == c),
-        Answer::Spent { clock } => matches!(told, Told::Spent(last) if *clock == last),
-        Answer::NoMemory => false,
+        Asked::Ship(_, part) => call_of(alloc, 0, Asked::Ship(version, part)),
+        _ => call_of(alloc, 0, asked),
     }
 }
 
@@ -181,18 +103,15 @@ fn ends<M: Machine + Drop>(shared: Shared<M>, pass: Pass<M>, wanted: Wanted) -> 
 }
 
 // Whether a pass has this number and this room.
-fn has<M: Machine>(pass: &Pass<M>, number: u32, room: u64) -> bool {
+fn has(pass: &Pass<Kv>, number: u32, room: u64) -> bool {
     pass.number() == number && pass.room() == room
 }
 
 // Whether a first pass is alone but while a second is out, and what numbers and room both have.
-fn is_alone_but_while_a_second_is_out<M: Machine + Drop>(
-    shared: Shared<M>,
-    mut first: Pass<M>,
-) -> bool
-    requires of { first.id ≡ shared.id }
-    requires room { 0 < first.room }
-{
+fn is_alone_but_while_a_second_is_out(alloc: Global) -> bool {
+    let Some((shared, mut first)) = shared_store(alloc) else {
+        return false;
+    };
     let before = shared.alone(&mut first) && has(&first, 1, 4_294_967_294);
     let Ok(second) = shared.split(&mut first) else {
         // by `never_err` of `split`
@@ -206,20 +125,16 @@ fn is_alone_but_while_a_second_is_out<M: Machine + Drop>(
     };
     shared.join(&mut first, second);
     let behind = shared.alone(&mut first) && has(&first, 1, 4_294_967_293);
-    let ended = ends(shared, first, Wanted::Calls(0));
-    before && between && behind && ended
+    before && between && behind && ends(shared, first, Wanted::Calls(0))
 }
 
 #[test]
 fn a_pass_is_alone_but_while_a_second_is_out(rt: HostRuntime) {
-    let Some((shared, first)) = shared_store(rt.alloc()) else {
-        panic!(rt; "no memory")
-    };
-    assert!(rt; is_alone_but_while_a_second_is_out(shared, first));
+    assert_so(&rt, is_alone_but_while_a_second_is_out(rt.alloc()));
 }
 
 // What is asked, how often, and what is told each time. The nth call brings the version n, where it brings one.
-struct Row(Asked, u64, Told);
+struct Row(Asked<'static>, u64, Told<'static>);
 
 // Whether what a row asks is told so.
 fn is_row_told<M: Machine, R: Wait + AllocGlobal>(
@@ -232,10 +147,13 @@ fn is_row_told<M: Machine, R: Wait + AllocGlobal>(
     ensures { pass.new.id ≡ pass.old.id }
 {
     for before in 0..row.1 {
-        let Some(call) = call_of(rt.alloc(), row.0, before + 1) else {
+        let Some(call) = call_at(rt.alloc(), row.0, before + 1) else {
             return false;
         };
-        let told = is_told(&shared.call(rt, pass, Actor::Carrier(0), 0, 0, call), row.2);
+        let told = is_answered(
+            &shared.call(rt, pass, Actor::Carrier(0), 0, 0, call),
+            &row.2,
+        );
         if !told {
             return false;
         }
@@ -265,8 +183,8 @@ fn are_rows_told<M: Machine, R: Wait + AllocGlobal>(
 struct Plan {
     carrier: u32,
     calls: u32,
-    asked: Asked,
-    other: Asked,
+    asked: Asked<'static>,
+    other: Asked<'static>,
 }
 
 // The version that a call wrote, or the last one before it. `None` where the call was not made.
@@ -318,7 +236,7 @@ fn are_made<M: Machine, R: Wait + AllocGlobal>(
         } else {
             plan.other
         };
-        let Some(call) = call_of(rt.alloc(), asked, version) else {
+        let Some(call) = call_at(rt.alloc(), asked, version) else {
             return false;
         };
         let Some(last) = make(rt, shared, pass, plan.carrier, span, call, version) else {
@@ -330,81 +248,19 @@ fn are_made<M: Machine, R: Wait + AllocGlobal>(
 }
 
 // What a port over a shared store is asked, as the carrier 0 in the span 0.
-#[derive(Clone, Copy)]
-enum OfPort {
-    // To make a call, for an actor with this last stamp.
-    Call(Asked, u64),
+enum OfWaitPort {
+    // What any port is.
+    Port(OfPort<'static>),
     // To make a call that may wait, for an actor with this last stamp.
-    CallWait(Asked, u64),
+    CallWait(Asked<'static>, u64),
     // To write with a lineage that is full.
     WriteFull,
-    // A barrier on this version of the key, which begins now.
-    Barrier(u64),
-    // Such a barrier, which waits, of a caller with this last stamp.
+    // A barrier on this version of the key, which waits, of a caller with this last stamp.
     BarrierWait(u64, u64),
-    // A dry run on this version of the key.
-    DryRun(u64),
 }
 
 // What is asked, and what is told.
-struct Step(OfPort, Told);
-
-// A caller that has made no call.
-fn caller() -> Caller {
-    Caller {
-        actor: Actor::Carrier(0),
-        span: 0,
-        clock: 0,
-    }
-}
-
-// Whether an id is this version of the key.
-fn is_version(id: &WriteId, version: u64) -> bool {
-    id.store == 0 && id.version == version && id.key.bytes() == b"k".as_slice()
-}
-
-// Whether a write tells this.
-fn is_written(answer: &Result<WriteId, ShimFault>, told: Told) -> bool {
-    match (answer, told) {
-        (Err(ShimFault::LineageFull(id)), Told::LineageFull(version)) => is_version(id, version),
-        _ => false,
-    }
-}
-
-// Whether a barrier tells this.
-fn is_seen(answer: &BarrierAnswer, told: Told) -> bool {
-    match (answer, told) {
-        (BarrierAnswer::Clear(sights), Told::Sights(count)) => sights.len() == count,
-        (BarrierAnswer::NotYet, Told::NotYet) => true,
-        (BarrierAnswer::Unwritten(id), Told::Unwritten(version)) => is_version(id, version),
-        (BarrierAnswer::Full { held, owed, need }, Told::Full(a, b, c)) => {
-            *held == a && *owed == b && *need == c
-        }
-        (BarrierAnswer::Spent { clock }, Told::Spent(last)) => *clock == last,
-        _ => false,
-    }
-}
-
-// Whether a dry run tells this.
-fn is_missed(answer: &Result<Lineage, ShimFault>, told: Told) -> bool {
-    match (answer, told) {
-        (Ok(missing), Told::Missing(version)) => match missing.last() {
-            Some(id) => missing.len() == 1 && is_version(&id, version),
-            None => false,
-        },
-        _ => false,
-    }
-}
-
-// Whether a call goes as it says.
-fn call_goes<P: Port>(alloc: Global, port: &mut P, asked: Asked, clock: u64, told: Told) -> bool
-    ensures { (o : ℕ) → P.start port.new o ≡ P.start port.old o }
-{
-    let Some(call) = call_of(alloc, asked, 1) else {
-        return false;
-    };
-    is_told(&port.call(0, Actor::Carrier(0), 0, clock, call), told)
-}
+struct Step(OfWaitPort, Told<'static>);
 
 // Whether a call that may wait goes as it says.
 fn call_wait_goes<P: WaitPort>(
@@ -412,49 +268,29 @@ fn call_wait_goes<P: WaitPort>(
     port: &mut P,
     asked: Asked,
     clock: u64,
-    told: Told,
+    told: &Told,
 ) -> bool
     requires { IsHere (P.start port.old) 0 (0 ∷ []) }
     ensures { (o : ℕ) → P.start port.new o ≡ P.start port.old o }
 {
-    let Some(call) = call_of(alloc, asked, 1) else {
+    let Some(call) = call_of(alloc, 0, asked) else {
         return false;
     };
-    is_told(&port.call_wait(0, Actor::Carrier(0), 0, clock, call), told)
+    is_answered(&port.call_wait(0, Actor::Carrier(0), 0, clock, call), told)
 }
 
 // Whether a write with a lineage that is full goes as it says.
-fn full_write_goes<P: Port>(alloc: Global, port: &mut P, told: Told) -> bool
+fn full_write_goes<P: Port>(alloc: Global, port: &mut P, told: &Told) -> bool
     requires { IsHere (P.start port.old) 0 (0 ∷ []) }
     ensures { (o : ℕ) → P.start port.new o ≡ P.start port.old o }
 {
-    let Ok(key) = Name::new(b"k") else {
-        return false;
-    };
-    let Ok(mut full) = versions(alloc, 1, b"k", 256) else {
-        return false;
-    };
-    let Ok(value) = Value::new(alloc, b"v") else {
-        return false;
-    };
-    let store: StoreShim<KvStore> = StoreShim::new(0, 0);
-    let mut who = caller();
-    let answer = store.write(alloc, port, &mut who, key, value, &mut full);
-    is_written(&answer, told)
-}
-
-// Whether a barrier goes as it says.
-fn barrier_goes<P: Port>(alloc: Global, port: &mut P, version: u64, told: Told) -> bool
-    requires { IsHere (P.start port.old) 0 (0 ∷ []) }
-    ensures { (o : ℕ) → P.start port.new o ≡ P.start port.old o }
-{
-    let Ok(ids) = lineage(alloc, &[(b"k", version)]) else {
-        return false;
-    };
-    let mut who = caller();
-    let mut cursor = Barrier::begin(alloc);
-    let answer = barrier(alloc, port, &mut who, 0, &[0], &ids, &mut cursor);
-    is_seen(&answer, told)
+    match versions(alloc, 1, b"k", 256) {
+        Ok(mut full) => {
+            let mut who = caller(0);
+            writes::<KvStore, P>(alloc, port, &mut who, &mut full, b"k", b"v", told)
+        }
+        Err(_) => false,
+    }
 }
 
 // Whether a barrier that waits goes as it says.
@@ -463,31 +299,17 @@ fn barrier_wait_goes<P: WaitPort>(
     port: &mut P,
     version: u64,
     clock: u64,
-    told: Told,
+    told: &Told,
 ) -> bool
     requires { IsHere (P.start port.old) 0 (0 ∷ []) }
     ensures { (o : ℕ) → P.start port.new o ≡ P.start port.old o }
 {
-    let Ok(ids) = lineage(alloc, &[(b"k", version)]) else {
+    let Ok(ids) = lineage(alloc, &[0], &[(b"k", version)]) else {
         return false;
     };
-    let mut who = Caller { clock, ..caller() };
     let mut cursor = Barrier::begin(alloc);
-    let answer = barrier_wait(alloc, port, &mut who, 0, &[0], &ids, &mut cursor);
-    is_seen(&answer, told)
-}
-
-// Whether a dry run goes as it says.
-fn dry_run_goes<P: Port>(alloc: Global, port: &mut P, version: u64, told: Told) -> bool
-    requires { IsHere (P.start port.old) 0 (0 ∷ []) }
-    ensures { (o : ℕ) → P.start port.new o ≡ P.start port.old o }
-{
-    let Ok(ids) = lineage(alloc, &[(b"k", version)]) else {
-        return false;
-    };
-    let mut who = caller();
-    let answer = dry_run(alloc, port, &mut who, 0, &[0], &ids);
-    is_missed(&answer, told)
+    let answer = barrier_wait(alloc, port, &mut caller(clock), 0, &[0], &ids, &mut cursor);
+    is_held(&answer, told)
 }
 
 // Whether a step goes as it says.
@@ -495,15 +317,14 @@ fn goes<P: WaitPort>(alloc: Global, port: &mut P, step: &Step) -> bool
     requires { IsHere (P.start port.old) 0 (0 ∷ []) }
     ensures { (o : ℕ) → P.start port.new o ≡ P.start port.old o }
 {
-    match step.0 {
-        OfPort::Call(asked, clock) => call_goes(alloc, port, asked, clock, step.1),
-        OfPort::CallWait(asked, clock) => call_wait_goes(alloc, port, asked, clock, step.1),
-        OfPort::WriteFull => full_write_goes(alloc, port, step.1),
-        OfPort::Barrier(version) => barrier_goes(alloc, port, version, step.1),
-        OfPort::BarrierWait(version, clock) => {
-            barrier_wait_goes(alloc, port, version, clock, step.1)
+    let told = &step.1;
+    match &step.0 {
+        OfWaitPort::Port(asked) => answers(alloc, port, &[0], asked, told),
+        OfWaitPort::CallWait(asked, clock) => call_wait_goes(alloc, port, *asked, *clock, told),
+        OfWaitPort::WriteFull => full_write_goes(alloc, port, told),
+        OfWaitPort::BarrierWait(version, clock) => {
+            barrier_wait_goes(alloc, port, *version, *clock, told)
         }
-        OfPort::DryRun(version) => dry_run_goes(alloc, port, version, step.1),
     }
 }
 
@@ -677,7 +498,7 @@ fn written_before<M: Machine, R: Wait + AllocGlobal>(
     ensures { pass.new.id ≡ pass.old.id }
 {
     for made in 0..writes {
-        let Some(call) = write(rt.alloc()) else {
+        let Some(call) = call_of(rt.alloc(), 0, WRITE) else {
             return Some(made);
         };
         match shared.call(rt, pass, Actor::Carrier(0), 0, 0, call) {
@@ -707,35 +528,35 @@ fn keeps_what_is_made<R: Wait + AllocGlobal>(rt: &R, writes: u32) -> bool {
 
 #[test]
 fn a_write_without_memory_leaves_the_object(rt: HostRuntime) {
-    assert!(rt; keeps_what_is_made(&rt, 8));
+    assert_so(&rt, keeps_what_is_made(&rt, 8));
 }
 
 const READS: Job = Job::Plan(Plan {
     carrier: 0,
     calls: 100,
-    asked: Asked::Read,
-    other: Asked::Read,
+    asked: READ,
+    other: READ,
 });
 
 const ONE_SHIPMENT: Job = Job::Plan(Plan {
     carrier: 0,
     calls: 1,
-    asked: Asked::Ship,
-    other: Asked::Ship,
+    asked: SHIP,
+    other: SHIP,
 });
 
 const ONE_WRITE: Job = Job::Plan(Plan {
     carrier: 1,
     calls: 1,
-    asked: Asked::Write,
-    other: Asked::Write,
+    asked: WRITE,
+    other: WRITE,
 });
 
 const WRITES: Job = Job::Plan(Plan {
     carrier: 0,
     calls: 1000,
-    asked: Asked::Write,
-    other: Asked::Ship,
+    asked: WRITE,
+    other: SHIP,
 });
 
 // Whether a new shared store goes through these stages as it should, and the history at the end is the one that is wanted.
@@ -762,7 +583,7 @@ static BOTH_READ: [Stage; 1] = [Stage::Both(READS, READS)];
 
 #[test]
 fn the_calls_of_each_thread_stand_in_order(rt: HostRuntime) {
-    assert!(rt; is_well(&rt, &BOTH_READ, Wanted::InOrder(2, 100)));
+    assert_so(&rt, is_well(&rt, &BOTH_READ, Wanted::InOrder(2, 100)));
 }
 
 // One thread brings what another writes.
@@ -770,79 +591,88 @@ static BROUGHT: [Stage; 1] = [Stage::Both(ONE_SHIPMENT, ONE_WRITE)];
 
 #[test]
 fn a_call_waits_until_it_is_ready(rt: HostRuntime) {
-    assert!(rt; is_well(&rt, &BROUGHT, Wanted::Two(2, 1)));
+    assert_so(&rt, is_well(&rt, &BROUGHT, Wanted::Two(2, 1)));
 }
 
 // A store is filled by writes, each of which owes a shipment, which is then made.
 static FILLED: [Stage; 1] = [Stage::Alone(Job::Rows(&[
-    Row(Asked::Write, 2048, Told::Made),
-    Row(Asked::Write, 1, Told::Full(2048, 2048, 2)),
-    Row(Asked::Ship, 2048, Told::Made),
+    Row(WRITE, 2048, Told::Done),
+    Row(WRITE, 1, Told::Full((2048, 2048, 2))),
+    Row(SHIP, 2048, Told::Done),
 ]))];
 
 #[test]
 fn a_full_object_still_makes_what_it_owes(rt: HostRuntime) {
-    assert!(rt; is_well(&rt, &FILLED, Wanted::Calls(4096)));
+    assert_so(&rt, is_well(&rt, &FILLED, Wanted::Calls(4096)));
 }
 
 static REFUSED: [Stage; 1] = [Stage::Alone(Job::Steps(&[
-    Step(OfPort::Call(Asked::Read, u64::MAX), Told::Spent(u64::MAX)),
     Step(
-        OfPort::CallWait(Asked::Read, u64::MAX),
+        OfWaitPort::Port(OfPort::Call(0, READ, u64::MAX)),
         Told::Spent(u64::MAX),
     ),
-    Step(OfPort::Call(Asked::Ship, 0), Told::NotYet),
-    Step(OfPort::WriteFull, Told::LineageFull(1)),
-    Step(OfPort::Call(Asked::Ship, 0), Told::Made),
+    Step(OfWaitPort::CallWait(READ, u64::MAX), Told::Spent(u64::MAX)),
+    Step(OfWaitPort::Port(OfPort::Call(0, SHIP, 0)), Told::NotYet),
+    Step(OfWaitPort::WriteFull, Told::LineageFull(b"k", 1)),
+    Step(OfWaitPort::Port(OfPort::Call(0, SHIP, 0)), Told::Done),
 ]))];
 
 #[test]
 fn a_port_over_a_shared_store_refuses_with_the_cause(rt: HostRuntime) {
-    assert!(rt; is_well(&rt, &REFUSED, Wanted::StillOut));
+    assert_so(&rt, is_well(&rt, &REFUSED, Wanted::StillOut));
 }
 
 // A store that is filled, of which a call that may wait asks for more, and for what is owed.
 static WAITED_FULL: [Stage; 2] = [
-    Stage::Alone(Job::Rows(&[Row(Asked::Write, 2048, Told::Made)])),
+    Stage::Alone(Job::Rows(&[Row(WRITE, 2048, Told::Done)])),
     Stage::Alone(Job::Steps(&[
-        Step(OfPort::CallWait(Asked::Write, 0), Told::Full(2048, 2048, 2)),
-        Step(OfPort::CallWait(Asked::Ship, 0), Told::Made),
+        Step(OfWaitPort::CallWait(WRITE, 0), Told::Full((2048, 2048, 2))),
+        Step(OfWaitPort::CallWait(SHIP, 0), Told::Done),
     ])),
 ];
 
 #[test]
 fn a_call_that_may_wait_is_refused_where_there_is_no_room(rt: HostRuntime) {
-    assert!(rt; is_well(&rt, &WAITED_FULL, Wanted::StillOut));
+    assert_so(&rt, is_well(&rt, &WAITED_FULL, Wanted::StillOut));
 }
 
 static HELD: [Stage; 1] = [Stage::Alone(Job::Steps(&[
-    Step(OfPort::Barrier(9), Told::Unwritten(9)),
-    Step(OfPort::BarrierWait(9, 0), Told::Unwritten(9)),
-    Step(OfPort::BarrierWait(9, u64::MAX), Told::Spent(u64::MAX)),
-    Step(OfPort::CallWait(Asked::Write, 0), Told::Made),
-    Step(OfPort::Barrier(1), Told::NotYet),
-    Step(OfPort::DryRun(1), Told::Missing(1)),
-    Step(OfPort::Call(Asked::Ship, 0), Told::Made),
-    Step(OfPort::Barrier(1), Told::Sights(1)),
+    Step(
+        OfWaitPort::Port(OfPort::Barrier(&[(b"k", 9)], 0)),
+        Told::Unwritten(b"k", 9),
+    ),
+    Step(OfWaitPort::BarrierWait(9, 0), Told::Unwritten(b"k", 9)),
+    Step(OfWaitPort::BarrierWait(9, u64::MAX), Told::Spent(u64::MAX)),
+    Step(OfWaitPort::CallWait(WRITE, 0), Told::Done),
+    Step(
+        OfWaitPort::Port(OfPort::Barrier(&[(b"k", 1)], 0)),
+        Told::NotYet,
+    ),
+    Step(
+        OfWaitPort::Port(OfPort::DryRun(&[(b"k", 1)], 0)),
+        Told::Ids(&[(b"k", 1)]),
+    ),
+    Step(OfWaitPort::Port(OfPort::Call(0, SHIP, 0)), Told::Done),
+    Step(
+        OfWaitPort::Port(OfPort::Barrier(&[(b"k", 1)], 0)),
+        Told::Count(1),
+    ),
 ]))];
 
 #[test]
 fn a_barrier_at_a_shared_store_waits_for_the_shipment(rt: HostRuntime) {
-    assert!(rt; is_well(&rt, &HELD, Wanted::StillOut));
+    assert_so(&rt, is_well(&rt, &HELD, Wanted::StillOut));
 }
 
 // A barrier that may wait, for what is there, at a store that has no room for its look.
 static HELD_FULL: [Stage; 2] = [
-    Stage::Alone(Job::Rows(&[
-        Row(Asked::Write, 2048, Told::Made),
-        Row(Asked::Ship, 2048, Told::Made),
-    ])),
-    Stage::Alone(Job::Steps(&[Step(OfPort::BarrierWait(1, 0), Told::Full(4096, 0, 1))])),
+    Stage::Alone(Job::Rows(&[Row(WRITE, 2048, Told::Done), Row(SHIP, 2048, Told::Done)])),
+    Stage::Alone(Job::Steps(&[Step(OfWaitPort::BarrierWait(1, 0), Told::Full((4096, 0, 1)))])),
 ];
 
 #[test]
 fn a_barrier_that_may_wait_is_refused_where_there_is_no_room(rt: HostRuntime) {
-    assert!(rt; is_well(&rt, &HELD_FULL, Wanted::StillOut));
+    assert_so(&rt, is_well(&rt, &HELD_FULL, Wanted::StillOut));
 }
 
 // Four threads write, and bring what they wrote.
@@ -850,20 +680,20 @@ static ALL_WRITE: [Stage; 1] = [Stage::All(WRITES)];
 
 #[test]
 fn four_threads_write_and_ship(rt: HostRuntime) {
-    assert!(rt; is_well(&rt, &ALL_WRITE, Wanted::InOrder(4, 1000)));
+    assert_so(&rt, is_well(&rt, &ALL_WRITE, Wanted::InOrder(4, 1000)));
 }
 
 // What was written is brought by one thread, while another waits for it at a barrier, whose look is then the third call.
 static HELD_AT_LAST: [Stage; 3] = [
-    Stage::Alone(Job::Rows(&[Row(Asked::Write, 1, Told::Made)])),
+    Stage::Alone(Job::Rows(&[Row(WRITE, 1, Told::Done)])),
     Stage::Both(
-        Job::Steps(&[Step(OfPort::BarrierWait(1, 0), Told::Sights(1))]),
+        Job::Steps(&[Step(OfWaitPort::BarrierWait(1, 0), Told::Count(1))]),
         ONE_SHIPMENT,
     ),
-    Stage::Alone(Job::Rows(&[Row(Asked::Read, 1, Told::MadeAt(4))])),
+    Stage::Alone(Job::Rows(&[Row(READ, 1, Told::MadeAt(4))])),
 ];
 
 #[test]
 fn a_barrier_waits_while_another_thread_ships(rt: HostRuntime) {
-    assert!(rt; is_well(&rt, &HELD_AT_LAST, Wanted::StillOut));
+    assert_so(&rt, is_well(&rt, &HELD_AT_LAST, Wanted::StillOut));
 }

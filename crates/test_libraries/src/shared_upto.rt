@@ -1,9 +1,10 @@
 // What passes are told of regions without the turn.
 ghost use Rattle.std.specs.Prelude.{◌≡◌, IfSome};
 
+use crate::made::assert_so;
 use crate::shared::{shared_store, split};
-use anti_ids::{Lineage, Name, Value};
-use anti_kind::{Actor, Answer, Call, Handle, Machine, Reply};
+use crate::steps::{Asked, Told, call_of, is_answered};
+use anti_kind::{Actor, Machine};
 use anti_kv::Kv;
 use anti_shared::{Pass, Shared};
 use std::alloc::Global;
@@ -18,73 +19,13 @@ enum Who {
 
 // What a pass does.
 enum Does {
-    // It writes the value `v` to a key, with the empty lineage.
-    Write(&'static [u8]),
-    // It brings a version to a region.
-    Ship(u32, u64),
-    // It reads a key in a region, and is shown this version.
-    Read(u32, &'static [u8], u64),
+    // It asks this in a region, and is told that.
+    Call(u32, Asked<'static>, Told<'static>),
     // It asks how far a region has everything, and is told this.
     Upto(u32, u64),
 }
 
 struct Step(Who, Does);
-
-// A write of the value `v` to a key, with the empty lineage. `None` where memory runs out.
-fn write_of(alloc: Global, key: &[u8]) -> Option<Call> {
-    let Ok(key) = Name::new(key) else {
-        return None;
-    };
-    let Ok(key) = Handle::new(alloc, key) else {
-        return None;
-    };
-    let Ok(value) = Value::new(alloc, b"v") else {
-        return None;
-    };
-    match Handle::new(alloc, Lineage::root(alloc)) {
-        Ok(lineage) => Some(Call::Write {
-            key,
-            value,
-            lineage,
-        }),
-        Err(_) => None,
-    }
-}
-
-// The call that a pass makes where it does this. `None` where it makes none, or memory runs out.
-fn call_of(alloc: Global, does: &Does) -> Option<Call> {
-    match does {
-        Does::Write(key) => write_of(alloc, key),
-        Does::Ship(region, version) => Some(Call::Ship {
-            region: *region,
-            version: *version,
-            part: 1,
-        }),
-        Does::Read(region, key, _) => match Name::new(key) {
-            Ok(key) => Some(Call::Read {
-                region: *region,
-                key,
-            }),
-            Err(_) => None,
-        },
-        Does::Upto(..) => None,
-    }
-}
-
-// Whether a call was answered as it is to be: it was made, and shows the version that is wanted, where one is.
-fn is_answered(answer: &Answer, does: &Does) -> bool {
-    match answer {
-        Answer::Made {
-            reply: Reply::Shown(rows),
-            ..
-        } => match rows.as_slice() {
-            [row] => matches!(does, Does::Read(_, _, version) if row.version == *version),
-            _ => false,
-        },
-        Answer::Made { .. } => true,
-        _ => false,
-    }
-}
 
 // Whether a pass is told this of a region.
 fn is_told<M: Machine>(shared: &Shared<M>, pass: &mut Pass<M>, region: u32, upto: u64) -> bool
@@ -104,12 +45,14 @@ fn is_done<M: Machine, R: Wait + AllocGlobal>(
     requires { pass.old.id ≡ shared.now.id }
     ensures { pass.new.id ≡ pass.old.id }
 {
-    if let Does::Upto(region, upto) = does {
-        return is_told(shared, pass, *region, *upto);
-    }
-    match call_of(rt.alloc(), does) {
-        Some(call) => is_answered(&shared.call(rt, pass, Actor::Carrier(0), 0, 0, call), does),
-        None => false,
+    match does {
+        Does::Upto(region, upto) => is_told(shared, pass, *region, *upto),
+        Does::Call(region, asked, told) => {
+            let Some(call) = call_of(rt.alloc(), *region, *asked) else {
+                return false;
+            };
+            is_answered(&shared.call(rt, pass, Actor::Carrier(0), 0, 0, call), *told)
+        }
     }
 }
 
@@ -179,40 +122,67 @@ fn store_of_two(alloc: Global) -> Option<(Shared<Kv>, Pass<Kv>)>
 
 // Three versions are brought, the last one first. The other pass makes no call, and is told all the same.
 static BROUGHT: [Step; 10] = [
-    Step(Who::First, Does::Write(b"a")),
-    Step(Who::First, Does::Write(b"b")),
-    Step(Who::First, Does::Write(b"c")),
+    Step(
+        Who::First,
+        Does::Call(0, Asked::Write(b"a", b"v", &[]), Told::Wrote(b"a", 1)),
+    ),
+    Step(
+        Who::First,
+        Does::Call(0, Asked::Write(b"b", b"v", &[]), Told::Wrote(b"b", 2)),
+    ),
+    Step(
+        Who::First,
+        Does::Call(0, Asked::Write(b"c", b"v", &[]), Told::Wrote(b"c", 3)),
+    ),
     Step(Who::Other, Does::Upto(0, 0)),
-    Step(Who::First, Does::Ship(0, 3)),
+    Step(Who::First, Does::Call(0, Asked::Ship(3, 1), Told::Moved)),
     Step(Who::Other, Does::Upto(0, 0)),
-    Step(Who::First, Does::Ship(0, 1)),
+    Step(Who::First, Does::Call(0, Asked::Ship(1, 1), Told::Moved)),
     Step(Who::Other, Does::Upto(0, 1)),
-    Step(Who::First, Does::Ship(0, 2)),
+    Step(Who::First, Does::Call(0, Asked::Ship(2, 1), Told::Moved)),
     Step(Who::Other, Does::Upto(0, 3)),
 ];
 
 // What it was told it then finds.
 static FOUND: [Step; 6] = [
     Step(Who::Other, Does::Upto(0, 3)),
-    Step(Who::Other, Does::Read(0, b"a", 1)),
-    Step(Who::Other, Does::Read(0, b"b", 2)),
-    Step(Who::Other, Does::Read(0, b"c", 3)),
+    Step(
+        Who::Other,
+        Does::Call(0, Asked::Read(b"a"), Told::Rows(&[(b"a", 1, b"v")])),
+    ),
+    Step(
+        Who::Other,
+        Does::Call(0, Asked::Read(b"b"), Told::Rows(&[(b"b", 2, b"v")])),
+    ),
+    Step(
+        Who::Other,
+        Does::Call(0, Asked::Read(b"c"), Told::Rows(&[(b"c", 3, b"v")])),
+    ),
     Step(Who::Other, Does::Upto(0, 3)),
     Step(Who::First, Does::Upto(0, 3)),
 ];
 
 #[test]
 fn a_pass_is_told_without_a_call(rt: HostRuntime) {
-    assert!(rt; is_well(&rt, shared_store(rt.alloc()), &BROUGHT, &FOUND));
+    assert_so(
+        &rt,
+        is_well(&rt, shared_store(rt.alloc()), &BROUGHT, &FOUND),
+    );
 }
 
 // Each pass brings versions to a region of its own, and is told of both.
 static APART: [Step; 11] = [
-    Step(Who::First, Does::Write(b"a")),
-    Step(Who::Other, Does::Write(b"b")),
-    Step(Who::First, Does::Ship(0, 1)),
-    Step(Who::Other, Does::Ship(3, 1)),
-    Step(Who::Other, Does::Ship(3, 2)),
+    Step(
+        Who::First,
+        Does::Call(0, Asked::Write(b"a", b"v", &[]), Told::Wrote(b"a", 1)),
+    ),
+    Step(
+        Who::Other,
+        Does::Call(0, Asked::Write(b"b", b"v", &[]), Told::Wrote(b"b", 2)),
+    ),
+    Step(Who::First, Does::Call(0, Asked::Ship(1, 1), Told::Moved)),
+    Step(Who::Other, Does::Call(3, Asked::Ship(1, 1), Told::Moved)),
+    Step(Who::Other, Does::Call(3, Asked::Ship(2, 1), Told::Moved)),
     Step(Who::First, Does::Upto(0, 1)),
     Step(Who::First, Does::Upto(3, 2)),
     Step(Who::Other, Does::Upto(0, 1)),
@@ -225,13 +195,16 @@ static APART: [Step; 11] = [
 static JOINED: [Step; 6] = [
     Step(Who::First, Does::Upto(3, 2)),
     Step(Who::Other, Does::Upto(0, 1)),
-    Step(Who::Other, Does::Ship(0, 2)),
+    Step(Who::Other, Does::Call(0, Asked::Ship(2, 1), Told::Moved)),
     Step(Who::First, Does::Upto(0, 2)),
-    Step(Who::First, Does::Read(3, b"b", 2)),
+    Step(
+        Who::First,
+        Does::Call(3, Asked::Read(b"b"), Told::Rows(&[(b"b", 2, b"v")])),
+    ),
     Step(Who::Other, Does::Upto(3, 2)),
 ];
 
 #[test]
 fn passes_are_told_of_each_region(rt: HostRuntime) {
-    assert!(rt; is_well(&rt, store_of_two(rt.alloc()), &APART, &JOINED));
+    assert_so(&rt, is_well(&rt, store_of_two(rt.alloc()), &APART, &JOINED));
 }

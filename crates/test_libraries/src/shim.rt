@@ -5,26 +5,23 @@ ghost use Rattle.anti_kind.specs.Objects.{store};
 ghost use Rattle.anti_kind.specs.Store.{Store, is_replica};
 ghost use Rattle.anti_shim.specs.Sights.{IsHere};
 
-use crate::made::{id, lineage, name, sub, value, versions};
+use crate::made::{Version, assert_right, lineage, name, versions};
+use crate::ports::{SHIP, Shown, Told, caller, calls, holds, is_count, is_fault, names, writes};
+use crate::queue::queue;
+use crate::steps::Asked as Call;
+use crate::topic::topic;
 use anti_blob::Blob;
-use anti_ids::{Lineage, Name, WriteId};
-use anti_kind::{Actor, Answer, Call, Lone, Machine, Port, Row, Rows};
+use anti_ids::{Lineage, Name};
+use anti_kind::{Lone, Machine, Port, Row, Rows};
 use anti_kv::Kv;
 use anti_queue::Queue;
 use anti_shim::{
-    Barrier, BarrierAnswer, BlobShim, BlobStore, Caller, KvShim, KvStore, QueueStore, ShimFault,
-    StoreShim, TableShim, TableStore, TopicShim, TopicStore, barrier, dry_run,
+    BlobShim, BlobStore, Caller, KvShim, KvStore, QueueStore, ShimFault, StoreShim, TableShim,
+    TableStore, TopicShim, TopicStore,
 };
 use anti_table::Table;
 use anti_topic::Topic;
 use std::alloc::Global;
-use std::process::Abort;
-
-// A key of the store 0 and its version.
-type Version<'a> = (&'a [u8], u64);
-
-// Of a row its version, its value, and how many ids are beside it.
-type Shown<'a> = (u64, &'a [u8], u32);
 
 // The kind of store whose shim reads a row.
 enum By {
@@ -70,31 +67,6 @@ enum Asked<'a> {
     DryRun(&'a [Version<'a>]),
 }
 
-// What is told.
-enum Told<'a> {
-    // That it was done, or that there is such an object.
-    Done,
-    // That there is no such object.
-    Absent,
-    // How many there are; of a barrier, the sights.
-    Count(usize),
-    // The id of what was written, which the lineage then has.
-    Wrote(&'a [u8], u64),
-    Row(Shown<'a>),
-    Rows(&'a [Shown<'a>]),
-    Ids(&'a [Version<'a>]),
-    // That it is not ready.
-    NotYet,
-    // That the store holds and owes so many units, and so many are needed.
-    Full((u32, u32, u32)),
-    // That there is no stamp behind this one.
-    Spent(u64),
-    // That nobody wrote this.
-    Unwritten(&'a [u8], u64),
-    // That this was written, and the lineage is full.
-    LineageFull(&'a [u8], u64),
-}
-
 // What is asked, what is told, and how often.
 struct Step<'a>(Asked<'a>, Told<'a>, u64);
 
@@ -106,53 +78,12 @@ struct Session {
     region: u32,
 }
 
-// A caller that has made no call.
-fn caller() -> Caller {
-    Caller {
-        actor: Actor::Carrier(0),
-        span: 0,
-        clock: 0,
-    }
-}
-
-// Such a caller, with the empty lineage.
+// A caller that has made no call, with the empty lineage.
 fn fresh(alloc: Global) -> Session {
     Session {
-        who: caller(),
+        who: caller(0),
         lineage: Lineage::root(alloc),
         region: 0,
-    }
-}
-
-// Whether an id is this version of a key of the store 0.
-fn is_id(id: &WriteId, key: &[u8], version: u64) -> bool {
-    id.store == 0 && id.key.bytes() == key && id.version == version
-}
-
-// Whether a count is what is told.
-fn is_count(count: usize, told: &Told) -> bool {
-    matches!(told, Told::Count(wanted) if *wanted == count)
-}
-
-// Whether a fault is what is told.
-fn is_fault(fault: &ShimFault, told: &Told) -> bool {
-    match (fault, told) {
-        (ShimFault::NotYet, Told::NotYet) => true,
-        (ShimFault::Full { held, owed, need }, Told::Full(full)) => (*held, *owed, *need) == *full,
-        (ShimFault::Spent { clock }, Told::Spent(last)) => clock == last,
-        (ShimFault::Unwritten(id), Told::Unwritten(key, version)) => is_id(id, key, *version),
-        (ShimFault::LineageFull(id), Told::LineageFull(key, version)) => is_id(id, key, *version),
-        _ => false,
-    }
-}
-
-// Whether a write, which left this lineage, gave what is told.
-fn is_written(wrote: &Result<WriteId, ShimFault>, lineage: &Lineage, told: &Told) -> bool {
-    match (wrote, told) {
-        (Ok(_), Told::Done) => true,
-        (Ok(id), Told::Wrote(key, version)) => is_id(id, key, *version) && lineage.contains(id),
-        (Ok(_), _) => false,
-        (Err(fault), _) => is_fault(fault, told),
     }
 }
 
@@ -191,51 +122,6 @@ fn are_scanned(rows: &Result<Rows, ShimFault>, told: &Told) -> bool {
     }
 }
 
-// Whether a shipment was answered as is told.
-fn is_answered(answer: &Answer, told: &Told) -> bool {
-    match (answer, told) {
-        (Answer::Made { .. }, Told::Done) => true,
-        (Answer::NotYet, Told::NotYet) => true,
-        _ => false,
-    }
-}
-
-// Whether a barrier answered what is told.
-fn is_held(answer: &BarrierAnswer, told: &Told) -> bool {
-    match (answer, told) {
-        (BarrierAnswer::Clear(sights), _) => is_count(sights.len(), told),
-        (BarrierAnswer::NotYet, Told::NotYet) => true,
-        (BarrierAnswer::Unwritten(id), Told::Unwritten(key, version)) => is_id(id, key, *version),
-        (BarrierAnswer::Full { held, owed, need }, Told::Full(full)) => {
-            (*held, *owed, *need) == *full
-        }
-        (BarrierAnswer::Spent { clock }, Told::Spent(last)) => clock == last,
-        _ => false,
-    }
-}
-
-// Whether just these ids of the store 0 are missing.
-fn are_missing(missing: &Lineage, wanted: &[Version]) -> bool {
-    for (key, version) in wanted {
-        let Ok(id) = id(0, key, *version) else {
-            return false;
-        };
-        if !missing.contains(&id) {
-            return false;
-        }
-    }
-    missing.len() as usize == wanted.len()
-}
-
-// Whether a dry run gave what is told.
-fn are_named(missing: &Result<Lineage, ShimFault>, told: &Told) -> bool {
-    match (missing, told) {
-        (Ok(missing), Told::Ids(wanted)) => are_missing(missing, wanted),
-        (Ok(_), _) => false,
-        (Err(fault), _) => is_fault(fault, told),
-    }
-}
-
 // Goes on with so many versions of the store 1 as the lineage.
 fn carries(alloc: Global, session: &mut Session, count: u64) -> bool {
     let Ok(lineage) = versions(alloc, 1, b"k", count) else {
@@ -247,55 +133,11 @@ fn carries(alloc: Global, session: &mut Session, count: u64) -> bool {
 
 // Goes on with these versions of the store 0 as the lineage.
 fn names_own(alloc: Global, session: &mut Session, ids: &[Version]) -> bool {
-    let Ok(lineage) = lineage(alloc, ids) else {
+    let Ok(lineage) = lineage(alloc, &[0], ids) else {
         return false;
     };
     session.lineage = lineage;
     true
-}
-
-// Whether a write goes so.
-fn writes<K, M: Machine>(
-    alloc: Global,
-    port: &mut Lone<M>,
-    session: &mut Session,
-    key: &[u8],
-    text: &[u8],
-    told: &Told,
-) -> bool
-    requires { IsHere (lone_start M.start port.old) 0 (0 ∷ []) }
-    ensures { (o : ℕ) → lone_start M.start port.new o ≡ lone_start M.start port.old o }
-{
-    let Ok(key) = name(key) else {
-        return false;
-    };
-    let Ok(value) = value(alloc, text) else {
-        return false;
-    };
-    let store: StoreShim<K> = StoreShim::new(0, 0);
-    let wrote = store.write(
-        alloc,
-        port,
-        &mut session.who,
-        key,
-        value,
-        &mut session.lineage,
-    );
-    is_written(&wrote, &session.lineage, told)
-}
-
-// Whether a shipment goes so at the object of this number.
-fn ships<M: Machine>(port: &mut Lone<M>, object: u32, version: u64, part: u32, told: &Told) -> bool
-    requires { IsHere (lone_start M.start port.old) 0 (0 ∷ []) }
-    ensures { (o : ℕ) → lone_start M.start port.new o ≡ lone_start M.start port.old o }
-{
-    let ship = Call::Ship {
-        region: 0,
-        version,
-        part,
-    };
-    let answer = port.call(object, Actor::Carrier(0), 0, 0, ship);
-    is_answered(&answer, told)
 }
 
 // Whether a wait goes so.
@@ -365,29 +207,59 @@ fn scans<M: Machine>(port: &mut Lone<M>, session: &mut Session, prefix: &[u8], t
     are_scanned(&rows, told)
 }
 
-// Whether a barrier goes so.
-fn holds<M: Machine>(alloc: Global, port: &mut Lone<M>, ids: &[Version], told: &Told) -> bool
-    requires { IsHere (lone_start M.start port.old) 0 (0 ∷ []) }
-    ensures { (o : ℕ) → lone_start M.start port.new o ≡ lone_start M.start port.old o }
-{
-    let Ok(lineage) = lineage(alloc, ids) else {
-        return false;
-    };
-    let mut cursor = Barrier::begin(alloc);
-    let answer = barrier(alloc, port, &mut caller(), 0, &[0], &lineage, &mut cursor);
-    is_held(&answer, told)
+// Whether it goes so where the port is not called. `None` where it is.
+fn goes_without<M: Machine>(
+    alloc: Global,
+    port: &Lone<M>,
+    session: &mut Session,
+    asked: &Asked,
+    told: &Told,
+) -> Option<bool> {
+    match asked {
+        Asked::Has(object) => Some(port.has(*object) == matches!(told, Told::Done)),
+        Asked::History => Some(is_count(port.history().len(), told)),
+        Asked::Lineage => Some(is_count(session.lineage.len() as usize, told)),
+        Asked::Carry(count) => Some(carries(alloc, session, *count)),
+        Asked::Name(ids) => Some(names_own(alloc, session, ids)),
+        Asked::Stamp(clock) => {
+            session.who.clock = *clock;
+            Some(true)
+        }
+        Asked::Region(region) => {
+            session.region = *region;
+            Some(true)
+        }
+        _ => None,
+    }
 }
 
-// Whether a dry run goes so.
-fn names<M: Machine>(alloc: Global, port: &mut Lone<M>, ids: &[Version], told: &Told) -> bool
+// Whether a read, a scan, a barrier or a dry run goes so.
+fn shows<M: Machine>(
+    alloc: Global,
+    port: &mut Lone<M>,
+    session: &mut Session,
+    asked: &Asked,
+    told: &Told,
+) -> bool
     requires { IsHere (lone_start M.start port.old) 0 (0 ∷ []) }
     ensures { (o : ℕ) → lone_start M.start port.new o ≡ lone_start M.start port.old o }
 {
-    let Ok(lineage) = lineage(alloc, ids) else {
-        return false;
-    };
-    let missing = dry_run(alloc, port, &mut caller(), 0, &[0], &lineage);
-    are_named(&missing, told)
+    match asked {
+        Asked::Read(by, key) => reads(port, session, by, key, told),
+        Asked::Scan(prefix) => scans(port, session, prefix, told),
+        Asked::Barrier(ids) => holds(alloc, port, &[0], ids, 0, told),
+        Asked::DryRun(ids) => names(alloc, port, &[0], ids, 0, told),
+        _ => false,
+    }
+}
+
+// Whether a write of the value `v` goes so, of a caller that has made no call, with the empty lineage.
+fn puts<K, M: Machine>(alloc: Global, port: &mut Lone<M>, key: &[u8], told: &Told) -> bool
+    requires { IsHere (lone_start M.start port.old) 0 (0 ∷ []) }
+    ensures { (o : ℕ) → lone_start M.start port.new o ≡ lone_start M.start port.old o }
+{
+    let mut none = Lineage::root(alloc);
+    writes::<K, Lone<M>>(alloc, port, &mut caller(0), &mut none, key, b"v", told)
 }
 
 // Whether a step goes as it says, at its turn.
@@ -402,29 +274,22 @@ fn goes_once<K, M: Machine>(
     ensures { (o : ℕ) → lone_start M.start port.new o ≡ lone_start M.start port.old o }
 {
     let Step(asked, told, _) = step;
+    if let Some(goes) = goes_without(alloc, port, session, asked, told) {
+        return goes;
+    }
     match asked {
-        Asked::Has(object) => port.has(*object) == matches!(told, Told::Done),
-        Asked::History => is_count(port.history().len(), told),
-        Asked::Lineage => is_count(session.lineage.len() as usize, told),
-        Asked::Carry(count) => carries(alloc, session, *count),
-        Asked::Name(ids) => names_own(alloc, session, ids),
-        Asked::Stamp(clock) => {
-            session.who.clock = *clock;
-            true
+        Asked::Write(key, text) => {
+            let Session { who, lineage, .. } = session;
+            writes::<K, Lone<M>>(alloc, port, who, lineage, key, text, told)
         }
-        Asked::Write(key, text) => writes::<K, M>(alloc, port, session, key, text, told),
-        Asked::Put(key) => writes::<K, M>(alloc, port, &mut fresh(alloc), key, b"v", told),
-        Asked::Region(region) => {
-            session.region = *region;
-            true
+        Asked::Put(key) => puts::<K, M>(alloc, port, key, told),
+        Asked::Ship(version, part) => {
+            let ship = Call::Ship(version.saturating_add(turn), *part);
+            calls(alloc, port, 0, ship, 0, told)
         }
-        Asked::Ship(version, part) => ships(port, 0, version.saturating_add(turn), *part, told),
-        Asked::Elsewhere(object) => ships(port, *object, 1, 1, told),
+        Asked::Elsewhere(object) => calls(alloc, port, *object, SHIP, 0, told),
         Asked::Wait => waits::<K, M>(alloc, port, session, told),
-        Asked::Read(by, key) => reads(port, session, by, key, told),
-        Asked::Scan(prefix) => scans(port, session, prefix, told),
-        Asked::Barrier(ids) => holds(alloc, port, ids, told),
-        Asked::DryRun(ids) => names(alloc, port, ids, told),
+        _ => shows(alloc, port, session, asked, told),
     }
 }
 
@@ -462,11 +327,6 @@ fn wrong_step<K, M: Machine + Drop>(alloc: Global, start: M, steps: &[Step]) -> 
         }
     }
     None
-}
-
-// Asserts that no step is wrong.
-fn assert_right(rt: &impl Abort, wrong: Option<usize>) {
-    assert!(rt; wrong.is_none(), "step {wrong:?}");
 }
 
 // The first wrong step at a port over a kv store.
@@ -651,13 +511,7 @@ fn a_blob_is_read_once_all_its_parts_are_there(rt: HostRuntime) {
 
 // The first wrong step at a port over a queue with two subscriptions.
 fn wrong_step_of_queue(alloc: Global, steps: &[Step]) -> Option<usize> {
-    let Ok(first) = sub(b"n") else {
-        return Some(0);
-    };
-    let Ok(second) = sub(b"n") else {
-        return Some(0);
-    };
-    let Ok(store) = Queue::new(alloc, 0, &[0], &[first, second], 2) else {
+    let Ok(store) = queue(alloc) else {
         return Some(0);
     };
     wrong_step::<QueueStore, Queue>(alloc, store, steps)
@@ -678,13 +532,7 @@ fn a_message_is_named_by_its_channel(rt: HostRuntime) {
 
 // The first wrong step at a port over a topic with two subscriptions.
 fn wrong_step_of_topic(alloc: Global, steps: &[Step]) -> Option<usize> {
-    let Ok(first) = sub(b"n") else {
-        return Some(0);
-    };
-    let Ok(second) = sub(b"n") else {
-        return Some(0);
-    };
-    let Ok(store) = Topic::new(alloc, 0, &[0], &[first, second]) else {
+    let Ok(store) = topic(alloc) else {
         return Some(0);
     };
     wrong_step::<TopicStore, Topic>(alloc, store, steps)

@@ -3,7 +3,7 @@
 ghost use Rattle.std.specs.Prelude.{[], IfOk};
 ghost use Rattle.anti_kind.specs.Machines.{StandsFor};
 
-use crate::made::{lineage, message};
+use crate::made::{Version, lineage, message};
 use anti_ids::{Name, NoMemory, Value};
 use anti_kind::{
     Actor, Answer, Asking, Brought, Call, Handle, Machine, MessageKind, Recorded, Reply, Row,
@@ -11,23 +11,20 @@ use anti_kind::{
 use std::alloc::Global;
 use std::process::Abort;
 
-/// A key and its version.
-pub type Version<'a> = (&'a [u8], u64);
-
-/// What is asked.
+/// What is asked; of a store, in some region.
 #[derive(Clone, Copy)]
 pub enum Asked<'a> {
     /// To write a value to a key, with these versions of the store 0 as its lineage.
     Write(&'a [u8], &'a [u8], &'a [Version<'a>]),
-    /// To read a key, in region 0.
+    /// To read a key.
     Read(&'a [u8]),
-    /// To read the keys that begin with a prefix, in region 0.
+    /// To read the keys that begin with a prefix.
     Scan(&'a [u8]),
-    /// To read a cell, in region 0.
+    /// To read a cell.
     Poll(&'a [u8]),
-    /// To look for these versions of the store 0, in region 0.
+    /// To look for these versions of the store 0.
     Look(&'a [Version<'a>]),
-    /// To bring a part of a version to region 0.
+    /// To bring a part of a version.
     Ship(u64, u32),
     /// To bring it once more.
     Again(u64, u32),
@@ -90,7 +87,7 @@ pub fn write(alloc: Global, key: &[u8], text: &[u8], ids: &[Version]) -> Option<
     let Ok(name) = Name::new(key) else {
         return None;
     };
-    let Ok(ids) = lineage(alloc, ids) else {
+    let Ok(ids) = lineage(alloc, &[0], ids) else {
         return None;
     };
     let Ok(lineage) = Handle::new(alloc, ids) else {
@@ -109,14 +106,14 @@ pub fn write(alloc: Global, key: &[u8], text: &[u8], ids: &[Version]) -> Option<
     })
 }
 
-// A look for some versions in region 0. `None` where memory runs out.
-fn look(alloc: Global, ids: &[Version]) -> Option<Call> {
-    let Ok(ids) = lineage(alloc, ids) else {
+// A look for some versions in a region. `None` where memory runs out.
+fn look(alloc: Global, region: u32, ids: &[Version]) -> Option<Call> {
+    let Ok(ids) = lineage(alloc, &[0], ids) else {
         return None;
     };
     match Handle::new(alloc, ids) {
         Ok(ids) => Some(Call::Look {
-            region: 0,
+            region,
             ids,
             dry: false,
         }),
@@ -124,9 +121,8 @@ fn look(alloc: Global, ids: &[Version]) -> Option<Call> {
     }
 }
 
-// The call that is asked. `None` where memory runs out.
-fn call_of(alloc: Global, asked: Asked) -> Option<Call> {
-    let region = 0;
+/// The call that is asked, in this region. `None` where memory runs out.
+pub fn call_of(alloc: Global, region: u32, asked: Asked) -> Option<Call> {
     match asked {
         Asked::Write(key, text, ids) => write(alloc, key, text, ids),
         Asked::Read(key) => match Name::new(key) {
@@ -141,7 +137,7 @@ fn call_of(alloc: Global, asked: Asked) -> Option<Call> {
             Ok(key) => Some(Call::Poll { region, key }),
             Err(_) => None,
         },
-        Asked::Look(ids) => look(alloc, ids),
+        Asked::Look(ids) => look(alloc, region, ids),
         Asked::Ship(version, part) => Some(Call::Ship {
             region,
             version,
@@ -205,6 +201,15 @@ fn is_told(reply: &Reply, told: Told) -> bool {
     }
 }
 
+/// Whether an answer is what is to be told.
+pub fn is_answered(answer: &Answer, told: Told) -> bool {
+    match answer {
+        Answer::Made { reply, .. } => is_told(reply, told),
+        Answer::NotYet => matches!(told, Told::NotNow),
+        _ => false,
+    }
+}
+
 // Whether an object answers so to a call of the carrier 0.
 fn answers<M: Machine>(object: &mut Recorded<M>, call: Call, told: Told) -> bool {
     match told {
@@ -219,18 +224,14 @@ fn answers<M: Machine>(object: &mut Recorded<M>, call: Call, told: Told) -> bool
         clock: 0,
         call,
     };
-    match object.ask(0, asking) {
-        Answer::Made { reply, .. } => is_told(&reply, told),
-        Answer::NotYet => matches!(told, Told::NotNow),
-        _ => false,
-    }
+    is_answered(&object.ask(0, asking), told)
 }
 
 // Whether a step goes as it says.
 fn goes<M: Machine>(alloc: Global, object: &mut Recorded<M>, step: Step) -> bool {
     match step {
         Step::Call(asked, told, held, owed) => {
-            let Some(call) = call_of(alloc, asked) else {
+            let Some(call) = call_of(alloc, 0, asked) else {
                 return false;
             };
             let is_told = answers(object, call, told);

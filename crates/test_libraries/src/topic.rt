@@ -1,6 +1,8 @@
-ghost use Rattle.std.specs.Prelude.{[], IfOk};
+ghost use Rattle.std.specs.Prelude.{◌≡◌, [], true, IfOk};
 ghost use Rattle.anti_topic.specs.TopicStates.{its_start, TopicStands};
 ghost use Rattle.anti_kind.specs.Machines.{StandsFor};
+ghost use Rattle.anti_kind.specs.Objects.{store};
+ghost use Rattle.anti_kind.specs.Store.{Store, is_replica};
 
 use crate::made::sub;
 use crate::steps::{Asked, Step, Told, assert_steps};
@@ -8,10 +10,11 @@ use anti_ids::NoMemory;
 use anti_topic::Topic;
 use std::alloc::Global;
 
-// The store 0, of which the only replica is in region 0, with two subscriptions to the channel n.
+/// The store 0, of which the only replica is in region 0, with two subscriptions to the channel n.
 #[tactic(auto, using(crate::proofs::Subscribed::topic_starts))]
-fn topic(alloc: Global) -> Result<Topic, NoMemory>
-    ensures { IfOk result (λ m. StandsFor (its_start m) (TopicStands m) []) }
+pub fn topic(alloc: Global) -> Result<Topic, NoMemory>
+    ensures fresh { IfOk result (λ m. StandsFor (its_start m) (TopicStands m) []) }
+    ensures here { IfOk result (λ m. (s : Store) × (its_start m ≡ store s) × (s.number ≡ 0) × (is_replica s 0 ≡ true)) }
 {
     let Ok(first) = sub(b"n") else {
         return Err(NoMemory);

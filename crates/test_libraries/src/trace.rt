@@ -1,7 +1,7 @@
 ghost use Rattle.std.specs.Prelude.{◌≡◌, ◌<◌, All, IfOk, length};
 ghost use Rattle.anti_trace.specs.Histories.{IsHistory};
 
-use crate::made::message;
+use crate::made::{assert_so, message};
 use crate::steps::write;
 use anti_ids::{Copies, Lineage, List, Name, NoMemory, Value};
 use anti_kind::{Actor, Call, Entry, History, MessageKind, Reply, Row};
@@ -86,7 +86,7 @@ fn are_merged(alloc: Global) -> bool {
 
 #[test]
 fn three_histories_are_merged(rt: HostRuntime) {
-    assert!(rt; are_merged(rt.alloc()));
+    assert_so(&rt, are_merged(rt.alloc()));
 }
 
 // Whether an entry with a copy of this reply has a copy with its stamp.
@@ -141,5 +141,8 @@ fn is_row_copied(alloc: Global) -> bool {
 
 #[test]
 fn entries_are_copied(rt: HostRuntime) {
-    assert!(rt; is_message_copied(rt.alloc()) && is_row_copied(rt.alloc()));
+    assert_so(
+        &rt,
+        is_message_copied(rt.alloc()) && is_row_copied(rt.alloc()),
+    );
 }

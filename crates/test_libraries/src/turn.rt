@@ -2,6 +2,7 @@ ghost use Rattle.std.specs.Prelude.{◌≡◌, ◌<◌, false, length, IfSome};
 ghost use Rattle.anti_turn.specs.Lists.{Adds};
 ghost use Rattle.anti_turn.specs.inner.Tallies.{longer};
 
+use crate::made::assert_so;
 use anti_turn::{Listed, Seat, Turn};
 use std::alloc::Global;
 use std::sync::Wait;
@@ -96,7 +97,7 @@ fn is_alone_but_while_a_second_is_out(alloc: Global) -> bool {
 
 #[test]
 fn a_seat_is_alone_but_while_a_second_is_out(rt: HostRuntime) {
-    assert!(rt; is_alone_but_while_a_second_is_out(rt.alloc()));
+    assert_so(&rt, is_alone_but_while_a_second_is_out(rt.alloc()));
 }
 
 // Which mark the seats raise and load, and another.
@@ -140,7 +141,7 @@ fn loaded_without_the_turn<R: Wait + AllocGlobal>(rt: &R) -> Option<[u64; 4]> {
 
 #[test]
 fn a_mark_is_seen_without_the_turn(rt: HostRuntime) {
-    assert!(rt; loaded_without_the_turn(&rt) == Some([0, 2, 2, 0]));
+    assert_so(&rt, loaded_without_the_turn(&rt) == Some([0, 2, 2, 0]));
 }
 
 // Takes the turn and gives it back, then adds entries, each in a turn of its own.
@@ -204,5 +205,5 @@ fn both_add<R: Threads + Wait + Sync + AllocGlobal>(rt: &R) -> bool {
 
 #[test]
 fn two_threads_add_under_their_own_numbers(rt: HostRuntime) {
-    assert!(rt; both_add(&rt));
+    assert_so(&rt, both_add(&rt));
 }

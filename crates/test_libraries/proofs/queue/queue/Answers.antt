@@ -1,7 +1,11 @@
-use Rattle.test_libraries.proofs.Subscribed.{queue_starts}
+use Rattle.std.proofs.Common.{[], ◌∷◌, refl}
+use Rattle.anti_kind.specs.Starts.{queue_store}
+use Rattle.anti_queue.specs.QueueStates.{its_start}
+use Rattle.test_libraries.proofs.Subscribed.{queue_starts, is_first}
 use Rattle.test_libraries.proofs.queue.queue.Goals as goal
 
 pub new-requires : goal.new-requires
-new-requires c =
-    let first = c.in-Ok.ensures in
-    let second = c.in-Ok-sub.ensures in queue_starts c.in-Ok.first c.in-Ok-sub.second first.region first.plain second.region second.plain
+new-requires c = queue_starts c.in-Ok.first c.in-Ok-sub.second c.in-Ok.ensures.region c.in-Ok.ensures.plain c.in-Ok-sub.ensures.region c.in-Ok-sub.ensures.plain
+
+pub returns-clause-here : goal.returns-clause-here
+returns-clause-here c = is_first its_start c.new.result (queue_store 0 (0 ∷ []) (c.in-Ok.first ∷ c.in-Ok-sub.second ∷ []) 2) refl refl c.new.ensures.start
