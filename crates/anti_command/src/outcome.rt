@@ -1,3 +1,5 @@
+ghost use Rattle.std.specs.Prelude.{◌≡◌};
+
 use crate::fault::TopFault;
 use anti_app::{App, Waits};
 use anti_trace::Trace;
@@ -22,4 +24,13 @@ pub struct Outcome {
     pub kept: Option<RunKept>,
     /// Why not all was written, where it was not.
     pub fault: Option<TopFault>,
+}
+
+impl Outcome {
+    /// The status alone. The run is let go.
+    pub fn into_status(self) -> u8
+        ensures { result ≡ self.status }
+    {
+        self.status
+    }
 }

@@ -60,7 +60,7 @@ fn main(rt: HostRuntime) -> ExitCode {
             &mut err,
             &Open,
         )
-        .status,
+        .into_status(),
         Err(NoMemory) => {
             tell(&mut err, TopFault::NoMemory);
             status_of(Some(TopFault::NoMemory))
