@@ -4,6 +4,7 @@ ghost use Rattle.anti_app.specs.Sound.{is_sound};
 ghost use Rattle.anti_trace.specs.Legal.{IsLegalTrace};
 ghost use Rattle.anti_trace.specs.inner.Living.{AreOfSome, lists};
 
+use crate::call_rows::assert_so;
 use crate::pulls::BARRIER_WAITS;
 use crate::run_rows::{PlayedRun, run_of};
 use anti_app::{App, number_on, object_at, object_count, sub_on};
@@ -109,5 +110,5 @@ fn is_bare_in(alloc: Global, document: &[u8]) -> bool {
 
 #[test]
 fn what_is_not_there_is_none(rt: HostRuntime) {
-    assert!(rt; is_bare_in(rt.alloc(), BARRIER_WAITS.as_bytes()));
+    assert_so(&rt, is_bare_in(rt.alloc(), BARRIER_WAITS.as_bytes()));
 }

@@ -166,10 +166,27 @@ pub fn is_so(alloc: Global, row: &CallRow) -> bool {
     comes_to(alloc, &[row.word], row.document, row)
 }
 
+// An assertion in a test is proved with the test: these are proved once.
+
+/// Asserts what is to hold.
+pub fn assert_so(rt: &impl Abort, holds: bool) {
+    assert!(rt; holds);
+}
+
+/// Asserts what is to hold of a text.
+pub fn assert_of(rt: &impl Abort, text: &str, holds: bool) {
+    assert!(rt; holds, "at {text}");
+}
+
+/// Asserts what is to hold of the row of a table at this place, counted from 0.
+pub fn assert_at(rt: &impl Abort, place: usize, holds: bool) {
+    assert!(rt; holds, "at row {place}");
+}
+
 /// Asserts that each call comes to what its row wants.
 pub fn assert_rows(rt: &impl Abort, alloc: Global, rows: &[CallRow]) {
-    for (i, row) in rows.iter().enumerate() {
-        assert!(rt; is_so(alloc, row), "row {i}");
+    for (place, row) in rows.iter().enumerate() {
+        assert_at(rt, place, is_so(alloc, row));
     }
 }
 
@@ -197,10 +214,8 @@ fn comes_to_text(alloc: Global, call: &CallRow, document: &[u8], text: &[u8]) ->
 /// where the status is not 0, the line of the fault.
 pub fn assert_texts(rt: &impl Abort, alloc: Global, call: &CallRow, texts: &[(&str, &str)]) {
     for (document, text) in texts {
-        assert!(rt;
-            comes_to_text(alloc, call, document.as_bytes(), text.as_bytes()),
-            "{text} of {document}"
-        );
+        let is_so = comes_to_text(alloc, call, document.as_bytes(), text.as_bytes());
+        assert_of(rt, document, is_so);
     }
 }
 
@@ -233,7 +248,7 @@ fn is_refused(alloc: Global, frame: &str, case: &str) -> bool {
 /// arrow the line that is told.
 pub fn assert_refused(rt: &impl Abort, alloc: Global, frame: &str, table: &str) {
     for case in table.split_inclusive('\n') {
-        assert!(rt; is_refused(alloc, frame, case), "{case}");
+        assert_of(rt, case, is_refused(alloc, frame, case));
     }
 }
 

@@ -1,8 +1,8 @@
 // The words of the top call, its faults, and each read and write that fails.
 
 use crate::call_rows::{
-    CallRow, NOTHING_AS_JSON, NOTHING_HAPPENED, STEP, STORE_ALONE, assert_rows, comes_to, is_so,
-    served, step,
+    CallRow, NOTHING_AS_JSON, NOTHING_HAPPENED, STEP, STORE_ALONE, assert_at, assert_rows,
+    comes_to, is_so, served, step,
 };
 use crate::past::WHOLE;
 use anti_command::antipode_plain;
@@ -60,11 +60,8 @@ static USAGE: CallRow = CallRow {
 
 #[test]
 fn words_that_are_no_command_are_told(rt: HostRuntime) {
-    for (i, words) in NO_COMMANDS.iter().enumerate() {
-        assert!(rt;
-            comes_to(rt.alloc(), words, STORE_ALONE, &USAGE),
-            "words {i}"
-        );
+    for (place, words) in NO_COMMANDS.iter().enumerate() {
+        assert_at(&rt, place, comes_to(rt.alloc(), words, STORE_ALONE, &USAGE));
     }
 }
 
@@ -234,22 +231,22 @@ fn is_so_at(alloc: Global, length: usize, row: &CallRow) -> bool {
 
 #[test]
 fn a_longer_document_is_too_long(rt: HostRuntime) {
-    for (length, row) in &LENGTHS {
-        assert!(rt; is_so_at(rt.alloc(), *length, row), "{length} bytes");
+    for (place, (length, row)) in LENGTHS.iter().enumerate() {
+        assert_at(&rt, place, is_so_at(rt.alloc(), *length, row));
     }
 }
 
 // Asserts that a failing read of the document is told, whichever it is: one for each byte, or the one at the end.
 fn assert_reads(rt: &impl Abort, alloc: Global, document: &[u8]) {
     let mut read: u32 = 0;
-    for _ in 0..=document.len() {
+    for place in 0..=document.len() {
         read = read.saturating_add(1);
         let row = CallRow {
             most: 1,
             read_fails: read,
             ..step(document, 3, b"", b"read fault\n")
         };
-        assert!(rt; is_so(alloc, &row), "read {read}");
+        assert_at(rt, place, is_so(alloc, &row));
     }
 }
 
@@ -268,10 +265,7 @@ fn assert_writes<'a>(rt: &impl Abort, alloc: Global, document: &'a [u8], record:
             err: b"",
             ..row
         };
-        assert!(rt;
-            is_so(alloc, &row) && is_so(alloc, &untold),
-            "write {write}"
-        );
+        assert_at(rt, taken, is_so(alloc, &row) && is_so(alloc, &untold));
     }
 }
 
@@ -323,8 +317,8 @@ fn assert_fronts(rt: &impl Abort, alloc: Global, first: usize) {
         if length % 2 != first {
             continue;
         }
-        let status = status_on(alloc, &document[..length]);
-        assert!(rt; status == Some(0) || status == Some(5), "{length} bytes");
+        let is_ended = matches!(status_on(alloc, &document[..length]), Some(0 | 5));
+        assert_at(rt, length, is_ended);
     }
 }
 
@@ -376,10 +370,7 @@ fn is_cut_off(alloc: Global, most: usize, given: usize) -> bool {
 
 #[test]
 fn an_endless_document_is_cut_off(rt: HostRuntime) {
-    for (most, given) in &ENDLESS {
-        assert!(rt;
-            is_cut_off(rt.alloc(), *most, *given),
-            "{most} bytes a call"
-        );
+    for (place, (most, given)) in ENDLESS.iter().enumerate() {
+        assert_at(&rt, place, is_cut_off(rt.alloc(), *most, *given));
     }
 }

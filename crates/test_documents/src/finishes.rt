@@ -3,6 +3,7 @@ ghost use Rattle.std.specs.Prelude.{IsTrue};
 ghost use Rattle.anti_app.specs.Sound.{is_sound};
 ghost use Rattle.anti_play.specs.inner.Standing.{IsSoundWorld, IsWorldOf};
 
+use crate::call_rows::assert_so;
 use crate::past::WHOLE;
 use crate::run_rows::application;
 use anti_app::App;
@@ -53,5 +54,5 @@ fn a_finish_without_memory_goes_on(rt: HostRuntime) {
         Some(app) => is_finished(rt.alloc(), &app),
         None => true,
     };
-    assert!(rt; is_so);
+    assert_so(&rt, is_so);
 }

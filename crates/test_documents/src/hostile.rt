@@ -1,9 +1,10 @@
 // Documents that are made to hurt, through the top call.
 
-use crate::call_rows::{CallRow, NOTHING_HAPPENED, STEP, comes_to};
+use crate::call_rows::{CallRow, NOTHING_HAPPENED, STEP, assert_at, comes_to};
 use crate::runs::{Texts, add_texts};
 use anti_ids::Bytes;
 use std::alloc::Global;
+use std::process::Abort;
 
 // Documents of one text over and over, or of one that is as long, and the line that each is refused with. None is too long.
 static LONG: [(Texts, &str); 11] = [
@@ -101,22 +102,21 @@ fn comes_to_line(alloc: Global, texts: Texts, line: &str) -> bool {
     comes_to(alloc, &[row.word], document.bytes(), &row)
 }
 
-#[test]
-fn documents_that_hurt_are_refused(rt: HostRuntime) {
-    for (number, (texts, line)) in LONG.iter().enumerate() {
-        assert!(rt; comes_to_line(rt.alloc(), texts, line), "long {number}");
-    }
-    for (number, (texts, line)) in DEEP.iter().enumerate() {
-        assert!(rt; comes_to_line(rt.alloc(), texts, line), "deep {number}");
-    }
-    for (number, (texts, line)) in WRONG.iter().enumerate() {
-        assert!(rt; comes_to_line(rt.alloc(), texts, line), "wrong {number}");
+// Asserts that the document of each row comes to its line.
+fn assert_lines(rt: &impl Abort, alloc: Global, rows: &[(Texts, &str)]) {
+    for (place, (texts, line)) in rows.iter().enumerate() {
+        assert_at(rt, place, comes_to_line(alloc, texts, line));
     }
 }
 
 #[test]
+fn documents_that_hurt_are_refused(rt: HostRuntime) {
+    assert_lines(&rt, rt.alloc(), &LONG);
+    assert_lines(&rt, rt.alloc(), &DEEP);
+    assert_lines(&rt, rt.alloc(), &WRONG);
+}
+
+#[test]
 fn odd_documents_are_played(rt: HostRuntime) {
-    for (number, (texts, line)) in ODD.iter().enumerate() {
-        assert!(rt; comes_to_line(rt.alloc(), texts, line), "document {number}");
-    }
+    assert_lines(&rt, rt.alloc(), &ODD);
 }

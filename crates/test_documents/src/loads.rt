@@ -2,6 +2,7 @@
 ghost use Rattle.std.specs.Prelude.{IfSome, IsTrue};
 ghost use Rattle.anti_app.specs.Sound.{is_sound};
 
+use crate::call_rows::{assert_of, assert_so};
 use crate::run_rows::{Wanted, assert_run};
 use crate::text::are_alike;
 use anti_app::{App, RequestDef};
@@ -138,7 +139,7 @@ pub fn is_load(alloc: Global, number: u32, word: &str, other: Option<&App>) -> b
 #[test]
 fn loads_are_summed_up(rt: HostRuntime) {
     for (number, summary) in &SUMMARIES {
-        assert!(rt; sums_up(rt.alloc(), number, summary), "{number}");
+        assert_of(&rt, number, sums_up(rt.alloc(), number, summary));
     }
 }
 
@@ -149,5 +150,5 @@ fn the_load_is_the_application_of_its_document(rt: HostRuntime) {
 
 #[test]
 fn the_first_request_has_the_first_word(rt: HostRuntime) {
-    assert!(rt; is_load(rt.alloc(), 42, "k33", None));
+    assert_so(&rt, is_load(rt.alloc(), 42, "k33", None));
 }

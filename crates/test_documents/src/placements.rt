@@ -1,5 +1,5 @@
 // What `place` writes, and what it is worth: the runs of a placed application, whatever their schedule.
-use crate::call_rows::{CallRow, STEP, assert_texts, comes_to, served};
+use crate::call_rows::{CallRow, STEP, assert_of, assert_texts, comes_to, served};
 use crate::past::WHOLE;
 use crate::run_rows::{Wanted, holds};
 use anti_ids::Bytes;
@@ -115,16 +115,14 @@ fn documents_are_placed_or_told_where_not(rt: HostRuntime) {
 #[test]
 fn a_refused_document_is_not_placed(rt: HostRuntime) {
     for (document, wanted) in &FAULTS {
-        assert!(rt;
-            comes_to(rt.alloc(), &[wanted.word], document.as_bytes(), wanted),
-            "{document}"
-        );
+        let is_so = comes_to(rt.alloc(), &[wanted.word], document.as_bytes(), wanted);
+        assert_of(&rt, document, is_so);
     }
 }
 
 #[test]
 fn each_run_of_a_placed_application_has_all_its_orders(rt: HostRuntime) {
     for choices in &SCHEDULES {
-        assert!(rt; is_ordered(rt.alloc(), choices), "{choices}");
+        assert_of(&rt, choices, is_ordered(rt.alloc(), choices));
     }
 }

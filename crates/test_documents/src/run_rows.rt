@@ -3,6 +3,7 @@ ghost use Rattle.std.specs.Prelude.{IfSome, IsTrue};
 ghost use Rattle.anti_app.specs.Sound.{is_sound};
 ghost use Rattle.anti_trace.specs.Legal.{IsLegalTrace};
 
+use crate::call_rows::{assert_at, assert_of};
 use crate::loads::is_load;
 use crate::orders::{are_all_ordered, has_last_order, has_order, have_orders};
 use crate::past::{are_settled, are_spans, has_no_loss, is_carried, is_first_loss};
@@ -102,16 +103,13 @@ pub fn holds(alloc: Global, document: &[u8], wanted: &Wanted) -> bool {
 /// Asserts that all these are so of the run of a document.
 pub fn assert_run(rt: &impl Abort, alloc: Global, document: &str, all: &[Wanted]) {
     for (number, wanted) in all.iter().enumerate() {
-        assert!(rt;
-            holds(alloc, document.as_bytes(), wanted),
-            "{number} of {document}"
-        );
+        assert_at(rt, number, holds(alloc, document.as_bytes(), wanted));
     }
 }
 
 /// Asserts of the run of each document what is beside it.
 pub fn assert_runs(rt: &impl Abort, alloc: Global, rows: &[(&str, Wanted)]) {
     for (document, wanted) in rows {
-        assert!(rt; holds(alloc, document.as_bytes(), wanted), "{document}");
+        assert_of(rt, document, holds(alloc, document.as_bytes(), wanted));
     }
 }

@@ -1,6 +1,6 @@
 // Documents that are played through the top call, and their records.
 
-use crate::call_rows::{CallRow, ENDED, PLAYED, STEP, assert_texts, comes_to, served};
+use crate::call_rows::{CallRow, ENDED, PLAYED, STEP, assert_at, assert_texts, comes_to, served};
 use anti_ids::Bytes;
 use std::alloc::Global;
 
@@ -356,10 +356,7 @@ fn a_run_is_finished_on_a_full_store(rt: HostRuntime) {
 
 #[test]
 fn a_full_store_still_takes_each_shipment(rt: HostRuntime) {
-    for (shipped, tries, row) in &FULL_STORES {
-        assert!(rt;
-            is_played(rt.alloc(), *shipped, tries, row),
-            "{shipped} writes"
-        );
+    for (place, (shipped, tries, row)) in FULL_STORES.iter().enumerate() {
+        assert_at(&rt, place, is_played(rt.alloc(), *shipped, tries, row));
     }
 }

@@ -2,7 +2,7 @@
 ghost use Rattle.std.specs.Prelude.{IsTrue};
 ghost use Rattle.anti_app.specs.Sound.{is_sound};
 
-use crate::call_rows::{ENDED, PLAYED, assert_texts};
+use crate::call_rows::{ENDED, PLAYED, assert_at, assert_texts};
 use crate::run_rows::{PlayedRun, run_of};
 use anti_app::App;
 use anti_baggage::Baggage;
@@ -350,8 +350,8 @@ fn is_fault(alloc: Global, stated: Stated, fault: Option<ProcFault>) -> bool {
 
 #[test]
 fn a_foreign_message_starts_no_process(rt: HostRuntime) {
-    for (stated, fault) in &CALLS {
-        assert!(rt; is_fault(rt.alloc(), *stated, *fault), "{stated:?}");
+    for (place, (stated, fault)) in CALLS.iter().enumerate() {
+        assert_at(&rt, place, is_fault(rt.alloc(), *stated, *fault));
     }
 }
 
@@ -398,7 +398,7 @@ fn is_refusal(alloc: Global, stated: Stated, fault: Option<ProcFault>) -> bool {
 
 #[test]
 fn a_foreign_reply_is_not_taken(rt: HostRuntime) {
-    for (stated, fault) in &REPLIES {
-        assert!(rt; is_refusal(rt.alloc(), *stated, *fault), "{stated:?}");
+    for (place, (stated, fault)) in REPLIES.iter().enumerate() {
+        assert_at(&rt, place, is_refusal(rt.alloc(), *stated, *fault));
     }
 }

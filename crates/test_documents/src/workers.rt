@@ -1,14 +1,13 @@
 // Runs by workers: they meet, so that no one thread does all, and they make calls of their own.
 
+use crate::call_rows::{assert_at, assert_so};
 use crate::past::WHOLE;
 use anti_command::{Outcome, antipode};
-use anti_edge::{MemorySink, MemorySource, RealSink};
-use anti_ids::{List, Value};
-use anti_kind::{Call, Entry};
+use anti_edge::{SureSink, SureSource};
+use anti_ids::Value;
+use anti_kind::Call;
 use anti_trace::Trace;
 use anti_work::{Gate, Open};
-use std::alloc::Global;
-use std::process::Abort;
 use std::sync::Wait;
 use std::sync::atomic::{AtomicU64, Ordering};
 use std::thread;
@@ -65,28 +64,26 @@ fn call_of<R: Threads + Wait + Sync + AllocGlobal, G: Gate + Sync>(
     gate: &G,
 ) -> Option<Outcome> {
     let alloc = rt.alloc();
-    let mut words = List::new(alloc);
-    words.add(Value::new(alloc, word).ok()?).ok()?;
-    let mut src = MemorySource::new(alloc, document.as_bytes(), 10_000, &[]).ok()?;
-    let mut out = MemorySink::new(alloc, 1 << 20, 10_000, &[]).ok()?;
-    let mut err = MemorySink::new(alloc, 1000, 100, &[]).ok()?;
-    Some(antipode(
-        rt,
-        alloc,
-        words.as_slice(),
-        &mut src,
-        &mut out,
-        &mut err,
-        gate,
-    ))
+    let Ok(word) = Value::new(alloc, word) else {
+        return None;
+    };
+    let Ok(mut src) = SureSource::new(alloc, document.as_bytes()) else {
+        return None;
+    };
+    let mut out = SureSink::new();
+    let mut err = SureSink::new();
+    Some(antipode(rt, alloc, &[word], &mut src, &mut out, &mut err, gate))
 }
 
 // Whether a worker took a delivery to the service that is this one behind the stores.
 fn has_taken(trace: &Trace, object: u32) -> bool {
-    trace.as_slice().iter().any(|entry| {
+    for entry in trace.as_slice() {
         let taken = matches!(entry.call, Call::Take { .. });
-        entry.object == object && taken && entry.seat > 0
-    })
+        if entry.object == object && taken && entry.seat > 0 {
+            return true;
+        }
+    }
+    false
 }
 
 // The objects of the whole application that are the inboxes of `front` and `admin`. Worker 1 has the one, and worker 2 the other.
@@ -108,25 +105,24 @@ fn both_worked(outcome: Option<Outcome>) -> bool {
     }
 }
 
-#[test]
-fn two_workers_meet_in_two_rounds(rt: HostRuntime) {
+// Whether both workers work and meet in their first rounds, and none waits in vain.
+fn both_meet<R: Threads + Wait + Sync + AllocGlobal>(rt: &R) -> bool {
     let gate = Meeting {
         first: AtomicU64::new(0),
         second: AtomicU64::new(0),
         missed: AtomicU64::new(0),
     };
-    let outcome = call_of(&rt, b"run", WHOLE, &gate);
-    assert!(rt; both_worked(outcome));
-    assert!(rt;
-        gate.missed.load(Ordering::SeqCst) == 0,
-        "a worker waited in vain"
-    );
+    both_worked(call_of(rt, b"run", WHOLE, &gate)) && gate.missed.load(Ordering::SeqCst) == 0
+}
+
+#[test]
+fn two_workers_meet_in_two_rounds(rt: HostRuntime) {
+    assert_so(&rt, both_meet(&rt));
 }
 
 #[test]
 fn workers_play_a_document(rt: HostRuntime) {
-    let outcome = call_of(&rt, b"run", WHOLE, &Open);
-    assert!(rt; both_worked(outcome));
+    assert_so(&rt, both_worked(call_of(&rt, b"run", WHOLE, &Open)));
 }
 
 // Words, documents, and the statuses that calls with threads at hand end with.
@@ -137,10 +133,18 @@ static CALLS: [(&[u8], &str, u8); 4] = [
     (b"runs", WHOLE, 2),
 ];
 
+// Whether a call ends with a status.
+fn ends_with(outcome: Option<Outcome>, status: u8) -> bool {
+    match outcome {
+        Some(outcome) => outcome.status == status,
+        None => false,
+    }
+}
+
 #[test]
 fn a_call_with_threads_answers_each_word(rt: HostRuntime) {
-    for (word, document, status) in CALLS.iter() {
+    for (place, (word, document, status)) in CALLS.iter().enumerate() {
         let outcome = call_of(&rt, word, document, &Open);
-        assert!(rt; outcome.is_some_and(|outcome| outcome.status == *status));
+        assert_at(&rt, place, ends_with(outcome, *status));
     }
 }
