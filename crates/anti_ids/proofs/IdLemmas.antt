@@ -376,6 +376,26 @@ with_ids-comm is js asc_is asc_js =
     same_ids (with_ids is js) (with_ids js is) (ascending_with_ids is js asc_js) (ascending_with_ids js is asc_is)
     (λ i. has_id-with_ids i is js ∙ or_comm (has_id i is) (has_id i js) ∙ sym (has_id-with_ids i js is))
 
+-- so the first of the ids that are added may be the last
+or_regroup_left : (a b c : Bool) → ((a || b) || c) ≡ (a || (b || c))
+or_regroup_left true b c = refl
+or_regroup_left false b c = refl
+
+pub with_ids-cons : (i : WriteId) (is js : List WriteId) → IsAscending js → with_ids (i ∷ is) js ≡ with_id i (with_ids is js)
+with_ids-cons i is js asc =
+    same_ids (with_ids (i ∷ is) js) (with_id i (with_ids is js)) (ascending_with_ids (i ∷ is) js asc) (ascending_with i (with_ids is js) (ascending_with_ids is js asc))
+    (λ k. has_id-with_ids k (i ∷ is) js ∙ or_regroup_left (is_id k i) (has_id k is) (has_id k js)
+    ∙ ap (λ (b : Bool). is_id k i || b) (sym (has_id-with_ids k is js)) ∙ sym (has_id-with_id k i (with_ids is js)))
+
+-- how many there are then
+pub length-with_ids-old : (i : WriteId) (is js : List WriteId) → IsAscending js → (has_id i js || has_id i is) ≡ true → length (with_ids (i ∷ is) js) ≡ length (with_ids is js)
+length-with_ids-old i is js asc old =
+    ap length (with_ids-cons i is js asc ∙ with_id-there i (with_ids is js) (ascending_with_ids is js asc) (has_id-with_ids i is js ∙ or_comm (has_id i is) (has_id i js) ∙ old))
+
+pub length-with_ids-new : (i : WriteId) (is js : List WriteId) → IsAscending js → (has_id i js || has_id i is) ≡ false → length (with_ids (i ∷ is) js) ≡ length (with_ids is js) + 1
+length-with_ids-new i is js asc new =
+    ap length (with_ids-cons i is js asc) ∙ length-with_id i (with_ids is js) (has_id-with_ids i is js ∙ or_comm (has_id i is) (has_id i js) ∙ new)
+
 pub with_ids-nil : (is : List WriteId) → IsAscending is → with_ids is [] ≡ is
 with_ids-nil is asc = with_ids-comm is [] asc tt
 

@@ -1,4 +1,4 @@
-ghost use Rattle.std.specs.Prelude.{◌≡◌, ◌-◌, ◌<◌, ◌≤◌, [], true, false, not, ◌&&◌, ◌||◌, length, slice_get, ◌==◌, OnOk, OnErr, IfOk, IfErr, IsErrOf};
+ghost use Rattle.std.specs.Prelude.{◌≡◌, ◌-◌, ◌<◌, ◌≤◌, [], ◌∷◌, true, false, not, ◌&&◌, ◌||◌, length, slice_get, ◌==◌, OnOk, OnErr, IfOk, IfErr, IsErrOf};
 ghost use Rattle.anti_ids.specs.Invariants.{IsLineage};
 ghost use Rattle.anti_ids.specs.Ids.{has_id, is_id, ids_of, with_id, with_ids, without_id};
 
@@ -136,6 +136,13 @@ impl Lineage {
         ensures short { length self.now ≤ MOST_IDS }
     {
         self.held.len() as u32
+    }
+
+    /// The number of ids in the union of this lineage, another one and an id. It takes no memory.
+    pub fn union_len(&self, id: &WriteId, other: &Lineage) -> u32
+        ensures { result ≡ length (with_ids (id.now ∷ other.now) self.now) }
+    {
+        self.held.union_len(id, &other.held) as u32
     }
 
     /// Whether there is no id.

@@ -1,5 +1,5 @@
 // How what a lineage holds grows: by one id, or by those of another lineage.
-ghost use Rattle.std.specs.Prelude.{◌≡◌, ◌<◌, ◌≤◌, true, false, not, length, OnOk, OnErr, IfOk, IfErr, IsErrOf, IsTrue};
+ghost use Rattle.std.specs.Prelude.{◌≡◌, ◌+◌, ◌<◌, ◌≤◌, ◌∷◌, true, false, not, length, OnOk, OnErr, IfOk, IfErr, IsErrOf, IsTrue};
 ghost use Rattle.anti_ids.specs.Invariants.{IsLineage};
 ghost use Rattle.anti_ids.specs.Ids.{has_id, with_id, with_ids};
 ghost use Rattle.anti_ids.specs.inner.Held.{base_ids, held_ids};
@@ -84,6 +84,49 @@ impl HeldIds {
             }
         }
         true
+    }
+
+    // How many of the ids are not held.
+    fn count_new(&self, ids: Ids) -> usize
+        requires lineage { IsLineage (base_ids self.now) }
+        requires ids { IsLineage ids }
+        ensures new { length (held_ids self.now) + result ≡ length (with_ids ids.entry (held_ids self.now)) }
+        ensures few { result ≤ MOST_IDS }
+    {
+        let mut count = 0;
+        for id in ids {
+            if !self.has(id) {
+                count += 1;
+            }
+        }
+        count
+    }
+
+    // How many ids this lineage and another have together. Where the other has no new ones, it goes over both once.
+    fn len_with(&self, other: &HeldIds) -> usize
+        requires lineage { IsLineage (base_ids self.now) }
+        requires other { IsLineage (base_ids other.now) }
+        ensures len { result ≡ length (with_ids (held_ids other.now) (held_ids self.now)) }
+        ensures few { result ≤ MOST_IDS + MOST_IDS }
+    {
+        if self.has_all(other.ids()) {
+            return self.len();
+        }
+        self.len() + self.count_new(other.ids())
+    }
+
+    // How many ids the two and an id have together.
+    pub(crate) fn union_len(&self, id: &WriteId, other: &HeldIds) -> usize
+        requires lineage { IsLineage (base_ids self.now) }
+        requires other { IsLineage (base_ids other.now) }
+        ensures len { result ≡ length (with_ids (id.now ∷ held_ids other.now) (held_ids self.now)) }
+        ensures few { result ≤ MOST_IDS + MOST_IDS + 1 }
+    {
+        let len = self.len_with(other);
+        if self.has(id) || other.has(id) {
+            return len;
+        }
+        len + 1
     }
 
     // The ids in a block that may grow.
