@@ -2,6 +2,7 @@ mod Behind
 mod Bytes
 mod Fronts
 mod Joined
+mod Kept
 mod Marks
 mod Readable
 pub mod TextLaws

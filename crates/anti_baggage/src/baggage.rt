@@ -1,37 +1,22 @@
-ghost use Rattle.std.specs.Prelude.{◌≡◌, ◌≤◌, ◌^◌, [], length, Ok, IfOk, IfSome, IsTrue};
-ghost use Rattle.std.specs.Arc.{arc_value};
+ghost use Rattle.std.specs.Prelude.{◌≡◌, ◌≤◌, ◌^◌, length, IfOk};
 ghost use Rattle.anti_ids.specs.Answers.{AnswersBut};
 ghost use Rattle.anti_ids.specs.List.{plain};
 ghost use Rattle.anti_baggage.specs.Reading.{read_lineage};
 ghost use Rattle.anti_baggage.specs.Texts.{lineage_text};
 ghost use Rattle.anti_baggage.specs.declared.fault.BaggageFault.TheVariants as faults;
 
+use crate::carried::Carried;
 use crate::decoder::decode;
-use crate::encoder::encode;
 use crate::fault::BaggageFault;
-use crate::over::{are_names, is_over};
-use crate::same::{are_same_ids, are_same_names};
+use crate::held::{Held, share, states_over, text_held};
 use anti_ids::{Bytes, Copies, Lineage, Name, NoMemory};
 use std::alloc::Global;
 use std::marker::Model;
-use std::sync::Arc;
 
-// The fewest ids of a lineage that is kept beside its text. A shorter text is read in about the time in which the names are compared.
-const FEWEST_KEPT: u32 = 8;
-
-// What a text is known to state: a lineage, over the names of some stores.
-#[derive(Drop)]
-struct Stated {
-    stores: Vec<Name>,
-    lineage: Lineage,
-}
-
-/// The text that goes with a message. A text that was made here of a long lineage keeps this lineage beside it, so that it need not be read again; one
-/// from outside has none. Of the empty lineage a text that was made here is known, too. Contracts see the text alone.
+/// The text that goes with a message. A text that was made here of the empty lineage or of a long one keeps this lineage beside it, so that it need
+/// not be read again; one from outside has none. Contracts see the text alone.
 pub struct Baggage {
-    text: Bytes,
-    stated: Option<Arc<Stated>>,
-    is_root: bool,
+    pub(crate) held: Held,
 }
 
 impl Model for Baggage {
@@ -39,60 +24,23 @@ impl Model for Baggage {
     ghost use Rattle.std.specs.Coded.{coded_ℕ};
     ghost use Rattle.anti_ids.specs.List.{Listed};
     ghost use Rattle.anti_ids.specs.ListCalls.{list_code};
-    ghost use Rattle.anti_baggage.specs.inner.Kept.{IsKept, IsOfRoot};
+    ghost use Rattle.anti_baggage.specs.inner.Kept.{IsHeld, text_of};
 
     ghost Value = { Listed ℕ };
 
     ghost coded = { list_code coded_ℕ };
 
-    ghost view = { λ b. b.text };
+    ghost view = { λ b. text_of b.held };
 
-    ghost invariant = { λ b. IsKept b.text b.stated × IsOfRoot b.text b.is_root };
+    ghost invariant = { λ b. IsHeld b.held };
 }
 
-// By hand, so that no caller sees the fields.
+// By hand, so that no caller sees the field.
 impl Drop for Baggage {
     fn drop(self) {
-        let Baggage {
-            text,
-            stated,
-            is_root: _is_root,
-        } = self;
-        drop(stated);
-        drop(text);
+        let Baggage { held } = self;
+        drop(held);
     }
-}
-
-// What is kept of a lineage beside its text.
-fn kept(alloc: Global, stores: &[Name], lineage: &Lineage) -> Result<Arc<Stated>, NoMemory>
-    ensures stores { IfOk result (λ kept. (arc_value kept).stores.items ≡ stores.now) }
-    ensures lineage { IfOk result (λ kept. (arc_value kept).lineage ≡ lineage.now) }
-{
-    let Ok(stores) = Vec::from_slice(alloc, stores) else {
-        return Err(NoMemory);
-    };
-    let lineage = lineage.copy(alloc)?;
-    match Arc::new(alloc, Stated { stores, lineage }) {
-        Ok(stated) => Ok(stated),
-        Err(_) => Err(NoMemory),
-    }
-}
-
-// The same for one more owner. It takes no memory.
-fn share(stated: &Arc<Stated>) -> Result<Arc<Stated>, NoMemory>
-    ensures { IfOk result (λ again. arc_value again ≡ arc_value stated.now) }
-{
-    match Arc::try_clone(stated) {
-        Ok(stated) => Ok(stated),
-        Err(_) => Err(NoMemory),
-    }
-}
-
-// Whether it has no id.
-fn is_root(lineage: &Lineage) -> bool
-    ensures { IsTrue result → lineage.now ≡ [] }
-{
-    lineage.is_empty()
 }
 
 impl Baggage {
@@ -101,9 +49,7 @@ impl Baggage {
         ensures { result ≡ text }
     {
         Baggage {
-            text,
-            stated: None,
-            is_root: false,
+            held: Held::Alone(text),
         }
     }
 
@@ -111,56 +57,18 @@ impl Baggage {
     pub fn of(alloc: Global, stores: &[Name], lineage: &Lineage) -> Result<Baggage, NoMemory>
         ensures { IfOk result (λ b. b ≡ plain (lineage_text stores.now lineage.now)) }
     {
-        let text = encode(alloc, stores, lineage)?;
-        if lineage.len() < FEWEST_KEPT || !are_names(stores) || !is_over(stores, lineage) {
-            return Ok(Baggage {
-                text,
-                stated: None,
-                is_root: is_root(lineage),
-            });
-        }
-        let stated = kept(alloc, stores, lineage)?;
-        Ok(Baggage {
-            text,
-            stated: Some(stated),
-            is_root: false,
-        })
-    }
-
-    // The lineage that the text is known to state over the names.
-    fn known(&self, stores: &[Name]) -> Option<&Lineage>
-        ensures states { IfSome result (λ lineage. read_lineage stores.now self.now.items ≡ Ok lineage.now) }
-        ensures spare { IfSome result (λ _. self.now.spare ≡ 0) }
-    {
-        match &self.stated {
-            Some(kept) if are_same_names(kept.stores.as_slice(), stores) => Some(&kept.lineage),
-            _ => None,
-        }
-    }
-
-    /// The same, where this baggage may be of the same lineage: then its text serves again, and none is made.
-    pub fn again(
-        &self,
-        alloc: Global,
-        stores: &[Name],
-        lineage: &Lineage,
-    ) -> Result<Baggage, NoMemory>
-        ensures { IfOk result (λ b. b ≡ plain (lineage_text stores.now lineage.now)) }
-    {
-        if self.is_root && is_root(lineage) {
-            return self.copy(alloc);
-        }
-        match self.known(stores) {
-            Some(known) if are_same_ids(known, lineage) => self.copy(alloc),
-            _ => Baggage::of(alloc, stores, lineage),
-        }
+        let held = text_held(alloc, stores, lineage)?;
+        Ok(Baggage { held })
     }
 
     /// The text. It takes no memory.
     pub fn bytes(&self) -> &[u8]
         ensures { result.now ≡ self.now.items }
     {
-        self.text.bytes()
+        match &self.held {
+            Held::Alone(text) => text.bytes(),
+            Held::Known(kept) => kept.text.bytes(),
+        }
     }
 
     /// The lineage of which it is the text, over the names of the stores by their numbers, which fit in 32 bits; or the first fault, as `decode` has it.
@@ -168,30 +76,36 @@ impl Baggage {
         requires { length stores.now ≤ 2 ^ 32 }
         ensures { AnswersBut faults.NoMemory result (read_lineage stores.now self.now.items) }
     {
-        match self.known(stores) {
-            Some(known) => match known.copy(alloc) {
-                Ok(lineage) => Ok(lineage),
+        match self.carried(alloc, stores) {
+            Ok(carried) => Ok(carried.into_lineage()),
+            Err(fault) => Err(fault),
+        }
+    }
+
+    /// The same, for who is to carry it. It keeps this text where that is known to be its text.
+    pub fn carried(&self, alloc: Global, stores: &[Name]) -> Result<Carried, BaggageFault>
+        requires { length stores.now ≤ 2 ^ 32 }
+        ensures { AnswersBut faults.NoMemory result (read_lineage stores.now self.now.items) }
+    {
+        match &self.held {
+            Held::Known(kept) if states_over(kept, stores) => match Carried::told(alloc, kept) {
+                Ok(carried) => Ok(carried),
                 Err(NoMemory) => Err(BaggageFault::NoMemory),
             },
-            None => decode(alloc, stores, self.bytes()),
+            _ => match decode(alloc, stores, self.bytes()) {
+                Ok(lineage) => Ok(Carried::from_lineage(lineage)),
+                Err(fault) => Err(fault),
+            },
         }
     }
 }
 
 impl Copies for Baggage {
     fn copy(&self, alloc: Global) -> Result<Baggage, NoMemory> {
-        let text = self.text.copy(alloc)?;
-        match &self.stated {
-            Some(stated) => Ok(Baggage {
-                text,
-                stated: Some(share(stated)?),
-                is_root: self.is_root,
-            }),
-            None => Ok(Baggage {
-                text,
-                stated: None,
-                is_root: self.is_root,
-            }),
-        }
+        let held = match &self.held {
+            Held::Alone(text) => Held::Alone(text.copy(alloc)?),
+            Held::Known(kept) => Held::Known(share(kept)?),
+        };
+        Ok(Baggage { held })
     }
 }

@@ -2,16 +2,18 @@
 #![tactic(auto)]
 
 mod baggage;
+mod carried;
 mod decoder;
 mod encoder;
 mod escapes;
 mod fault;
+mod held;
 mod laws;
 mod named_id;
 mod over;
-mod same;
 
 pub use baggage::Baggage;
+pub use carried::Carried;
 pub use decoder::decode;
 pub use encoder::{add_id, encode};
 pub use escapes::escape;

@@ -9,11 +9,12 @@ ghost use Rattle.anti_proc.specs.inner.Standing.{stage_or};
 use crate::end::BodyEnd;
 use crate::next::Stage;
 use crate::variables::Binding;
+use anti_baggage::Carried;
 use anti_ids::{Lineage, LineageRefused, MOST_IDS, NoMemory, WriteId};
 use anti_kind::Row;
 
 // Adds the id of a version to a lineage.
-fn add_id(carried: &mut Lineage, id: WriteId) -> Result<(), LineageRefused>
+fn add_id(carried: &mut Carried, id: WriteId) -> Result<(), LineageRefused>
     ensures { Adds (id_at id.store id.key id.version) carried.old carried.new result }
 {
     if id.version > 0 {
@@ -24,7 +25,7 @@ fn add_id(carried: &mut Lineage, id: WriteId) -> Result<(), LineageRefused>
 
 /// Adds the ids that a row of a store brings.
 #[tactic(auto, using(crate::proofs::Unions::more_refused, crate::proofs::Unions::with_ids_append))]
-pub fn add_row(carried: &mut Lineage, store: u32, row: &Row) -> Result<(), LineageRefused>
+pub fn add_row(carried: &mut Carried, store: u32, row: &Row) -> Result<(), LineageRefused>
     ensures { Adds (row_ids store row.now) carried.old carried.new result }
 {
     let id = WriteId {
@@ -38,7 +39,7 @@ pub fn add_row(carried: &mut Lineage, store: u32, row: &Row) -> Result<(), Linea
 
 // Adds the ids that rows of a store bring.
 #[tactic(auto, using(crate::proofs::Unions::first_refused, crate::proofs::Unions::first_added))]
-fn add_rows(carried: &mut Lineage, store: u32, rows: &[Row]) -> Result<(), LineageRefused>
+fn add_rows(carried: &mut Carried, store: u32, rows: &[Row]) -> Result<(), LineageRefused>
     ensures { Adds (rows_ids store rows.now) carried.old carried.new result }
 {
     for row in rows {
@@ -48,7 +49,7 @@ fn add_rows(carried: &mut Lineage, store: u32, rows: &[Row]) -> Result<(), Linea
 }
 
 // Adds the ids of what a variable holds.
-fn add_held(carried: &mut Lineage, held: Option<&Binding>) -> Result<(), LineageRefused>
+fn add_held(carried: &mut Carried, held: Option<&Binding>) -> Result<(), LineageRefused>
     ensures { Adds (held_ids (option_map (λ h. h.now) held.entry)) carried.old carried.new result }
 {
     match held {
@@ -61,7 +62,7 @@ fn add_held(carried: &mut Lineage, held: Option<&Binding>) -> Result<(), Lineage
 
 // What is next where ids were added to what is carried: nothing, or the end, where they were too many.
 fn next_with(
-    carried: &Lineage,
+    carried: &Carried,
     added: Result<(), LineageRefused>,
 ) -> Result<Option<Stage>, NoMemory>
     ensures { (ids old : List WriteId) → Adds ids old carried.now added
@@ -71,7 +72,7 @@ fn next_with(
     match added {
         Ok(()) => {
             // as each lineage
-            let short = carried.len() as usize <= MOST_IDS;
+            let short = carried.lineage().len() as usize <= MOST_IDS;
             prove!(short);
             Ok(None)
         }
@@ -81,7 +82,7 @@ fn next_with(
 }
 
 /// Adds the ids of what a variable holds to a lineage. Where they are too many the process ends, and some may be added.
-pub fn add(carried: &mut Lineage, held: Option<&Binding>) -> Result<Option<Stage>, NoMemory>
+pub fn add(carried: &mut Carried, held: Option<&Binding>) -> Result<Option<Stage>, NoMemory>
     ensures { IfOk result (λ stage. (s : Setting) (l : Local) (go : Go) → l.carried ≡ carried.old
         → stage_or stage s (record l { carried = carried.new }) go
         ≡ carry (held_ids (option_map (λ h. h.now) held.entry)) l go) }
@@ -91,7 +92,7 @@ pub fn add(carried: &mut Lineage, held: Option<&Binding>) -> Result<Option<Stage
 }
 
 /// Takes the id of what a variable holds out of a lineage, where that is a write. It takes no memory.
-pub fn take_out(carried: &mut Lineage, held: Option<&Binding>)
+pub fn take_out(carried: &mut Carried, held: Option<&Binding>)
     ensures { carried.new ≡ removed (option_map (λ h. h.now) held.entry) carried.old }
 {
     if let Some(Binding::Wrote(id)) = held {
@@ -100,7 +101,7 @@ pub fn take_out(carried: &mut Lineage, held: Option<&Binding>)
 }
 
 /// Adds the ids of another lineage to a lineage. Where they are too many the process ends.
-pub fn carry(carried: &mut Lineage, more: &Lineage) -> Result<Option<Stage>, NoMemory>
+pub fn carry(carried: &mut Carried, more: &Lineage) -> Result<Option<Stage>, NoMemory>
     ensures { IfOk result (λ stage. (s : Setting) (l : Local) (go : Go) → l.carried ≡ carried.old
         → stage_or stage s (record l { carried = carried.new }) go ≡ carry more.now l go) }
 {

@@ -8,6 +8,7 @@ ghost use Rattle.anti_proc.specs.inner.Standing.{local_by, stage_or, variables_i
 use crate::additions::{add, carry};
 use crate::next::Stage;
 use crate::variables::{Binding, Variable, Variables, make_room, set};
+use anti_baggage::Carried;
 use anti_ids::{Lineage, List, Name, NoMemory, Value, WriteId};
 use std::alloc::Global;
 
@@ -27,7 +28,7 @@ pub enum Since {
 pub struct Changes {
     pub span: u32,
     pub stopped: bool,
-    pub carried: Lineage,
+    pub carried: Carried,
     pub reply: Value,
     pub since: Since,
 }
@@ -67,7 +68,7 @@ pub fn set_or(variable: Option<Name>, held: Binding) -> Since
 
 impl Changes {
     /// What a process knows that begins with a lineage. It takes no memory.
-    pub fn first(alloc: Global, carried: Lineage) -> Changes
+    pub fn first(alloc: Global, carried: Carried) -> Changes
         ensures local { local_by result [] ≡ record first_local { carried = carried } }
         ensures span { result.span ≡ 1 }
     {

@@ -7,7 +7,7 @@ ghost use Rattle.anti_proc.specs.inner.Statements.{came_by};
 
 use crate::end::ProcFault;
 use anti_app::{App, is_store, store_names};
-use anti_baggage::BaggageFault;
+use anti_baggage::{BaggageFault, Carried};
 use anti_ids::Lineage;
 use anti_kind::{Message, Reply, Row};
 use std::alloc::Global;
@@ -50,14 +50,14 @@ fn none_unless(alloc: Global, is_foreign: bool) -> Result<Lineage, ProcFault>
 
 /// The lineage that the baggage of a message states. `Foreign` comes exactly where it states none.
 #[tactic(auto, using(anti_app::proofs::Runnable::names_fit))]
-pub fn stated(alloc: Global, app: &App, message: &Message) -> Result<Lineage, ProcFault>
+pub fn stated(alloc: Global, app: &App, message: &Message) -> Result<Carried, ProcFault>
     requires { CanRun app.now }
     ensures ids { IfOk result (λ ids. stated_lineage app.now message.now ≡ Some ids) }
     ensures foreign { result ≡ Err ProcFault.Foreign → stated_lineage app.now message.now ≡ None }
 {
     let names = store_names(alloc, app)?;
-    match message.baggage.lineage(alloc, names.as_slice()) {
-        Ok(lineage) => Ok(lineage),
+    match message.baggage.carried(alloc, names.as_slice()) {
+        Ok(carried) => Ok(carried),
         Err(BaggageFault::NoMemory) => Err(ProcFault::NoMemory),
         Err(_) => Err(ProcFault::Foreign),
     }
@@ -78,7 +78,7 @@ pub fn brought(alloc: Global, app: &App, reply: &Reply) -> Result<Lineage, ProcF
             !(has_stores(app, missing.get()) && has_stores(app, unwritten.get())),
         ),
         Reply::Pulled(row) => none_unless(alloc, !has_stores(app, &row.get().lineage)),
-        Reply::Got { message, .. } => stated(alloc, app, message.get()),
+        Reply::Got { message, .. } => Ok(stated(alloc, app, message.get())?.into_lineage()),
         _ => Ok(Lineage::root(alloc)),
     }
 }

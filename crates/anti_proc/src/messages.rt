@@ -46,33 +46,41 @@ fn last(object: u32, call: Call, end: BodyEnd) -> Stage
 }
 
 impl<'a> Way<'a> {
-    // The text of what a process carries. Its last baggage serves again where it is that text.
+    // The text of what a process carries.
     fn baggage(&self) -> Result<Baggage, NoMemory>
         ensures { IfOk result (λ text. text
             ≡ plain (lineage_text (store_names self.now.app.now) self.now.changes.carried)) }
     {
         let alloc = self.given.alloc;
         let names = store_names(alloc, self.app)?;
-        let carried = &self.changes.carried;
-        match self.posted {
-            Some(posted) => posted.again(alloc, names.as_slice(), carried),
-            None => Baggage::of(alloc, names.as_slice(), carried),
-        }
+        self.changes.carried.baggage(alloc, names.as_slice())
+    }
+
+    // The same, which is kept for further messages.
+    fn keep_baggage(&mut self) -> Result<Baggage, NoMemory>
+        ensures text { IfOk result (λ text. text
+            ≡ plain (lineage_text (store_names self.old.app.now) self.old.changes.carried)) }
+        ensures same { self.new ≡ self.old }
+    {
+        let alloc = self.given.alloc;
+        let names = store_names(alloc, self.app)?;
+        self.changes.carried.keep_baggage(alloc, names.as_slice())
     }
 
     /// The message of a call or a send to a handler, which is not too deep.
     pub fn message(
-        &self,
+        &mut self,
         kind: MessageKind,
         handler: Name,
         value: Value,
     ) -> Result<Handle<Message>, NoMemory>
-        requires { self.now.given.now.role.depth < MOST_DEPTH }
-        ensures { IfOk result (λ m. m
-            ≡ message kind 0 (self.now.given.now.role.depth + 1) handler value (setting_in self.now)
-            (local_in self.now)) }
+        requires { self.old.given.now.role.depth < MOST_DEPTH }
+        ensures message { IfOk result (λ m. m
+            ≡ message kind 0 (self.old.given.now.role.depth + 1) handler value (setting_in self.old)
+            (local_in self.old)) }
+        ensures same { self.new ≡ self.old }
     {
-        let baggage = self.baggage()?;
+        let baggage = self.keep_baggage()?;
         Handle::new(
             self.given.alloc,
             Message {

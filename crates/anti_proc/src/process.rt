@@ -17,7 +17,7 @@ use crate::task::{Role, Task};
 use crate::variables::make_room;
 use anti_app::App;
 use anti_ids::{Lineage, NoMemory};
-use anti_kind::{Birth, Call, Entry, Handle, Message, Reply};
+use anti_kind::{Birth, Call, Entry, Reply};
 use std::alloc::Global;
 
 /// The call that a process makes next, and the lineage that it carries into it. Objects are numbered from 0, first the stores and then the
@@ -40,14 +40,6 @@ pub struct Process {
     life: Life,
 }
 
-// The message with which an entry starts a process; `None` where it has none.
-fn came_with(entry: &Entry) -> Result<Option<Handle<Message>>, NoMemory> {
-    match &entry.reply {
-        Reply::Got { message, .. } => Ok(Some(message.share()?)),
-        _ => Ok(None),
-    }
-}
-
 impl Process {
     /// The process that an entry of the application starts. `Foreign` comes exactly where it starts nothing: it takes no message and no
     /// row, the service has not the handler that the message names, the message is too deep, its baggage states no lineage over the
@@ -65,7 +57,7 @@ impl Process {
     {
         let task = Task::of(alloc, app, entry)?;
         let role = task.role;
-        let life = begun(alloc, app, task, came_with(entry)?)?;
+        let life = begun(alloc, app, task)?;
         Ok(Process {
             alloc,
             birth: Birth {
@@ -93,7 +85,7 @@ impl Process {
                 object: run.at.next.object,
                 span: run.at.changes.span,
                 call: &run.at.next.call,
-                carried: &run.at.changes.carried,
+                carried: run.at.changes.carried.lineage(),
             }),
             _ => None,
         }

@@ -10,6 +10,7 @@ ghost use Rattle.anti_proc.specs.inner.Statements.{NoneHere};
 
 use crate::additions::{add, take_out};
 use crate::way::Way;
+use anti_baggage::Carried;
 use anti_ids::{Copies, Lineage, MOST_IDS, Name, NoMemory, Value};
 use anti_lang::Statement;
 use std::alloc::Global;
@@ -17,7 +18,7 @@ use std::alloc::Global;
 /// What quiet lines change, which make no call.
 #[derive(Drop)]
 pub struct Quiet {
-    pub carried: Lineage,
+    pub carried: Carried,
     pub reply: Value,
     /// A barrier found that it makes no look, and what is carried brings none since.
     pub none_here: bool,
@@ -51,7 +52,7 @@ impl Quiet {
         if self.reply.bytes() != other.reply.bytes() {
             return false;
         }
-        are_same_ids(&self.carried, &other.carried)
+        are_same_ids(self.carried.lineage(), other.carried.lineage())
     }
 }
 
@@ -80,7 +81,7 @@ impl<'a> Way<'a> {
         if quiet.none_here {
             return Ok(true);
         }
-        let planned = self.planned(&quiet.carried)?;
+        let planned = self.planned(quiet.carried.lineage())?;
         quiet.none_here = planned.is_empty();
         Ok(quiet.none_here)
     }

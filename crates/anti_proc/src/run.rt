@@ -21,9 +21,8 @@ use crate::task::Task;
 use crate::variables::{Binding, Variable, Variables};
 use crate::way::Way;
 use anti_app::{App, body_of};
-use anti_baggage::Baggage;
 use anti_ids::{Copies, Lineage, Name, NoMemory, WriteId};
-use anti_kind::{Call, Handle, Message, Reply};
+use anti_kind::Reply;
 use std::alloc::Global;
 use std::mem;
 
@@ -35,8 +34,6 @@ pub struct Run {
     pub at: Box<Going>,
     /// The variables that are set.
     pub variables: Variables,
-    // The message that it posted or came with, before its next call. Its baggage may serve again, and it means nothing else.
-    pub posted: Option<Handle<Message>>,
 }
 
 /// A process that goes on, or has ended, and then holds nothing more.
@@ -154,13 +151,8 @@ impl<'a> Way<'a> {
     }
 }
 
-/// What a process is that begins a task, with the message with which it came.
-pub fn begun(
-    alloc: Global,
-    app: &App,
-    task: Task,
-    posted: Option<Handle<Message>>,
-) -> Result<Life, NoMemory>
+/// What a process is that begins a task.
+pub fn begun(alloc: Global, app: &App, task: Task) -> Result<Life, NoMemory>
     requires { CanRun app.now }
     ensures tree { IfOk result (λ life. life_tree app.now life ≡ task_tree app.now task) }
     ensures spans { IfOk result (λ life. LifeHasSpans app.now life) }
@@ -175,16 +167,11 @@ pub fn begun(
         return Ok(Life::Over(BodyEnd::LineageFull));
     };
     let given = Given { alloc, role, input };
-    first_run(app, given, Changes::first(alloc, carried), posted)
+    first_run(app, given, Changes::first(alloc, carried))
 }
 
 // What a process is that begins its body, in its first span, and knows this.
-fn first_run(
-    app: &App,
-    given: Given,
-    changes: Changes,
-    posted: Option<Handle<Message>>,
-) -> Result<Life, NoMemory>
+fn first_run(app: &App, given: Given, changes: Changes) -> Result<Life, NoMemory>
     requires app { CanRun app.now }
     requires first { changes.span ≡ 1 }
     ensures tree { IfOk result (λ life. life_tree app.now life
@@ -193,7 +180,7 @@ fn first_run(
     ensures spans { IfOk result (λ life. LifeHasSpans app.now life) }
     ensures full { IfOk result (λ life. full_in life ≡ None) }
 {
-    let Ok(gone) = set_out(app, &given, changes, baggage_of(&posted)) else {
+    let Ok(gone) = set_out(app, &given, changes) else {
         return Err(NoMemory);
     };
     match gone {
@@ -207,7 +194,6 @@ fn first_run(
                 given,
                 at,
                 variables,
-                posted,
             }))
         }
     }
@@ -218,7 +204,6 @@ fn set_out<'a>(
     app: &'a App,
     given: &'a Given,
     changes: Changes,
-    posted: Option<&'a Baggage>,
 ) -> Result<Result<Box<Going>, BodyEnd>, NoMemory>
     requires app { CanRun app.now }
     requires first { changes.span ≡ 1 }
@@ -233,27 +218,11 @@ fn set_out<'a>(
         app,
         given,
         before: &[],
-        posted,
         cursor,
         changes,
     };
     let stage = way.go(None)?;
     way.going(stage)
-}
-
-// The baggage of a message, where there is one.
-fn baggage_of(message: &Option<Handle<Message>>) -> Option<&Baggage> {
-    match message {
-        Some(message) => Some(&message.get().baggage),
-        None => None,
-    }
-}
-
-// Keeps the message of a call that posts it.
-fn keep(posted: &mut Option<Handle<Message>>, call: Call) {
-    if let Call::Post { message } = call {
-        *posted = Some(message);
-    }
 }
 
 impl Run {
@@ -275,14 +244,6 @@ impl Run {
             reply,
             since,
         })
-    }
-
-    // The baggage that it posts next, or else posted last or came with.
-    fn last_baggage(&self) -> Option<&Baggage> {
-        match &self.at.next.call {
-            Call::Post { message } => Some(&message.get().baggage),
-            _ => baggage_of(&self.posted),
-        }
     }
 
     // What becomes of the process by some changes and the call or the end that is given, or, where none is, by what its body does then.
@@ -308,7 +269,6 @@ impl Run {
             app,
             given: &self.given,
             before,
-            posted: self.last_baggage(),
             cursor,
             changes,
         };
@@ -475,10 +435,8 @@ impl Run {
         ensures spans { (app : App) → HasSpans app self.old.given.role going.value.cursor going.value.changes.span
             → LifeHasSpans app (Life.Runs self.new) }
     {
-        let mut left = mem::replace(&mut self.at, going);
+        self.at = going;
         let since = mem::replace(&mut self.at.changes.since, Since::Same);
         follow(&mut self.variables, self.given.alloc, since);
-        let call = mem::replace(&mut left.next.call, Call::Take { nth: 1 });
-        keep(&mut self.posted, call);
     }
 }

@@ -53,7 +53,7 @@ impl<'a> Way<'a> {
     {
         let alloc = self.given.alloc;
         let key = Handle::new(alloc, key)?;
-        let lineage = Handle::new(alloc, self.changes.carried.copy(alloc)?)?;
+        let lineage = Handle::new(alloc, self.changes.carried.lineage().copy(alloc)?)?;
         Ok(Call::Write {
             key,
             value,
@@ -142,19 +142,20 @@ impl<'a> Way<'a> {
 
     // A message to a handler of a service, where it would not be too deep.
     fn post(
-        &self,
+        &mut self,
         service: &Name,
         kind: MessageKind,
         handler: Name,
         value: &ValueWord,
         variable: Option<Name>,
     ) -> Result<Option<Stage>, NoMemory>
-        requires { CanRun self.now.app.now }
-        ensures { IfOk result (λ stage. (go : Go)
-            → stage_or stage (setting_in self.now) (local_in self.now) go
-            ≡ post_call (inbox_of self.now.app.now service.now) kind handler
-            (text_of (setting_in self.now) (local_in self.now) value.now) variable
-            (setting_in self.now) (local_in self.now) go) }
+        requires { CanRun self.old.app.now }
+        ensures goes { IfOk result (λ stage. (go : Go)
+            → stage_or stage (setting_in self.old) (local_in self.old) go
+            ≡ post_call (inbox_of self.old.app.now service.now) kind handler
+            (text_of (setting_in self.old) (local_in self.old) value.now) variable
+            (setting_in self.old) (local_in self.old) go) }
+        ensures same { self.new ≡ self.old }
     {
         if self.given.role.depth >= MOST_DEPTH {
             return self.nack(BodyEnd::Depth);
@@ -187,7 +188,7 @@ impl<'a> Way<'a> {
             ≡ looks self.now.given.now.role.region dry (planned (setting_in self.now)
             (local_in self.now)) (local_in self.now) go) }
     {
-        let planned = self.planned(&self.changes.carried)?;
+        let planned = self.planned(self.changes.carried.lineage())?;
         let left = last_first(self.given.alloc, planned)?;
         Ok(look_of(left, self.given.role.region, dry))
     }

@@ -11,7 +11,8 @@ use crate::foreign::{has_stores, stated};
 use anti_app::{
     App, ObjectAt, SubDef, handler_number, has_handler, is_queue_at, object_at, region_of, sub_on,
 };
-use anti_ids::{Copies, Lineage, LineageRefused, MOST_DEPTH, MOST_IDS, Name, NoMemory, Value};
+use anti_baggage::Carried;
+use anti_ids::{Copies, LineageRefused, MOST_DEPTH, MOST_IDS, Name, NoMemory, Value};
 use anti_kind::{Call, Entry, Message, MessageKind, Reply, Row};
 use std::alloc::Global;
 
@@ -50,7 +51,7 @@ pub struct Role {
 pub struct Task {
     pub role: Role,
     pub input: Value,
-    pub carried: Option<Lineage>,
+    pub carried: Option<Carried>,
 }
 
 // What a process owes that takes a message of this kind and number from an inbox.
@@ -156,19 +157,19 @@ pub fn role_of(app: &App, entry: &Entry) -> Option<Role>
 }
 
 // A lineage that fits, as each does.
-fn fitting(lineage: Lineage) -> Option<Lineage>
-    ensures { result ≡ fitting lineage }
+fn fitting(carried: Carried) -> Option<Carried>
+    ensures { result ≡ fitting carried }
 {
-    let short = lineage.len() as usize <= MOST_IDS;
+    let short = carried.lineage().len() as usize <= MOST_IDS;
     prove!(short);
-    Some(lineage)
+    Some(carried)
 }
 
 // What a row of a store brings, where it is no more than a lineage may have.
-fn lineage_of_row(alloc: Global, store: u32, row: &Row) -> Result<Option<Lineage>, NoMemory>
+fn carried_of_row(alloc: Global, store: u32, row: &Row) -> Result<Option<Carried>, NoMemory>
     ensures { IfOk result (λ ids. ids ≡ fitting (with_ids (row_ids store row.now) [])) }
 {
-    let mut carried = Lineage::root(alloc);
+    let mut carried = Carried::root(alloc);
     match add_row(&mut carried, store, row) {
         Ok(()) => Ok(fitting(carried)),
         Err(LineageRefused::Full) => Ok(None),
@@ -216,7 +217,7 @@ fn task_of_row(
     if !has_stores(app, &row.lineage) {
         return Err(ProcFault::Foreign);
     }
-    let carried = lineage_of_row(alloc, store, row)?;
+    let carried = carried_of_row(alloc, store, row)?;
     let input = row.value.copy(alloc)?;
     Ok(Task {
         role,

@@ -10,8 +10,8 @@ use crate::given::Given;
 use crate::next::Stage;
 use crate::variables::{Binding, Variable, held_in};
 use anti_app::App;
-use anti_baggage::Baggage;
-use anti_ids::{Lineage, Name, NoMemory};
+use anti_baggage::Carried;
+use anti_ids::{Name, NoMemory};
 
 /// A handler on its way from one call to the next. The process itself changes when there was memory for all of it.
 #[derive(Drop)]
@@ -20,8 +20,6 @@ pub struct Way<'a> {
     pub given: &'a Given,
     /// The variables that it had as it set out.
     pub before: &'a [Variable],
-    /// The baggage that it posted last or came with, which may serve again.
-    pub posted: Option<&'a Baggage>,
     /// How far it is in its body.
     pub cursor: Cursor,
     /// What it knows by now, beside those variables.
@@ -59,7 +57,7 @@ impl<'a> Way<'a> {
     {
         self.changes.span += 1;
         self.changes.stopped = stopped;
-        self.changes.carried = Lineage::root(self.given.alloc);
+        self.changes.carried = Carried::root(self.given.alloc);
         self.changes.since = Since::Forgotten;
     }
 

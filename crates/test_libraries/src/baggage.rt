@@ -1,7 +1,7 @@
 ghost use Rattle.std.specs.Prelude.{◌^◌, ◌≤◌, length};
 
 use crate::made::{assert_at, assert_of, assert_so, versions};
-use anti_baggage::{Baggage, BaggageFault, decode, encode, escape, texts_state_lineages};
+use anti_baggage::{Baggage, BaggageFault, Carried, decode, encode, escape, texts_state_lineages};
 use anti_ids::{Bytes, Copies, Lineage, List, Name};
 use std::alloc::Global;
 
@@ -142,16 +142,22 @@ fn states(alloc: Global, baggage: &Baggage, stores: &[Name], store: u32) -> bool
     last.store == store && has_text(alloc, stores, &lineage, baggage.bytes())
 }
 
-// A copy of the baggage of a lineage.
-fn copied(alloc: Global, stores: &[Name], lineage: &Lineage) -> Option<Baggage> {
-    match Baggage::of(alloc, stores, lineage) {
-        Ok(baggage) => baggage.copy(alloc).ok(),
-        Err(_) => None,
-    }
+// What is carried by whom a message of a lineage came to.
+fn carried(alloc: Global, stores: &[Name], lineage: &Lineage) -> Option<Carried>
+    requires { length stores.now ≤ 2 ^ 32 }
+{
+    let Ok(baggage) = Baggage::of(alloc, stores, lineage) else {
+        return None;
+    };
+    let Ok(copied) = baggage.copy(alloc) else {
+        return None;
+    };
+    copied.carried(alloc, stores).ok()
 }
 
-// The baggage of the first versions of a key of the first store, and of copies of it: whether each has the text of the lineage, and states
-// it; and whether over the names of the stores turned about it states the same versions of the second store.
+// The first versions of a key of the first store, as they are carried behind a message of them: whether what they post once and once more
+// has the text of the lineage, and states it; and whether over the names of the stores turned about it states the same versions of the
+// second store.
 fn is_kept(alloc: Global, count: u64) -> bool {
     let Some(stores) = stores() else {
         return false;
@@ -160,14 +166,17 @@ fn is_kept(alloc: Global, count: u64) -> bool {
     let Ok(lineage) = versions(alloc, 0, b"a", count) else {
         return false;
     };
-    let Some(copied) = copied(alloc, &stores, &lineage) else {
+    let Some(mut carried) = carried(alloc, &stores, &lineage) else {
         return false;
     };
-    let Ok(again) = copied.again(alloc, &stores, &lineage) else {
+    let Ok(first) = carried.keep_baggage(alloc, &stores) else {
         return false;
     };
-    has_text(alloc, &stores, &lineage, copied.bytes())
-        && again.bytes() == copied.bytes()
+    let Ok(again) = carried.keep_baggage(alloc, &stores) else {
+        return false;
+    };
+    has_text(alloc, &stores, &lineage, first.bytes())
+        && again.bytes() == first.bytes()
         && states(alloc, &again, &stores, 0)
         && states(alloc, &again, &turned, 1)
 }
@@ -182,8 +191,16 @@ fn a_text_serves_again(rt: HostRuntime) {
     }
 }
 
-// Whether the baggage of some versions makes that of others.
-fn makes_another(alloc: Global) -> bool {
+// Whether what is carried has its text.
+fn has_its_text(alloc: Global, stores: &[Name], carried: &mut Carried) -> bool {
+    match carried.keep_baggage(alloc, stores) {
+        Ok(made) => has_text(alloc, stores, carried.lineage(), made.bytes()),
+        Err(_) => false,
+    }
+}
+
+// Whether what is carried has the text of what it became, by an id more, by the ids of another lineage, and without one of them.
+fn is_told_anew(alloc: Global) -> bool {
     let Some(stores) = stores() else {
         return false;
     };
@@ -193,18 +210,22 @@ fn makes_another(alloc: Global) -> bool {
     let Ok(others) = versions(alloc, 1, b"a", 9) else {
         return false;
     };
-    let Ok(baggage) = Baggage::of(alloc, &stores, &lineage) else {
+    let Some(last) = others.last() else {
         return false;
     };
-    match baggage.again(alloc, &stores, &others) {
-        Ok(made) => has_text(alloc, &stores, &others, made.bytes()),
-        Err(_) => false,
-    }
+    let Some(mut carried) = carried(alloc, &stores, &lineage) else {
+        return false;
+    };
+    let before = has_its_text(alloc, &stores, &mut carried);
+    let appended = carried.append(last).is_ok() && has_its_text(alloc, &stores, &mut carried);
+    let joined = carried.transfer(&others).is_ok() && has_its_text(alloc, &stores, &mut carried);
+    carried.remove(&last);
+    before && appended && joined && has_its_text(alloc, &stores, &mut carried)
 }
 
 #[test]
 fn another_lineage_has_another_text(rt: HostRuntime) {
-    assert_so(&rt, makes_another(rt.alloc()));
+    assert_so(&rt, is_told_anew(rt.alloc()));
 }
 
 // Whether bytes that are no plain text are escaped.

@@ -1,17 +1,35 @@
 -- What a text is known to state, beside it.
-use Rattle.std.specs.Prelude.{◌≡◌, ℕ, Bool, true, Option, IfSome, Ok, codes}
+use Rattle.std.specs.Prelude.{◌≡◌, ℕ, List, Option, IfSome, Ok}
 use Rattle.std.specs.Arc.{arc_value}
 use Rattle.std.specs.declared.alloc.Global.{Global}
 use Rattle.std.specs.declared.sync.Arc.{Arc}
-use Rattle.anti_ids.specs.List.{Listed, plain}
+use Rattle.anti_ids.specs.List.{Listed}
+use Rattle.anti_ids.specs.declared.id.WriteId.{WriteId}
 use Rattle.anti_baggage.specs.Reading.{read_lineage}
-use Rattle.anti_baggage.specs.declared.baggage.Stated.{Stated}
+use Rattle.anti_baggage.specs.declared.held.Held.{Held}
+use Rattle.anti_baggage.specs.declared.held.Held.TheVariants.{Alone, Known}
+use Rattle.anti_baggage.specs.declared.held.Stated.{Stated}
 
--- the lineage that is kept is the one that the text states, over the names that are kept, and the text has no room
-abbrev pub IsKept : Listed ℕ → Option (Arc Stated Global) → Type 0
-IsKept text stated =
-    IfSome stated (λ kept. (text.spare ≡ 0) × (read_lineage (arc_value kept).stores.items text.items ≡ Ok (arc_value kept).lineage))
+-- the text has no room, and states the lineage over the names
+abbrev pub IsStated : Stated → Type 0
+IsStated kept = (kept.text.spare ≡ 0) × (read_lineage kept.stores.items kept.text.items ≡ Ok kept.lineage)
 
--- and it is that of the empty lineage, without room, where it is known to be
-abbrev pub IsOfRoot : Listed ℕ → Bool → Type 0
-IsOfRoot text is_root = is_root ≡ true → text ≡ plain (codes "1;")
+-- the text that is held
+abbrev pub text_of : Held → Listed ℕ
+text_of (Alone text) = text
+text_of (Known kept) = (arc_value kept).text
+
+abbrev pub IsHeld : Held → Type 0
+IsHeld (Alone text) = Unit {0}
+IsHeld (Known kept) = IsStated (arc_value kept)
+
+-- what is kept is a text of this lineage
+abbrev pub IsTextOf : List WriteId → Arc Stated Global → Type 0
+IsTextOf ids kept = IsStated (arc_value kept) × ((arc_value kept).lineage ≡ ids)
+
+abbrev pub IsHeldOf : List WriteId → Held → Type 0
+IsHeldOf ids (Alone text) = Unit {0}
+IsHeldOf ids (Known kept) = IsTextOf ids kept
+
+abbrev pub IsTold : List WriteId → Option (Arc Stated Global) → Type 0
+IsTold ids told = IfSome told (λ kept. IsTextOf ids kept)
