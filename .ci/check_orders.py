@@ -4,9 +4,10 @@
     .ci/check_orders.py NAME.out ..
 
 What a process carried is not in the record, so this goes another way than the program: it finds which entries are causally before which (by
-the order of a process within a span, by messages, by the rows that are shown, and by the lineages that are stored beside them), and takes as
-the past of a read the writes before it. Each line `span .. order ..` has to be just the order that results, and this order has to explain
-the reads: each shows, of each key that it speaks of, the greatest version that stands before it. The status is 0 where that holds.
+the order of a process within a span, by messages, by the rows that are shown, by the lineages that are stored beside them, and by the writes
+that others replace), and takes as the past of a read the writes before it. Each line `span .. order ..` has to be just the order that results,
+and this order has to explain the reads: each shows, of each key that it speaks of, the last version that stands before it. The status is 0
+where that holds.
 """
 import re
 import sys
@@ -56,23 +57,22 @@ class Entry:
     def speaks_of(self, key):
         return key.startswith(self.call[2]) if self.word == "scan" else key == self.call[2]
 
-    def shows(self, key):
-        return next((version for found, version in self.rows if found == key), 0)
-
 
 def pasts(entries):
     """Of each entry the places of all that is causally before it."""
-    last, writes, posts, before = {}, {}, {}, []
+    last, writes, newest, posts, before = {}, {}, {}, {}, []
     for place, entry in enumerate(entries):
         edges = {writes[id] for id in entry.came}
         if "/" in entry.actor and entry.actor in last:
             edges.add(last[entry.actor])
+        if entry.wrote and entry.wrote[:2] in newest:
+            edges.add(newest[entry.wrote[:2]])
         if entry.word in ("take", "takereply") and entry.letter() in posts:
             edges.add(posts[entry.letter()])
         before.append(edges.union(*(before[edge] for edge in edges)))
         last[entry.actor] = place
         if entry.wrote:
-            writes[entry.wrote] = place
+            writes[entry.wrote] = newest[entry.wrote[:2]] = place
         if entry.word == "post":
             posts[entry.letter()] = place
     return before
@@ -87,13 +87,14 @@ def order_of(entries, before, reads):
 
 
 def unexplained(entries, order):
-    """The first read that does not show the greatest version before it."""
+    """The first read that does not show just the last versions before it."""
     for at, place in enumerate(order):
         read = entries[place]
-        stand = [entries[other].wrote for other in order[:at] if entries[other].wrote]
-        keys = {key for store, key, _ in stand if store == read.object and read.reads and read.speaks_of(key)}
-        if any(max(v for s, k, v in stand if (s, k) == (read.object, key)) != read.shows(key) for key in keys):
-            return read.mark
+        if read.reads:
+            stand = [entries[other].wrote for other in order[:at] if entries[other].wrote]
+            last = {key: version for store, key, version in stand if store == read.object and read.speaks_of(key)}
+            if last != {key: version for key, version in read.rows if version > 0}:
+                return read.mark
     return None
 
 

@@ -144,13 +144,13 @@ class Object:
 
 
 class Store(Object):
-    """What all kinds of store have: the rows that were written, by version; and for each region that has a replica what it shows of each
-    key, and which parts of which versions are still owed to it."""
+    """What all kinds of store have: the rows that were written, by version, and the last of each key; and for each region that has a replica
+    what it shows of each key, and which parts of which versions are still owed to it."""
 
     def __init__(self, number, table, subs):
         super().__init__(number, table["name"])
         self.subs, self.tries = subs, table.get("tries", TRIES)
-        self.rows = []
+        self.rows, self.last = [], {}
         self.owed = {region: {} for region in table["replicas"]}
         self.shown = {region: {} for region in table["replicas"]}
 
@@ -166,11 +166,15 @@ class Store(Object):
         return True
 
     def on_write(self, key, value, lineage):
-        row, parts = Row(self.key_of(key), len(self.rows) + 1, value, lineage), self.parts_of(value)
-        return Due(f"{row.key}@{row.version}", row, 1 + parts * len(self.owed), lambda: self.keep(key, row, parts))
+        """A write depends on the one that it replaces, too: so it keeps the id of that, and what that kept."""
+        kept = lineage.union(self.ids_of([self.last[key]])) if key in self.last else lineage
+        row, parts = Row(self.key_of(key), len(self.rows) + 1, value, kept), self.parts_of(value)
+        told = f"{row.key}@{row.version}" + ("" if kept == lineage else f" over {spelled(kept)}")
+        return Due(told, row, 1 + parts * len(self.owed) if len(kept) <= IDS else UNITS + 1, lambda: self.keep(key, row, parts))
 
     def keep(self, key, row, parts):
         self.rows.append(row)
+        self.last[row.key] = row
         for owed in self.owed.values():
             owed[row.version] = list(range(1, parts + 1))
 
@@ -419,10 +423,12 @@ class Application:
 
 
 class Variable(NamedTuple):
-    """What a variable holds: what `$X` is, and the id of the write, or those of the rows that were read and of the lineages beside them."""
+    """What a variable holds: what `$X` is, the ids of the write and of what is kept beside it, or those of the rows that were read and of the
+    lineages beside them, and of these the write's own."""
 
     value: bytes
     ids: frozenset = NOTHING
+    own: frozenset = NOTHING
 
 
 class Process:
@@ -481,7 +487,7 @@ class Process:
     def do_write(self, store, key, value, _=None, name=None, untracked=None):
         store = self.app.objects[store]
         row = yield store, ("write", self.key(key), self.value(value), self.lineage)
-        self.variables[name] = Variable(str(row.version).encode(), frozenset([store.id_of(row)]))
+        self.variables[name] = Variable(str(row.version).encode(), store.ids_of([row]), frozenset([store.id_of(row)]))
         if not untracked:
             self.do_append(name)
 
@@ -491,7 +497,7 @@ class Process:
     do_transfer = do_append
 
     def do_remove(self, name):
-        self.lineage -= self.variables[name].ids
+        self.lineage -= self.variables[name].own
 
     def read(self, word, form, store, key, _, name):
         store = self.app.objects[store]

@@ -11,8 +11,9 @@ use Rattle.anti_kind.specs.Stored.{parts_of}
 use Rattle.anti_kind.specs.Store.{Store, is_pull, is_out, store_ready, store_due, store_need, owed_shipments, outs}
 use Rattle.anti_kind.specs.Objects.{store, weight, held, owed, need, Follows, IsLegal}
 use Rattle.anti_kind.specs.Starts.{IsStore}
-use Rattle.anti_kind.proofs.Histories.{held_more}
+use Rattle.anti_kind.proofs.Histories.{held_more, fits_number}
 use Rattle.anti_kind.proofs.Rows.{is_write, is_shipping}
+use Rattle.anti_kind.proofs.Overs.{fitting}
 use Rattle.anti_kind.proofs.Units.{owed_other, owed_write, owed_ship}
 use Rattle.anti_kind.proofs.Handed.{settles_by, outs_other, outs_write, outs_pull, outs_ack, outs_nack}
 
@@ -87,8 +88,9 @@ module _ (s : Store) (h : List Entry) (e : Entry) (l : IsLegal (store s) h) (f :
         let a : owed_shipments s (h ++ e ∷ []) ≡ owed_shipments s h + length s.regions * parts_of s.kind value = owed_write s h e key value lineage l f is in
         let b : owed_messages s (h ++ e ∷ []) ≡ owed_messages s h = messages_write s h e key value lineage l f is in
         let w : held (h ++ e ∷ []) ≡ held h + 1 = held_by (Write key value lineage) is in
-        let n : need (store s) h e.call ≡ 1 + length s.regions * parts_of s.kind value = need_by (Write key value lineage) is in
-        omega arith
+        let n : need (store s) h e.call ≡ store_need s h (Write key value lineage) = need_by (Write key value lineage) is in
+        let fit = fitting s h key value lineage (omega (arith, n, fits_number (store s) h e f)) in
+        omega (arith, fit.1)
     by_call (Ship g v p) is =
         let a : owed_shipments s h ≡ owed_shipments s (h ++ e ∷ []) + 1 = owed_ship s h e g v p sane l f is in
         let b : owed_messages s (h ++ e ∷ []) ≡ owed_messages s h = messages_other s h e (ap is_write is) (ap is_pull is) (ap settles_by is) in

@@ -33,6 +33,11 @@ find_kept p (y ∷ xs) ys x is = elim (p y) as (λ b. cond b (Some y) (find p xs
   | false ↦ λ later. find_kept p xs ys x later
 ] is
 
+-- what does not pass is not found behind the others
+pub find_past : {X : Type 0} (p : X → Bool) (xs : List X) (x : X) → p x ≡ false → find p (xs ++ x ∷ []) ≡ find p xs
+find_past p [] x off = ap (λ b. cond b (Some x) None) off
+find_past p (y ∷ xs) x off = ap (λ o. cond (p y) (Some y) o) (find_past p xs x off)
+
 -- where nothing is found no element passes
 fails_by : {X : Type 0} (p : X → Bool) (y : X) (xs : List X) (b : Bool) → p y ≡ b → cond b (Some y) (find p xs) ≡ None → (b ≡ false) × (find p xs ≡ None)
 fails_by p y xs true is none = absurd (cc)

@@ -1,5 +1,5 @@
 -- What does not fit never fits again: held and owed never fall together, and no need falls.
-use Rattle.std.proofs.Common.{◌≡◌, ℕ, ◌+◌, ◌<◌, ◌≤◌, Bool, true, not, ◌||◌, ◌==◌, List, [], ◌∷◌, ◌++◌, length, refl, sym, subst, ⊎_elim, append_assoc, append-nil, leb-false, arith}
+use Rattle.std.proofs.Common.{◌≡◌, ℕ, ◌+◌, ◌<◌, ◌≤◌, Bool, true, not, ◌||◌, ◌==◌, List, [], ◌∷◌, ◌++◌, length, refl, sym, subst, inl, ⊎_elim, append_assoc, append-nil, leb-false, arith}
 use Rattle.std.specs.List.{list_all}
 use Rattle.std.proofs.lemmas.Bool.{lt-leb, and_parts, and_from, or_cases, or_left, or_right, leb-true, le-leb, false≢true}
 use Rattle.std.proofs.lemmas.List.Elements.{All-weaker}
@@ -21,6 +21,7 @@ use Rattle.anti_kind.specs.Laws.{NeverFalls, KeepsLaws}
 use Rattle.anti_kind.specs.Fulls.{ShowsStay, NeedNeverFalls, FullStaysFull, finds_all, asks, is_asking, AskingStaysReady}
 use Rattle.anti_kind.proofs.Histories.{legal_front, follows_in}
 use Rattle.anti_kind.proofs.Bounds.{units}
+use Rattle.anti_kind.proofs.Overs.{over_grows, write_need}
 use Rattle.anti_kind.proofs.Showing.{never_falls, shows_written}
 use Rattle.anti_kind.proofs.Scans.{scan_grows}
 
@@ -41,20 +42,25 @@ units_rise start h (e ∷ rest) sane l =
     units start h e sane (legal_front start h (e ∷ rest) l) (follows_in start h e rest l) in
     subst (λ (k : List Entry). held h + owed start h ≤ held k + owed start k) more (omega arith)
 
--- All calls but a scan need the same after each history, and a scan's rows stay.
+-- All calls but a write and a scan need the same after each history. What a write keeps only grows, and a scan's rows stay.
 pub need_never_falls : NeedNeverFalls
-need_never_falls (store s) h rest (Scan g prefix) stays l =
+need_never_falls (store s) h rest (Write key value lineage) stays l can asc =
+    write_need s h (h ++ rest) key value lineage (over_grows s h rest key lineage l can asc)
+need_never_falls (store s) h rest (Scan g prefix) stays l can asc =
     let more : length (scanned s h g prefix) ≤ length (scanned s (h ++ rest) g prefix) = scan_grows s stays.0 stays.1 h rest l g prefix in
-    omega arith
-need_never_falls (store s) h rest _ stays l = omega arith
-need_never_falls (inbox requests) h rest c stays l = omega arith
+    inl (omega arith)
+need_never_falls (store s) h rest _ stays l can asc = inl (omega arith)
+need_never_falls (inbox requests) h rest c stays l can asc = inl (omega arith)
 
 -- So what did not fit will not fit later.
 pub full_stays : FullStaysFull
-full_stays start h rest c sane stays l full =
+full_stays start h rest c sane stays l can asc full =
     let past : MOST_UNITS < held h + owed start h + need start h c = leb-false (held h + owed start h + need start h c) MOST_UNITS full in
+    let rise : held h + owed start h ≤ held (h ++ rest) + owed start (h ++ rest) = units_rise start h rest sane l in
     lt-leb (held (h ++ rest) + owed start (h ++ rest) + need start (h ++ rest) c) MOST_UNITS
-    (omega (arith, past, units_rise start h rest sane l, need_never_falls start h rest c stays l))
+    (⊎_elim (λ (more : need start h c ≤ need start (h ++ rest) c). omega arith)
+    (λ (most : MOST_UNITS < need start (h ++ rest) c). omega arith)
+    (need_never_falls start h rest c stays l can asc))
 
 -- The calls by which a process needs units stay ready.
 

@@ -9,6 +9,7 @@ pub mod Rows
 pub mod Shipped
 pub mod NextShipments
 pub mod Showing
+pub mod Overs
 -- units
 pub mod Units
 pub mod Handed

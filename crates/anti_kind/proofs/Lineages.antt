@@ -42,8 +42,8 @@ earlier_stays : (s : Store) (h rest : List Entry) (r : Row) → IsEarlier s h r 
 earlier_stays s h rest r was i d short same = let both = was i d short same in (both.0, written_stays h rest (get_or r.lineage i d) both.1)
 
 wrote_lineage : (c : Call) (reply : Reply) → All (λ r. r.lineage ≡ stored c reply) (wrote c reply)
-wrote_lineage (Write name value lineage) (Written key version) zero d short = refl
-wrote_lineage (Write name value lineage) (Written key version) (suc k) d short = absurd (omega arith)
+wrote_lineage (Write name value lineage) (Written key version over) zero d short = refl
+wrote_lineage (Write name value lineage) (Written key version over) (suc k) d short = absurd (omega arith)
 wrote_lineage _ _ k d short = absurd (omega arith)
 
 -- the row that an entry adds has the next version

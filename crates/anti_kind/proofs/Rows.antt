@@ -11,8 +11,7 @@ use Rattle.anti_kind.specs.declared.call.Reply.TheVariants.{Written}
 use Rattle.anti_kind.specs.declared.entry.Entry.{Entry}
 use Rattle.anti_kind.specs.declared.row.Row.{Row}
 use Rattle.anti_kind.specs.Stored.{stored, wrote, rows, row_of, is_ship, is_shipped}
-use Rattle.anti_kind.specs.Store.{Store, key_for, store_due}
-use Rattle.anti_kind.specs.inner.Over.{over}
+use Rattle.anti_kind.specs.Store.{Store, key_for, over, store_due}
 use Rattle.anti_kind.specs.Objects.{store, held, Follows, IsLegal}
 use Rattle.anti_kind.specs.Laws.{IsOfWrite, VersionsGrow}
 use Rattle.anti_kind.proofs.Histories.{by_entries, length_held}
@@ -27,7 +26,7 @@ is_shipping _ = false
 
 -- the row that a write adds
 abbrev pub new_row : Store → List Entry → List ℕ → List ℕ → List WriteId → Row
-new_row s h key value lineage = record { key = key_for s.kind h key; version = length (rows h) + 1; value = value; lineage = lineage }
+new_row s h key value lineage = record { key = key_for s.kind h key; version = length (rows h) + 1; value = value; lineage = over s h key lineage }
 
 pub or_false : (b : Bool) → (b || false) ≡ b
 or_false true = refl
@@ -53,17 +52,12 @@ rows_write s h e key value lineage f is =
     let due : e.reply ≡ store_due s h (Write key value lineage) = f.reply ∙ ap (λ (c : Call). store_due s h c) is in
     rows_more h e ∙ ap (λ (c : Call). rows h ++ wrote c e.reply) is ∙ ap (λ (r : Reply). rows h ++ wrote (Write key value lineage) r) due
 
--- and its reply has the key that the write gets
-pub key_given : (s : Store) (h : List Entry) (e : Entry) (name value : List ℕ) (lineage : List WriteId) → Follows (store s) h e → e.call ≡ Write name value lineage
-    → (key : List ℕ) (version : ℕ) → e.reply ≡ Written key version → key ≡ key_for s.kind h name
-key_given s h e name value lineage f is key version given =
-    let due : Written key version ≡ Written (key_for s.kind h name) (length (rows h) + 1) = sym given ∙ f.reply ∙ ap (λ (c : Call). store_due s h c) is in
-    cc
-
--- what is kept beside a write is what it stores
+-- what is kept beside a write is what was handed in and what the write that it replaces left
 pub stored_is_over : (s : Store) (h : List Entry) (e : Entry) (key value : List ℕ) (lineage : List WriteId) → Follows (store s) h e → e.call ≡ Write key value lineage
     → stored e.call e.reply ≡ over s h key lineage
-stored_is_over s h e key value lineage f is = ap (λ (c : Call). stored c e.reply) is
+stored_is_over s h e key value lineage f is =
+    let due : e.reply ≡ store_due s h (Write key value lineage) = f.reply ∙ ap (λ (c : Call). store_due s h c) is in
+    ap (λ (c : Call). stored c e.reply) is ∙ ap (λ (r : Reply). stored (Write key value lineage) r) due
 
 pub shipped_more : (h : List Entry) (e : Entry) (g v p : ℕ) → is_shipped (h ++ e ∷ []) g v p ≡ (is_shipped h g v p || is_ship g v p e.call)
 shipped_more h e g v p =
@@ -153,7 +147,7 @@ row_in s h l r in' =
 -- Each row is that of an entry.
 
 wrote_one : (c : Call) (r : Reply) → length (wrote c r) ≤ 1
-wrote_one (Write key value lineage) (Written full version) = omega arith
+wrote_one (Write key value lineage) (Written full version over) = omega arith
 wrote_one (Write key value lineage) _ = omega arith
 wrote_one _ r = omega arith
 

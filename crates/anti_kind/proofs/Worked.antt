@@ -1,6 +1,7 @@
 -- The tables at work: short runs of each kind of store and of an inbox, replayed by computation.
 use Rattle.std.specs.Prelude.{◌≡◌, codes, ℕ, ◌+◌, Bool, true, false, ◌&&◌, Some, None, refl, List, [], ◌∷◌, ◌++◌, length, take, map, replicate}
 use Rattle.std.specs.Fmt.{digits}
+use Rattle.std.specs.List.{range_with_len}
 use Rattle.anti_ids.specs.List.{plain}
 use Rattle.anti_ids.specs.declared.id.WriteId.{WriteId}
 use Rattle.anti_kind.specs.declared.actor.Actor.TheVariants.{Carrier}
@@ -120,21 +121,26 @@ n1 = codes "n#1"
 abbrev n2 : List ℕ
 n2 = codes "n#2"
 
--- A kv store with one region: a later version shown stays when an earlier one comes, and when it comes again.
+-- A kv store with one region: a later version shown stays when an earlier one comes, and when it comes again. It keeps the id of the
+-- version that it replaced.
 
 abbrev kv : Start
 kv = store (kv_store 0 (0 ∷ []))
 
+-- what the second write keeps: the first
+abbrev kv_over : List WriteId
+kv_over = id k 1 ∷ []
+
 abbrev kv_run : Run
 kv_run =
-    (Write k a [], Written k 1)
-    ∷ (Write k b [], Written k 2)
+    (Write k a [], Written k 1 None)
+    ∷ (Write k b [], Written k 2 (Some kv_over))
     ∷ (Ship 0 2 1, Moved)
-    ∷ (Read 0 k, shows (row k 2 b []))
+    ∷ (Read 0 k, shows (row k 2 b kv_over))
     ∷ (Ship 0 1 1, Moved)
-    ∷ (Read 0 k, shows (row k 2 b []))
+    ∷ (Read 0 k, shows (row k 2 b kv_over))
     ∷ (Again 0 1 1, Moved)
-    ∷ (Read 0 k, shows (row k 2 b []))
+    ∷ (Read 0 k, shows (row k 2 b kv_over))
     ∷ []
 
 abbrev kv_calls : List Call
@@ -151,6 +157,26 @@ kv_held = refl
 
 kv_owed : owed kv (after kv [] kv_calls) ≡ 0
 kv_owed = refl
+
+-- a third would keep both, and one that hands both in tells nothing; a write to another key keeps what it hands in
+kv_third : due kv (after kv [] kv_calls) (Write k a []) ≡ Written k 3 (Some (id k 1 ∷ id k 2 ∷ []))
+kv_third = refl
+
+kv_carried : due kv (after kv [] kv_calls) (Write k a (id k 1 ∷ id k 2 ∷ [])) ≡ Written k 3 None
+kv_carried = refl
+
+kv_other_key : due kv (after kv [] kv_calls) (Write j a []) ≡ Written j 3 None
+kv_other_key = refl
+
+-- as many ids as a lineage may have: where another comes from the write that is replaced, none fits
+abbrev many : List WriteId
+many = map (id j) (range_with_len 1 256)
+
+kv_many : need kv [] (Write k a many) ≡ 2
+kv_many = refl
+
+kv_too_many : need kv (after kv [] kv_calls) (Write k a many) ≡ 4097
+kv_too_many = refl
 
 -- both are written, and the second was shipped
 abbrev kv_between : List Entry
@@ -226,9 +252,9 @@ over_both = id row_b 1 ∷ id row_b 2 ∷ []
 
 abbrev table_run : Run
 table_run =
-    (Write row_b (codes "1") [], Written row_b 1)
-    ∷ (Write row_b (codes "2") over_first, Written row_b 2)
-    ∷ (Write row_a (codes "x") over_both, Written row_a 3)
+    (Write row_b (codes "1") [], Written row_b 1 None)
+    ∷ (Write row_b (codes "2") over_first, Written row_b 2 None)
+    ∷ (Write row_a (codes "x") over_both, Written row_a 3 None)
     ∷ (Ship 0 1 1, Moved)
     ∷ (Scan 0 (codes "row"), shows (row row_b 1 (codes "1") []))
     ∷ (Ship 0 2 1, Moved)
@@ -287,7 +313,7 @@ write_big = Write k big []
 
 abbrev blob_run : Run
 blob_run =
-    (write_big, Written k 1)
+    (write_big, Written k 1 None)
     ∷ (Ship 0 1 4, Moved)
     ∷ (Read 0 k, shows_none k)
     ∷ (Ship 0 1 1, Moved)
@@ -343,7 +369,7 @@ second_message = row c2 2 (codes "n") []
 
 abbrev queue_run : Run
 queue_run =
-    (Write c (codes "m") [], Written c1 1)
+    (Write c (codes "m") [], Written c1 1 None)
     ∷ (Ship 0 1 1, Moved)
     ∷ (Pull 0, Pulled first_message)
     ∷ (Nack 1, Done)
@@ -432,8 +458,8 @@ second_cell = row n2 2 b []
 -- the second cell comes first, then the other
 abbrev topic_run : Run
 topic_run =
-    (Write n a [], Written n1 1)
-    ∷ (Write n b [], Written n2 2)
+    (Write n a [], Written n1 1 None)
+    ∷ (Write n b [], Written n2 2 None)
     ∷ (Ship 0 2 1, Moved)
     ∷ (Ship 0 1 1, Moved)
     ∷ (Pull 0, Pulled first_cell)

@@ -1,6 +1,7 @@
 -- The units of an object: what is full stays full.
-use Rattle.std.specs.Prelude.{◌≡◌, ℕ, ◌+◌, ◌≤◌, Bool, true, false, ◌||◌, List, [], ◌∷◌, ◌++◌}
+use Rattle.std.specs.Prelude.{◌≡◌, ℕ, ◌+◌, ◌<◌, ◌≤◌, ◌⊎◌, Bool, true, false, ◌||◌, List, [], ◌∷◌, ◌++◌}
 use Rattle.std.specs.List.{list_all}
+use Rattle.anti_ids.specs.Invariants.{IsAscending}
 use Rattle.anti_ids.specs.declared.id.WriteId.{WriteId}
 use Rattle.anti_ids.specs.declared.limits.TheConstants.{MOST_UNITS}
 use Rattle.anti_kind.specs.declared.call.Call.{Call}
@@ -28,14 +29,21 @@ abbrev pub ShowsStay : Start → Type 0
 ShowsStay (store s) = NeverFalls s × ShowsWritten s
 ShowsStay (inbox requests) = Unit {0}
 
--- No call needs less later than it needed before.
-abbrev pub NeedNeverFalls : Type 0
-NeedNeverFalls = (start : Start) (h rest : List Entry) (c : Call) → ShowsStay start → IsLegal start (h ++ rest) → need start h c ≤ need start (h ++ rest) c
+-- the lineage that a write hands in is one
+abbrev pub HasAscending : Call → Type 0
+HasAscending (Write key value lineage) = IsAscending lineage
+HasAscending _ = Unit {0}
 
--- What does not fit never fits later: so what was ready and did not fit is never ready and fits.
+-- No call that is ready needs less later than it needed before, but where it then needs more than an object has.
+abbrev pub NeedNeverFalls : Type 0
+NeedNeverFalls =
+    (start : Start) (h rest : List Entry) (c : Call) → ShowsStay start → IsLegal start (h ++ rest) → ready start h c ≡ true → HasAscending c
+    → (need start h c ≤ need start (h ++ rest) c) ⊎ (MOST_UNITS < need start (h ++ rest) c)
+
+-- What is ready and does not fit never fits later.
 abbrev pub FullStaysFull : Type 0
 FullStaysFull =
-    (start : Start) (h rest : List Entry) (c : Call) → IsStart start → ShowsStay start → IsLegal start (h ++ rest)
+    (start : Start) (h rest : List Entry) (c : Call) → IsStart start → ShowsStay start → IsLegal start (h ++ rest) → ready start h c ≡ true → HasAscending c
     → fits start h c ≡ false → fits start (h ++ rest) c ≡ false
 
 -- whether a look of the ids at the region g would miss none

@@ -7,7 +7,9 @@ use Rattle.std.specs.Cmp.Lexicographic.{slice_cmp}
 use Rattle.anti_ids.specs.Ascii.{hash}
 use Rattle.anti_ids.specs.Names.{is_plain}
 use Rattle.anti_ids.specs.List.{plain}
+use Rattle.anti_ids.specs.Ids.{has_id, with_ids}
 use Rattle.anti_ids.specs.declared.id.WriteId.{WriteId}
+use Rattle.anti_ids.specs.declared.limits.TheConstants.{MOST_IDS, MOST_UNITS}
 use Rattle.anti_kind.specs.declared.call.Call.{Call}
 use Rattle.anti_kind.specs.declared.call.Call.TheVariants.{Write, Read, Scan, Poll, Look, Ship, Again, Pull, Repull, Ack, Nack}
 use Rattle.anti_kind.specs.declared.call.Reply.{Reply}
@@ -17,7 +19,7 @@ use Rattle.anti_kind.specs.declared.row.Row.{Row}
 use Rattle.anti_kind.specs.declared.store_kind.Sub.{Sub}
 use Rattle.anti_kind.specs.declared.store_kind.StoreKind.{StoreKind}
 use Rattle.anti_kind.specs.Kinds.{facts_of}
-use Rattle.anti_kind.specs.Stored.{rows, row_of, is_shipped, parts_of, parts, is_whole, shows_of, is_in}
+use Rattle.anti_kind.specs.Stored.{rows, row_of, is_shipped, parts_of, parts, is_whole, greatest, shows_of, is_in}
 
 -- What a store starts as: its kind, its number, the regions of its replicas, its subscriptions, how many times a message of a
 -- queue is handed out at most, and what a region of it shows for a key after a history, 0 for nothing.
@@ -39,6 +41,31 @@ store_of kind number regions subs tries =
 -- the key that a write gets: the given one, but in a queue and a topic c#n for the nth write to the channel c
 abbrev pub key_for : StoreKind → List Entry → List ℕ → List ℕ
 key_for kind h key = cond (facts_of kind).keyed key (key ++ hash ∷ decimal (count_by (is_in key) (rows h) + 1))
+
+-- the row of the write that one to a key replaces: of those with the key that of the greatest version
+abbrev pub replaced : List Entry → List ℕ → Option Row
+replaced h key = row_of h (greatest (λ r. true) key (rows h))
+
+-- what a replaced write leaves to the one that replaces it: its id, and what is kept beside it
+abbrev pub left_by : ℕ → Option Row → List WriteId
+left_by store None = []
+left_by store (Some r) = record { store = store; key = r.key; version = r.version } ∷ r.lineage
+
+-- the lineage with what is left, where any of that is new
+abbrev pub with_left : List WriteId → List WriteId → Option (List WriteId)
+with_left left lineage = cond (list_all (λ i. has_id i lineage) left) None (Some (with_ids left lineage))
+
+-- what the reply to a write tells that it keeps
+abbrev pub told_over : Store → List Entry → List ℕ → List WriteId → Option (List WriteId)
+told_over s h key lineage = with_left (left_by s.number (replaced h key)) lineage
+
+-- a lineage that takes in what a replaced write leaves
+abbrev pub with_replaced : ℕ → Option Row → List WriteId → List WriteId
+with_replaced store row lineage = unwrap_or (with_left (left_by store row) lineage) lineage
+
+-- the lineage that a write to a key keeps
+abbrev pub over : Store → List Entry → List ℕ → List WriteId → List WriteId
+over s h key lineage = with_replaced s.number (replaced h key) lineage
 
 -- Shipping.
 
@@ -173,7 +200,7 @@ store_ready s h (Nack v) = (facts_of s.kind).tried && is_out h v
 store_ready s h _ = false
 
 abbrev pub store_due : Store → List Entry → Call → Reply
-store_due s h (Write key value lineage) = Written (key_for s.kind h key) (length (rows h) + 1)
+store_due s h (Write key value lineage) = Written (key_for s.kind h key) (length (rows h) + 1) (told_over s h key lineage)
 store_due s h (Ship g v p) = Moved
 store_due s h (Again g v p) = Moved
 store_due s h (Look g ids dry) = Missing (filter (λ id. not (is_visible s h g id)) ids) (filter (λ id. not (is_written h id)) ids)
@@ -184,8 +211,10 @@ store_due s h (Pull n) = Pulled (unwrap_or (next s h n) (absent []))
 store_due s h (Repull n v) = Pulled (unwrap_or (row_of h v) (absent []))
 store_due s h _ = Done
 
+-- A write whose lineage would have more ids than a lineage may have needs more units than an object has.
 abbrev pub store_need : Store → List Entry → Call → ℕ
-store_need s h (Write key value lineage) = 1 + length s.regions * parts_of s.kind value
+store_need s h (Write key value lineage) =
+    cond (nat_le (length (over s h key lineage)) MOST_IDS) (1 + length s.regions * parts_of s.kind value) (MOST_UNITS + 1)
 store_need s h (Ship g v p) = 0
 store_need s h (Scan g prefix) = max 1 (length (scanned s h g prefix))
 store_need s h (Pull n) = cond (facts_of s.kind).tried 2 1

@@ -1,5 +1,5 @@
 -- What a history of a store wrote, which parts of it were shipped where, and what a region therefore shows.
-use Rattle.std.specs.Prelude.{ℕ, ◌+◌, ◌/◌, max, Bool, false, cond, not, ◌&&◌, List, [], ◌∷◌, length, ◌==◌, bytes_eq, Option, find, flat_map}
+use Rattle.std.specs.Prelude.{ℕ, ◌+◌, ◌/◌, max, Bool, false, cond, not, ◌&&◌, List, [], ◌∷◌, length, ◌==◌, bytes_eq, Option, find, flat_map, unwrap_or}
 use Rattle.std.specs.List.{list_any, list_all, range_with_len, take_while}
 use Rattle.anti_ids.specs.Ascii.{hash}
 use Rattle.anti_ids.specs.declared.id.WriteId.{WriteId}
@@ -13,16 +13,20 @@ use Rattle.anti_kind.specs.declared.row.Row.{Row}
 use Rattle.anti_kind.specs.declared.store_kind.StoreKind.{StoreKind}
 use Rattle.anti_kind.specs.Kinds.{facts_of}
 
--- the lineage that is kept beside a write
+-- the lineage that is kept beside a write: that which its reply tells, or else that which was handed in
 abbrev pub stored : Call → Reply → List WriteId
-stored (Write key value lineage) reply = lineage
+stored (Write key value lineage) (Written written version over) = unwrap_or over lineage
 stored _ reply = []
+
+-- the row of a value that the reply to its write says was written, with what is kept beside it
+abbrev pub written : List ℕ → List WriteId → Reply → List Row
+written value kept (Written key version over) = record { key = key; version = version; value = value; lineage = kept } ∷ []
+written value kept _ = []
 
 -- the row that a call with its reply wrote, none for most calls
 abbrev pub wrote : Call → Reply → List Row
-wrote (Write name value lineage) (Written key version) =
-    record { key = key; version = version; value = value; lineage = stored (Write name value lineage) (Written key version) } ∷ []
-wrote _ _ = []
+wrote (Write key value lineage) reply = written value (stored (Write key value lineage) reply) reply
+wrote _ reply = []
 
 -- what a history wrote, in its order
 abbrev pub rows : List Entry → List Row

@@ -85,10 +85,12 @@ pub enum Call {
 /// What an object answers.
 #[derive(Drop)]
 pub enum Reply {
-    /// The key and the version that was written.
+    /// The key and the version that was written, and the lineage that is kept beside the write: `None` where that is the one that was
+    /// handed in, since the write that is replaced leaves nothing more, or there is none.
     Written {
         key: Handle<Name>,
         version: u64,
+        over: Option<Handle<Lineage>>,
     },
     /// The rows that a read shows.
     Shown(Rows),
@@ -193,11 +195,16 @@ impl Copies for Reply {
         ensures moved { self.now ≡ Reply.Moved → IsOk result }
     {
         match self {
-            Reply::Written { key, version } => {
+            Reply::Written { key, version, over } => {
                 let key = key.share()?;
+                let over = match over {
+                    Some(lineage) => Some(lineage.share()?),
+                    None => None,
+                };
                 Ok(Reply::Written {
                     key,
                     version: *version,
+                    over,
                 })
             }
             Reply::Shown(rows) => {

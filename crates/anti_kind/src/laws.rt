@@ -34,12 +34,13 @@ pub fn units_suffice()
     ensures { UnitsSuffice }
 {}
 
-/// No call needs less after a longer legal history.
+/// No call that is ready needs less after a longer legal history, but where it then needs more units than an object has: a write
+/// whose lineage would have more ids than a lineage may have.
 pub fn need_never_falls()
     ensures { NeedNeverFalls }
 {}
 
-/// What does not fit never fits after a longer legal history: a call that was ready and did not fit is never ready and fits later.
+/// A call that was ready and did not fit never fits after a longer legal history, whatever is asked in between.
 pub fn full_stays_full()
     ensures { FullStaysFull }
 {}

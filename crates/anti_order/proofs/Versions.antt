@@ -1,6 +1,6 @@
 -- The versions of the writes of a legal trace: those of a store count from 1 on, in the order of the trace.
 use Rattle.std.proofs.Common.{◌≡◌, ℕ, ◌+◌, ◌-◌, ◌<◌, ◌≤◌, ◌++◌, Bool, true, false, cond, List, [], ◌∷◌, length, length-append, take, refl, sym, ap, ◌∙◌, subst, inl, inr, arith}
-use Rattle.std.specs.Prelude.{◌==◌, ◌⊎◌, Some, nat_lt, slice_get}
+use Rattle.std.specs.Prelude.{◌==◌, ◌⊎◌, Option, Some, nat_lt, slice_get}
 use Rattle.std.proofs.lemmas.Bool.{cases_Bool, cases_order, eq-eqb, lt-ltb, or_left}
 use Rattle.std.proofs.lemmas.List.Concat.{flat_map-cons}
 use Rattle.std.proofs.lemmas.List.Elements.{filter_more}
@@ -16,7 +16,7 @@ use Rattle.anti_kind.specs.declared.entry.Entry.{Entry}
 use Rattle.anti_kind.specs.declared.row.Row.{Row}
 use Rattle.anti_kind.specs.Inbox.{inbox_ready}
 use Rattle.anti_kind.specs.Objects.{Start, store, inbox, Follows}
-use Rattle.anti_kind.specs.Store.{Store, key_for, store_due}
+use Rattle.anti_kind.specs.Store.{Store, key_for, store_due, told_over}
 use Rattle.anti_kind.specs.Stored.{rows, wrote as wrote_row}
 use Rattle.anti_kind.proofs.Rows.{or_false}
 use Rattle.anti_kind.proofs.Showing.{rows-append}
@@ -33,21 +33,21 @@ use Rattle.law_causal.proofs.Stores.{write_parts}
 -- ---- one entry
 
 -- a write gets the version behind those of the rows that are there
-next_version : (start : Start) (h : List Entry) (e : Entry) → Follows start h e → (key value : List ℕ) (lineage : List WriteId) (name : List ℕ) (version : ℕ)
-    → e.call ≡ calls.Write key value lineage → e.reply ≡ replies.Written name version → version ≡ length (rows h) + 1
-next_version (store s) h e f key value lineage name version call reply =
-    let due : replies.Written name version ≡ replies.Written (key_for s.kind h key) (length (rows h) + 1) =
+next_version : (start : Start) (h : List Entry) (e : Entry) → Follows start h e → (key value : List ℕ) (lineage : List WriteId) (name : List ℕ) (version : ℕ) (kept : Option (List WriteId))
+    → e.call ≡ calls.Write key value lineage → e.reply ≡ replies.Written name version kept → version ≡ length (rows h) + 1
+next_version (store s) h e f key value lineage name version kept call reply =
+    let due : replies.Written name version kept ≡ replies.Written (key_for s.kind h key) (length (rows h) + 1) (told_over s h key lineage) =
     sym reply ∙ f.reply ∙ ap (λ (c : Call). store_due s h c) call in
     cc
-next_version (inbox requests) h e f key value lineage name version call reply =
+next_version (inbox requests) h e f key value lineage name version kept call reply =
     let never : inbox_ready requests h (calls.Write key value lineage) ≡ true = ap (λ (c : Call). inbox_ready requests h c) (sym call) ∙ f.is_ready in
     absurd (cc)
 
 -- so an entry that follows wrote as many rows as ids
 as_many : (start : Start) (h : List Entry) (e : Entry) → Follows start h e → (c : Call) (y : Reply) → e.call ≡ c → e.reply ≡ y
     → length (wrote_row c y) ≡ length (id_written e.object c y)
-as_many start h e f (calls.Write key value lineage) (replies.Written name version) call reply =
-    let next = next_version start h e f key value lineage name version call reply in
+as_many start h e f (calls.Write key value lineage) (replies.Written name version kept) call reply =
+    let next = next_version start h e f key value lineage name version kept call reply in
     sym (ap (λ (t : Bool). length (cond t (id_for e.object name version ∷ []) [])) (lt-ltb 0 version (omega (arith, next))))
 as_many start h e f _ _ call reply = refl
 
@@ -57,7 +57,7 @@ some_id w (v ∷ vs) has = omega arith
 
 -- an entry wrote one id at most
 pub one_id : (o : ℕ) (c : Call) (y : Reply) → (id_written o c y ≡ []) ⊎ ((w : WriteId) × (id_written o c y ≡ w ∷ []))
-one_id o (calls.Write key value lineage) (replies.Written name version) =
+one_id o (calls.Write key value lineage) (replies.Written name version kept) =
     elim (cases_Bool (nat_lt 0 version)) [
       | inl some ↦ inr (id_for o name version, ap (λ (t : Bool). cond t (id_for o name version ∷ []) []) some)
       | inr none ↦ inl (ap (λ (t : Bool). cond t (id_for o name version ∷ []) []) none)
@@ -133,7 +133,7 @@ module _ (app : App) (trace : List Entry) (legal : IsLegalTrace app trace) where
           let it = write_parts e.object e.call e.reply w has in
           subst (λ (o : ℕ). w.version ≡ rows_before trace o k + 1) own_store
           (ap (λ (x : WriteId). x.version) it.id
-          ∙ next_version f.0 (entries_on e.object (take k trace)) e f.1 it.key it.value it.lineage it.name it.version it.call it.reply)
+          ∙ next_version f.0 (entries_on e.object (take k trace)) e f.1 it.key it.value it.lineage it.name it.version it.over it.call it.reply)
 
       pub on_object : w.store < object_count app
       on_object =

@@ -38,11 +38,13 @@ fn id_written(entry: &Entry) -> Option<WriteId>
     ensures { option_to_list result ≡ wrote entry.now }
 {
     match (&entry.call, &entry.reply) {
-        (Call::Write { .. }, Reply::Written { key, version }) if *version > 0 => Some(WriteId {
-            store: entry.object,
-            key: *key.get(),
-            version: *version,
-        }),
+        (Call::Write { .. }, Reply::Written { key, version, .. }) if *version > 0 => Some(
+            WriteId {
+                store: entry.object,
+                key: *key.get(),
+                version: *version,
+            },
+        ),
         _ => None,
     }
 }

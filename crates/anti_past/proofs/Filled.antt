@@ -1,5 +1,5 @@
 -- A lineage of which each id came, and which has as many ids as came at most, has all that came.
-use Rattle.std.proofs.Common.{◌≡◌, ℕ, ◌+◌, ◌≤◌, ◌++◌, nat_lt, Bool, true, false, not, List, [], ◌∷◌, length, get_or, refl, sym, ap, ◌∙◌, subst, arith, length-append}
+use Rattle.std.proofs.Common.{◌≡◌, ℕ, ◌+◌, ◌≤◌, ◌++◌, nat_lt, Bool, true, false, not, List, [], ◌∷◌, length, get_or, refl, sym, ap, ◌∙◌, subst, append-nil, arith, length-append}
 use Rattle.std.specs.Prelude.{Option, None, Some, if◌then◌else◌, slice_get}
 use Rattle.std.specs.Option.{option_and_then, option_map_or}
 use Rattle.std.proofs.lemmas.Bool.{and_from}
@@ -16,6 +16,7 @@ use Rattle.anti_app.specs.declared.app.App.{App}
 use Rattle.law_causal.specs.Words.{brings, comes_with}
 use Rattle.anti_past.specs.declared.came.Came.{Came}
 use Rattle.anti_past.specs.inner.Came.{brought_at, came_ids, holds, ids_since, most_at, most_of}
+use Rattle.anti_proc.specs.Local.{id_at}
 use Rattle.anti_past.proofs.Held.{has_all}
 
 -- ascending ids that all are among others, and as many as these, are all of them
@@ -45,16 +46,17 @@ one_if : (t : Bool) (w : WriteId) → length (if t then w ∷ [] else []) ≤ 1
 one_if true w = omega arith
 one_if false w = omega arith
 
-few_written : (app : App) (o : ℕ) (key value : List ℕ) (lineage : List WriteId) (reply : Reply)
-    → length (comes_with app o (calls.Write key value lineage) reply) ≤ 1
-few_written app o key value lineage (replies.Written name version) =
-    one_if (nat_lt 0 version) (record { store = o; key = name; version = version })
-few_written app o key value lineage reply = omega arith
-
-few_of : (app : App) (o : ℕ) (call : Call) (reply : Reply) (most : ℕ) → most_of call ≡ Some most → length (comes_with app o call reply) ≤ most
-few_of app o (calls.Write key value lineage) reply most is =
+few_written : (app : App) (o : ℕ) (key value : List ℕ) (lineage : List WriteId) (reply : Reply) (most : ℕ) → most_of (calls.Write key value lineage) reply ≡ Some most
+    → length (comes_with app o (calls.Write key value lineage) reply) ≤ most
+few_written app o key value lineage (replies.Written name version (Some kept)) most is = absurd (cc)
+few_written app o key value lineage (replies.Written name version None) most is =
     let one : 1 ≡ most = cc in
-    subst (λ (n : ℕ). length (comes_with app o (calls.Write key value lineage) reply) ≤ n) one (few_written app o key value lineage reply)
+    subst (λ (n : ℕ). length (id_at o name version ++ []) ≤ n) one
+    (subst (λ (ids : List WriteId). length ids ≤ 1) (sym (append-nil (id_at o name version))) (one_if (nat_lt 0 version) (record { store = o; key = name; version = version })))
+few_written app o key value lineage reply most is = omega arith
+
+few_of : (app : App) (o : ℕ) (call : Call) (reply : Reply) (most : ℕ) → most_of call reply ≡ Some most → length (comes_with app o call reply) ≤ most
+few_of app o (calls.Write key value lineage) reply most is = few_written app o key value lineage reply most is
 few_of app o (calls.Read region key) reply most is = absurd (cc)
 few_of app o (calls.Scan region prefix) reply most is = absurd (cc)
 few_of app o (calls.Poll region key) reply most is = absurd (cc)
@@ -67,7 +69,7 @@ few_of app o call reply most is = omega arith
 few_at : (app : App) (trace : List Entry) (i most : ℕ) → most_at trace i ≡ Some most → length (brought_at app trace i) ≤ most
 few_at app trace i most is = by_entry (slice_get trace i) is
   where
-    by_entry : (found : Option Entry) → option_and_then (λ e. most_of e.call) found ≡ Some most → length (option_map_or (brings app) found []) ≤ most
+    by_entry : (found : Option Entry) → option_and_then (λ e. most_of e.call e.reply) found ≡ Some most → length (option_map_or (brings app) found []) ≤ most
     by_entry None none = absurd (cc)
     by_entry (Some e) one = few_of app e.object e.call e.reply most one
 

@@ -104,7 +104,7 @@ abbrev reads_none : Entry
 reads_none = did 2 0 1 1 (calls.Read 0 k) (shows 0 [])
 
 abbrev writes_k : Entry
-writes_k = did 3 0 2 1 (calls.Write k (codes "a") []) (replies.Written k 1)
+writes_k = did 3 0 2 1 (calls.Write k (codes "a") []) (replies.Written k 1 None)
 
 abbrev shipped : Entry
 shipped = made 4 0 3 (Carrier 0) 0 (calls.Ship 0 1 1) replies.Moved
@@ -113,7 +113,7 @@ abbrev reads_k : Entry
 reads_k = did 5 0 4 2 (calls.Read 0 k) (shows 1 (codes "a"))
 
 abbrev writes_j : List WriteId → Entry
-writes_j lineage = did 6 0 5 2 (calls.Write j (codes "a") lineage) (replies.Written j 2)
+writes_j lineage = did 6 0 5 2 (calls.Write j (codes "a") lineage) (replies.Written j 2 None)
 
 abbrev front : List Entry
 front = taken ∷ reads_none ∷ writes_k ∷ shipped ∷ reads_k ∷ []

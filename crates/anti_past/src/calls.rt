@@ -29,13 +29,16 @@ pub fn hands_all(call: &Call) -> bool
     }
 }
 
-/// How many ids a call brings at most, where the call alone tells that: a write its own, and others none. What a row or a message brings
-/// stands in the reply.
-pub fn most_of(call: &Call) -> Option<u32>
-    ensures { result ≡ most_of call.now }
+/// How many ids an answered call brings at most, where that is known without a look at them: a write that tells nothing of what it keeps its
+/// own, and a call that brings no row and no message none.
+pub fn most_of(call: &Call, reply: &Reply) -> Option<u32>
+    ensures { result ≡ most_of call.now reply.now }
 {
     match call {
-        Call::Write { .. } => Some(1),
+        Call::Write { .. } => match reply {
+            Reply::Written { over: Some(_), .. } => None,
+            _ => Some(1),
+        },
         Call::Read { .. } | Call::Scan { .. } | Call::Poll { .. } => None,
         Call::Pull { .. } | Call::Repull { .. } => None,
         Call::Take { .. } | Call::TakeReply { .. } => None,

@@ -44,12 +44,13 @@ fn came_since(alloc: Global, carried: Lineage, index: u32) -> Result<Came, NoMem
     }
 }
 
-// How many ids the entry at an index brings at most, where its call alone tells that.
+// How many ids the entry at an index brings at most, where that is known without a look at them.
 fn most_at(trace: &Trace, index: u32) -> Option<u32>
     ensures { result ≡ most_at trace.now index }
 {
     if index < trace.len() {
-        return most_of(&trace.at(index).call);
+        let entry = trace.at(index);
+        return most_of(&entry.call, &entry.reply);
     }
     None
 }

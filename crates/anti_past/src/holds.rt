@@ -1,4 +1,4 @@
-ghost use Rattle.std.specs.Prelude.{◌≡◌, true, IfOk, IsTrue};
+ghost use Rattle.std.specs.Prelude.{◌≡◌, [], ◌++◌, true, unwrap_or, IfOk, IsTrue};
 ghost use Rattle.std.specs.List.{list_all};
 ghost use Rattle.anti_app.specs.Sound.{is_sound};
 ghost use Rattle.law_causal.specs.Words.{brings};
@@ -10,7 +10,7 @@ ghost use Rattle.anti_past.specs.inner.Came.{IsRear, brought_at, holds, ids_sinc
 use anti_app::{App, store_names};
 use anti_baggage::BaggageFault;
 use anti_ids::{Ids, Lineage, Name, NoMemory, WriteId};
-use anti_kind::{Call, Entry, Message, Reply, Row};
+use anti_kind::{Call, Entry, Handle, Message, Reply, Row};
 use anti_trace::Trace;
 use std::alloc::Global;
 
@@ -73,11 +73,34 @@ fn holds_version(lineage: &Lineage, store: u32, key: Name, version: u64) -> bool
     })
 }
 
+// Whether the id of a version of a key, and what is kept beside it, are in a lineage.
+fn holds_kept(lineage: &Lineage, store: u32, key: Name, version: u64, kept: &Lineage) -> bool
+    ensures { result ≡ holds lineage.now (id_at store key version ++ kept.now) }
+{
+    holds_version(lineage, store, key, version) && holds_all(lineage, kept)
+}
+
+// Whether the id of a write, and what is kept beside it, where that is told, are in a lineage.
+fn holds_write(
+    lineage: &Lineage,
+    store: u32,
+    key: Name,
+    version: u64,
+    over: &Option<Handle<Lineage>>,
+) -> bool
+    ensures { result ≡ holds lineage.now (id_at store key version ++ unwrap_or over.now []) }
+{
+    match over {
+        Some(kept) => holds_kept(lineage, store, key, version, kept.get()),
+        None => holds_version(lineage, store, key, version),
+    }
+}
+
 // Whether the ids that a row of a store brings are in a lineage.
 fn holds_row(lineage: &Lineage, store: u32, row: &Row) -> bool
     ensures { result ≡ holds lineage.now (row_ids store row.now) }
 {
-    holds_version(lineage, store, row.key, row.version) && holds_all(lineage, &row.lineage)
+    holds_kept(lineage, store, row.key, row.version, &row.lineage)
 }
 
 fn holds_rows(lineage: &Lineage, store: u32, rows: &[Row]) -> bool
@@ -130,11 +153,12 @@ fn holds_brought(
 {
     let store = entry.object;
     match (&entry.call, &entry.reply) {
-        (Call::Write { .. }, Reply::Written { key, version }) => Ok(holds_version(
+        (Call::Write { .. }, Reply::Written { key, version, over }) => Ok(holds_write(
             lineage,
             store,
             *key.get(),
             *version,
+            over,
         )),
         (Call::Read { .. }, Reply::Shown(rows)) => Ok(holds_rows(lineage, store, rows.as_slice())),
         (Call::Scan { .. }, Reply::Shown(rows)) => Ok(holds_rows(lineage, store, rows.as_slice())),

@@ -32,7 +32,9 @@ use Rattle.anti_play.specs.Schedule.{asking_at, asked_by, next_call, clock_of, m
 use Rattle.anti_trace.specs.inner.Living.{WasFull, IsEnded, HasEnded, Becomes, MakesRoom, MayMeetFull, MetFull, TakesOver, born_at, Lives, LivesOn, is_named, lists, Grows}
 use Rattle.anti_trace.specs.inner.Trails.{IsTrailIfKept, TrailBecomes, footprint_in, trail_at, with_footprint}
 use Rattle.anti_play.specs.inner.Standing.{IsAsked, IsFullAt, IsStopped, Stops, AllStand, WorldStands, Chose}
+use Rattle.anti_trace.proofs.KnownReplies.{call_ascends}
 use Rattle.anti_play.proofs.MadeAt.{none_fits}
+use Rattle.anti_play.proofs.RunMore.{asked_known}
 use Rattle.anti_trace.proofs.FullStays.{unfit}
 use Rattle.anti_play.proofs.FullStays.{full_makes_none}
 use Rattle.anti_play.proofs.Stepped.{Stepped, step}
@@ -144,8 +146,8 @@ module _ (app : App) (w : World) (trace : List Entry) (b : Birth) (i : ℕ) (p :
     go_waits none = chose_none app w trace chosen_next (asks_next ∙ none) s
 
     -- and it is ended, since the call is ready and does not fit
-    was_full : IsFullAt app trace it → WasFull app trace object call
-    was_full full = record {
+    was_full : IsTrue (is_sound app) → IsFullAt app trace it → WasFull app trace object call
+    was_full sound full = record {
       start = full.start;
       there = full.there;
       before = entries_on object trace;
@@ -155,12 +157,13 @@ module _ (app : App) (w : World) (trace : List Entry) (b : Birth) (i : ℕ) (p :
       owed_units = full.owed_units;
       need_units = full.need_units;
       was_full = full.full;
+      ascends = call_ascends app object call (asked_known app sound trace s.run (Acting b) object span call goes_asked);
     }
 
-    pub go_ended : (n : World) → (made_at app trace it ≡ None) × IsFullAt app trace it
+    pub go_ended : IsTrue (is_sound app) → (n : World) → (made_at app trace it ≡ None) × IsFullAt app trace it
         → n.objects.items ≡ w.objects.items → Becomes (MetFull object) (lists w.processes) (lists n.processes) b.object i → IsTrailIfKept app trace n.trail → n.carrier ≡ w.carrier
         → Chose app trace chosen_next (Ok false) n
-    go_ended n full objects becomes trail carrier =
+    go_ended sound n full objects becomes trail carrier =
         let then : Process = becomes.new in
         let old_is : becomes.old ≡ p = found_again ps i p becomes.old g.is becomes.was in
         let by : MetFull object p then = subst (λ (x : Process). MetFull object x then) old_is becomes.by in
@@ -183,7 +186,7 @@ module _ (app : App) (w : World) (trace : List Entry) (b : Birth) (i : ℕ) (p :
                   tree = λ none. (let both : None ≡ Some object = sym none ∙ by.full in absurd (cc));
                   clock = by.clock ∙ on_p.clock;
                   full = subst (λ (o : Option ℕ). IfSome o (IsEnded app trace left)) (sym by.full)
-                      (subst (λ (x : Want). IsEnded app trace x object) (sym left_is) (refl, was_full full.1));
+                      (subst (λ (x : Want). IsEnded app trace x object) (sym left_is) (refl, was_full sound full.1));
                 }));
           };
           trail = trail;

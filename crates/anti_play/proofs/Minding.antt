@@ -9,25 +9,25 @@ use Rattle.anti_kind.specs.declared.actor.Birth.{Birth}
 use Rattle.anti_kind.specs.declared.asking.Asking.{Asking}
 use Rattle.anti_kind.specs.declared.awaited.Awaited.{Awaited}
 use Rattle.anti_kind.specs.declared.entry.Entry.{Entry}
-use Rattle.anti_kind.specs.Objects.{Start, IsLegal, fits, last_stamp, ready}
+use Rattle.anti_kind.specs.Objects.{Start, IsLegal, last_stamp, ready}
 use Rattle.anti_kind.specs.Shipments.{next_ship}
 use Rattle.anti_kind.specs.Waiting.{ShowsWhole, brought, reaches, waits}
 use Rattle.anti_kind.proofs.Deliveries.{slice_get_left}
-use Rattle.anti_kind.proofs.Fullness.{full_stays}
 use Rattle.anti_kind.proofs.Waiting.{none_left_goes_on, waiting_goes_on, waiting_is_not_ready}
 use Rattle.anti_app.specs.declared.app.App.{App}
 use Rattle.anti_app.specs.declared.app.ServiceDef.{ServiceDef}
 use Rattle.anti_app.specs.declared.app.StoreDef.{StoreDef}
 use Rattle.anti_app.specs.Sound.{is_sound}
 use Rattle.anti_object.specs.Starts.{inbox_start, start_of, store_start}
-use Rattle.anti_object.proofs.Starts.{start_of-inbox, start_of-store, start_sound, start_stays}
+use Rattle.anti_object.proofs.Starts.{start_of-inbox, start_of-store}
 use Rattle.anti_proc.specs.Births.{birth_at, births, is_birth}
 use Rattle.anti_proc.specs.Meaning.{process_after}
 use Rattle.anti_proc.specs.Trees.{Want, Make, Over, want_of}
 use Rattle.anti_trace.specs.Traces.{entries_by, entries_on}
 use Rattle.anti_trace.specs.Legal.{IsLegalTrace}
-use Rattle.anti_trace.specs.inner.Living.{Gets}
+use Rattle.anti_trace.specs.inner.Living.{Gets, WasFull}
 use Rattle.anti_trace.proofs.Followed.{goes_on}
+use Rattle.anti_trace.proofs.AllLive.{full_later}
 use Rattle.anti_trace.proofs.Living.{decide}
 use Rattle.anti_agenda.specs.Agendas.{HasLeft, IsAsleep, IsAwake, IsGone, IsIdle, IsIdled, IsPutToSleep, IsStirred, IsWoken, SameRest}
 use Rattle.anti_agenda.specs.declared.offer.Sleeper.{Sleeper}
@@ -35,9 +35,10 @@ use Rattle.anti_agenda.specs.declared.agenda.Agenda.{Agenda}
 use Rattle.anti_agenda.specs.declared.offer.Offer.{Offer}
 use Rattle.anti_agenda.specs.declared.offer.Offer.TheVariants.{Go, Take, Pull, Ship}
 use Rattle.anti_play.specs.Schedule.{asked_by, made_at, next_call}
-use Rattle.anti_play.specs.inner.Attending.{Attends, CallWaits, DoesNotFit, IsMinded, IsOffer, IsPast, IsRoute, OfferWaits, RouteWaits, asked_by_offer, birth_in, entry_by_offer}
+use Rattle.anti_play.specs.inner.Attending.{Attends, CallWaits, IsMinded, IsOffer, IsPast, IsRoute, OfferWaits, RouteWaits, asked_by_offer, birth_in, entry_by_offer}
 use Rattle.anti_play.specs.inner.Finishing.{next_shipped, shipped}
-use Rattle.anti_play.proofs.MadeAt.{none_fits, unready}
+use Rattle.anti_play.proofs.FullStays.{full_makes_none}
+use Rattle.anti_play.proofs.MadeAt.{unready}
 
 -- ---- who is at rest makes none
 
@@ -62,9 +63,9 @@ module _ (app : App) (sound : IsTrue (is_sound app)) (trace : List Entry) (run :
       ∙ ap (λ (s : Option Start). option_and_then (shipped app trace store w.region) (option_and_then (λ start. next_ship start (entries_on store trace) w.region) s)) w.there
       ∙ ap (option_and_then (shipped app trace store w.region)) w.none
 
-  unfit_none : (asked : Option Asking) → ((q : Asking) → asked ≡ Some q → DoesNotFit app trace q) → option_and_then (made_at app trace) asked ≡ None
+  unfit_none : (asked : Option Asking) → ((q : Asking) → asked ≡ Some q → WasFull app trace q.object q.call) → option_and_then (made_at app trace) asked ≡ None
   unfit_none None none = refl
-  unfit_none (Some q) full = let f : DoesNotFit app trace q = full q refl in none_fits app trace q f.start f.there f.full
+  unfit_none (Some q) full = full_makes_none app trace run sound q (full q refl)
 
   pub past_none : (offer : Offer) → IsPast app trace offer → entry_by_offer app trace offer ≡ None
   past_none (Go o at) past = unfit_none (asked_by_offer app trace (Go o at)) past
@@ -158,17 +159,8 @@ module _ (app : App) (sound : IsTrue (is_sound app)) (trace after : List Entry) 
         (subst (λ (a : Awaited). reaches (brought e.call) a ≡ false) w.awaits (left (here ∙ w.at))));
   }
 
-  unfit_stays : (q : Asking) → DoesNotFit app trace q → DoesNotFit app after q
-  unfit_stays q f =
-      let goes = goes_on app trace after e gets q.object in
-      record {
-        start = f.start;
-        there = f.there;
-        full =
-            subst (λ (h : List Entry). fits f.start h q.call ≡ false) (sym goes.1)
-            (full_stays f.start (entries_on q.object trace) goes.0 q.call (start_sound app q.object f.start sound f.there) (start_stays app q.object f.start f.there)
-            (subst (IsLegal f.start) goes.1 (next.histories q.object f.start f.there)) f.full);
-      }
+  unfit_stays : (q : Asking) → WasFull app trace q.object q.call → WasFull app after q.object q.call
+  unfit_stays q was = full_later app trace after (goes_on app trace after e gets) q.object q.call was
 
   -- a birth stays where it stands
   birth_stays : (o at : ℕ) (b : Entry) → birth_in trace o at ≡ Some b → birth_in after o at ≡ Some b

@@ -18,9 +18,8 @@ use Rattle.anti_proc.specs.inner.Standing.{birth_of, full_of}
 use Rattle.anti_agenda.specs.declared.offer.Offer.TheVariants.{Go}
 use Rattle.anti_play.specs.declared.world.World.{World}
 use Rattle.anti_play.specs.Schedule.{asked_by, asking_at, next_call}
-use Rattle.anti_play.specs.inner.Attending.{DoesNotFit, IsPast, birth_in}
+use Rattle.anti_play.specs.inner.Attending.{IsPast, birth_in}
 use Rattle.anti_play.specs.inner.Standing.{WorldStands}
-use Rattle.anti_play.proofs.FullStays.{never_fits_now}
 use Rattle.anti_play.proofs.GoFirst.{birth_found, birth_here, birth_is, born_length, no_entry}
 use Rattle.anti_play.proofs.GoOn.{IsFound, next_none, on_p}
 
@@ -56,18 +55,15 @@ module _ (app : App) (w : World) (trace : List Entry) (s : WorldStands app w tra
         ∙ ap (next_call app trace) (sym (birth_is app w trace object s at p no_entry there))
 
   module _ (sound : IsTrue (is_sound app)) where
-    full_unfit : (q : Asking) → WasFull app trace q.object q.call → DoesNotFit app trace q
-    full_unfit q was = record { start = was.start; there = was.there; full = never_fits_now app trace s.run sound q was }
-
     -- a process that was ended, since its call did not fit
-    ended_unfit : (b : Birth) (want : Want) (at : ℕ) → IsEnded app trace want at → (q : Asking) → asked_by trace b want ≡ Some q → DoesNotFit app trace q
+    ended_unfit : (b : Birth) (want : Want) (at : ℕ) → IsEnded app trace want at → (q : Asking) → asked_by trace b want ≡ Some q → WasFull app trace q.object q.call
     ended_unfit b (Make object span call) at ended q asks =
         let is : asking_at trace object (Acting b) span call ≡ q = cc in
-        subst (DoesNotFit app trace) is (full_unfit (asking_at trace object (Acting b) span call) ended.1)
+        subst (λ (q : Asking). WasFull app trace q.object q.call) is ended.1
     ended_unfit b (Over end) at ended q asks = elim ended [ ]
 
     over_unfit : (b : Birth) (i : ℕ) (p : Process) (g : IsFound w b i p) → HasEnded app p → (full : Option ℕ) → full_of p ≡ full
-        → IfSome full (IsEnded app trace (want_of (process_after app (entries_by (Acting b) trace)))) → (q : Asking) → next_call app trace b ≡ Some q → DoesNotFit app trace q
+        → IfSome full (IsEnded app trace (want_of (process_after app (entries_by (Acting b) trace)))) → (q : Asking) → next_call app trace b ≡ Some q → WasFull app trace q.object q.call
     over_unfit b i p g over None is ended q asks =
         absurd (let both : None ≡ Some q = sym (next_none app w trace b i p s g over is) ∙ asks in cc)
     over_unfit b i p g over (Some at) is ended q asks = ended_unfit b (want_of (process_after app (entries_by (Acting b) trace))) at ended q asks

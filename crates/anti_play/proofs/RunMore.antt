@@ -113,5 +113,5 @@ module _ (app : App) (trace : List Entry) (legal : IsLegalTrace app trace) (q : 
       let call : IsCallAt app q.object q.call = asked_known app sound trace legal q.actor q.object q.span q.call asks in
       record {
         call = call;
-        reply = due_known app q.object start (entries_on q.object trace) q.call sound there (legal.histories q.object start there) (history_known app trace legal sound q.object) call is_ready;
+        reply = due_known app q.object start (entries_on q.object trace) q.call sound there (legal.histories q.object start there) (history_known app trace legal sound q.object) call is_ready is_fit;
       }

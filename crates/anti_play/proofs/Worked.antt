@@ -118,7 +118,7 @@ abbrev reader_born : Entry
 reader_born = entry 1 2 1 (Process reader) 1 (calls.Take 1) (replies.Got 1 request)
 
 abbrev written : Entry
-written = entry 2 0 1 (Process writer) 1 (calls.Write k a []) (replies.Written k 1)
+written = entry 2 0 1 (Process writer) 1 (calls.Write k a []) (replies.Written k 1 None)
 
 abbrev in_us : Entry
 in_us = entry 3 0 2 (Carrier 0) 0 (calls.Ship us 1 1) replies.Moved
@@ -296,7 +296,7 @@ abbrev cell : Row
 cell = record { key = codes "c#1"; version = 1; value = a; lineage = [] }
 
 abbrev published : Entry
-published = entry 1 0 1 (Process writer) 1 (calls.Write (codes "c") a []) (replies.Written (codes "c#1") 1)
+published = entry 1 0 1 (Process writer) 1 (calls.Write (codes "c") a []) (replies.Written (codes "c#1") 1 None)
 
 abbrev arrived : Entry
 arrived = entry 2 0 2 (Carrier 0) 0 (calls.Ship us 1 1) replies.Moved

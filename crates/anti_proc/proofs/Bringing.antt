@@ -57,6 +57,11 @@ module _ (app : App) where
   keeps_came : Keeps app Came AllCame AllCame more_came AnyReply
   keeps_came = record {
     none_carried = λ h n i has. absurd (cc);
+    with_carried = λ h n ids carried brings carries i has.
+        elim (or_cases (has_id i ids) (has_id i carried) (sym (has_append i ids carried) ∙ has)) [
+          | inl own ↦ brings i (has_append i ids [] ∙ or_left (has_id i ids) false own)
+          | inr old ↦ carries i old
+        ];
     none_brought = λ h n i has. absurd (cc);
     added = λ h n further ids brings carries short i has.
         elim (or_cases (has_id i further) (has_id i ids) (sym (has_id-with_ids i further ids) ∙ has)) [ inl new ↦ brings i new | inr old ↦ carries i old ];

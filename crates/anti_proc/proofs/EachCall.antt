@@ -1,6 +1,6 @@
 -- What is so of each form of call is so of each call that a process makes.
 use Rattle.std.proofs.Common.{◌≡◌, ℕ, zero, suc, Bool, true, false, cond, List, [], ◌∷◌, length, Option, Some, None}
-use Rattle.std.specs.Prelude.{◌+◌, nat_lt, if◌then◌else◌}
+use Rattle.std.specs.Prelude.{◌+◌, ◌++◌, nat_lt, unwrap_or, if◌then◌else◌}
 use Rattle.std.specs.Option.{option_map_or}
 use Rattle.anti_ids.specs.Each.{Each}
 use Rattle.anti_ids.specs.Ids.{ids_of, with_ids}
@@ -77,10 +77,10 @@ module _ (Is : Ask → Type 0) where
 
     written : (store : ℕ) (variable : Option (List ℕ)) (untracked : Bool) (l : Local) (go : Go) → GoesOn go → (reply : Reply)
         → OfEachCall Is (after_write store variable untracked l go reply)
-    written store variable untracked l go goes (replies.Written key version) =
-        let held : Binding = Wrote (record { store = store; key = key; version = version }) in
+    written store variable untracked l go goes (replies.Written key version over) =
+        let held : Binding = Wrote (record { store = store; key = key; version = version }) (unwrap_or over l.carried) in
         let next : Local = option_map_or (λ name. set name held l) variable l in
-        either untracked (go next) (carry (id_at store key version) next go) (goes next) (carried_on (id_at store key version) next go goes)
+        either untracked (go next) (carry (id_at store key version ++ unwrap_or over []) next go) (goes next) (carried_on (id_at store key version ++ unwrap_or over []) next go goes)
     written store variable untracked l go goes reply = goes l
 
     write_asked : (store : ℕ) (value : List ℕ) (variable : Option (List ℕ)) (untracked : Bool) (l : Local) (go : Go) (key : List ℕ)

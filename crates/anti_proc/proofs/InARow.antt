@@ -1,6 +1,6 @@
 -- The looks of a barrier follow one another.
 use Rattle.std.proofs.Common.{◌≡◌, ℕ, zero, suc, Bool, true, false, cond, List, [], ◌∷◌, Option, Some, None, refl, ap}
-use Rattle.std.specs.Prelude.{◌+◌, nat_lt, length, if◌then◌else◌}
+use Rattle.std.specs.Prelude.{◌+◌, ◌++◌, nat_lt, unwrap_or, length, if◌then◌else◌}
 use Rattle.std.specs.Option.{option_map_or}
 use Rattle.anti_ids.specs.Ids.{with_ids}
 use Rattle.anti_ids.specs.declared.id.WriteId.{WriteId}
@@ -74,10 +74,10 @@ carried_on ids l go goes =
 
 written : (store : ℕ) (variable : Option (List ℕ)) (untracked : Bool) (l : Local) (go : Go) → GoesOn go → (reply : Reply)
     → AllLookInARow (after_write store variable untracked l go reply)
-written store variable untracked l go goes (replies.Written key version) =
-    let held : Binding = Wrote (record { store = store; key = key; version = version }) in
+written store variable untracked l go goes (replies.Written key version over) =
+    let held : Binding = Wrote (record { store = store; key = key; version = version }) (unwrap_or over l.carried) in
     let next : Local = option_map_or (λ name. set name held l) variable l in
-    either untracked (go next) (carry (id_at store key version) next go) (goes next) (carried_on (id_at store key version) next go goes)
+    either untracked (go next) (carry (id_at store key version ++ unwrap_or over []) next go) (goes next) (carried_on (id_at store key version ++ unwrap_or over []) next go goes)
 written store variable untracked l go goes reply = goes l
 
 write_asked : (store : ℕ) (value : List ℕ) (variable : Option (List ℕ)) (untracked : Bool) (l : Local) (go : Go) (key : List ℕ) → GoesOn go

@@ -1,6 +1,6 @@
 -- What all calls of a process keep, whatever they are answered.
 use Rattle.std.proofs.Common.{◌≡◌, ℕ, zero, suc, ◌+◌, ◌≤◌, Bool, true, false, cond, List, [], ◌∷◌, length, IfSome, refl, sym, ◌∙◌, subst, arith}
-use Rattle.std.specs.Prelude.{Option, Some, None, nat_le, nat_lt, ◌&&◌, ◌==◌, if◌then◌else◌}
+use Rattle.std.specs.Prelude.{Option, Some, None, nat_le, nat_lt, unwrap_or, ◌++◌, ◌&&◌, ◌==◌, if◌then◌else◌}
 use Rattle.std.specs.Bool.{then_some}
 use Rattle.std.specs.List.{list_all}
 use Rattle.std.specs.Option.{option_map_or}
@@ -111,6 +111,7 @@ pub record Keeps (app : App) (H : Type 0) (Carries Brings : H → ℕ → List W
   pub carried_on : (h : H) (ask : Ask) (r : Reply) (n : ℕ) (ids : List WriteId) → Carries h n ids → Carries (more h ask r) n ids
   pub brought_on : (h : H) (ask : Ask) (r : Reply) (n : ℕ) (ids : List WriteId) → Brings h n ids → Brings (more h ask r) n ids
   pub comes : (h : H) (ask : Ask) (r : Reply) → Fair ask.object r → Brings (more h ask r) ask.span (came app ask.object ask.call r)
+  pub with_carried : (h : H) (n : ℕ) (ids carried : List WriteId) → Brings h n (ids ++ []) → Carries h n carried → Brings h n (ids ++ carried)
 
 -- where nothing need be known, and any reply is fair
 abbrev pub nothing_more : Unit {0} → Ask → Reply → Unit {0}
@@ -252,7 +253,7 @@ module _ (s : Setting) (Store : ℕ → Type 0) (Inbox : ℕ → List ℕ → Ty
     sound_rooted h false l sound = fresh h false l
 
     sound_removed : (h : H) (held : Option Binding) (l : Local) → Sound h l → Sound h (record l { carried = removed held l.carried })
-    sound_removed h (Some (Wrote id)) l sound = (sound.0, keeps.taken_out h l.span id l.carried sound.1, sound.2)
+    sound_removed h (Some (Wrote id kept)) l sound = (sound.0, keeps.taken_out h l.span id l.carried sound.1, sound.2)
     sound_removed h (Some (Saw store rows)) l sound = sound
     sound_removed h (Some (Heard value)) l sound = sound
     sound_removed h None l sound = sound
@@ -286,16 +287,24 @@ module _ (s : Setting) (Store : ℕ → Type 0) (Inbox : ℕ → List ℕ → Ty
     set_or_brings h None held l ids brings = brings
     set_or_brings h (Some x) held l ids brings = brings
 
+    -- what a variable holds of a write: where nothing is told of what is kept, that is what was carried
+    holds_write : (h : H) (n : ℕ) (ids carried : List WriteId) (over : Option (List WriteId)) → Brings h n (ids ++ unwrap_or over []) → Carries h n carried → Brings h n (ids ++ unwrap_or over carried)
+    holds_write h n ids carried None brings carries = keeps.with_carried h n ids carried brings carries
+    holds_write h n ids carried (Some kept) brings carries = brings
+
     write_replied : (h : H) (store : ℕ) (key value : List ℕ) (x : Option (List ℕ)) (untracked : Bool) (l : Local) (go : Go) → Sound h l → GoesOn go
         → (r : Reply) → Fair store r → IsGood (more h (ask_at store (calls.Write key value l.carried) l) r) (after_write store x untracked l go r)
-    write_replied h store key value x untracked l go sound goes (replies.Written written version) fair =
+    write_replied h store key value x untracked l go sound goes (replies.Written written version over) fair =
         let ask : Ask = ask_at store (calls.Write key value l.carried) l in
-        let r : Reply = replies.Written written version in
-        let held : Binding = Wrote (record { store = store; key = written; version = version }) in
+        let r : Reply = replies.Written written version over in
+        let held : Binding = Wrote (record { store = store; key = written; version = version }) (unwrap_or over l.carried) in
         let ids : List WriteId = id_at store written version in
-        let brings : Brings (more h ask r) l.span ids = keeps.comes h ask r fair in
-        wrote_good untracked (more h ask r) ids (option_map_or (λ name. set name held l) x l) go (set_or_brings (more h ask r) x held l ids brings)
-        (sound_set_or (more h ask r) x held l brings (sound_on h ask r l sound)) goes
+        let brings : Brings (more h ask r) l.span (ids ++ unwrap_or over []) = keeps.comes h ask r fair in
+        let holds : Brings (more h ask r) l.span (ids ++ unwrap_or over l.carried) =
+        holds_write (more h ask r) l.span ids l.carried over brings (keeps.carried_on h ask r l.span l.carried sound.1) in
+        wrote_good untracked (more h ask r) (ids ++ unwrap_or over []) (option_map_or (λ name. set name held l) x l) go
+        (set_or_brings (more h ask r) x held l (ids ++ unwrap_or over []) brings)
+        (sound_set_or (more h ask r) x held l holds (sound_on h ask r l sound)) goes
     write_replied h store key value x untracked l go sound goes r fair =
         goes (more h (ask_at store (calls.Write key value l.carried) l) r) l (sound_on h (ask_at store (calls.Write key value l.carried) l) r l sound)
 

@@ -58,7 +58,8 @@ reply_known app o (replies.Missing missing unwritten) known =
     ap not (and_from (has_stores app missing) (has_stores app unwritten) (ids_known app missing known.0) (ids_known app unwritten known.1))
 reply_known app o (replies.Pulled row) known = ap not (ids_known app row.lineage known.lineage.each)
 reply_known app o (replies.Got number m) known = ap not known.baggage
-reply_known app o (replies.Written key version) known = refl
+reply_known app o (replies.Written key version (Some kept)) known = ap not (ids_known app kept known.1.each)
+reply_known app o (replies.Written key version None) known = refl
 reply_known app o replies.Moved known = refl
 reply_known app o (replies.Posted number) known = refl
 reply_known app o replies.Done known = refl

@@ -1,6 +1,6 @@
 -- Each call of a process of a sound application is known, where its message and its replies are.
-use Rattle.std.proofs.Common.{◌≡◌, ℕ, ◌≤◌, true, List, ◌&&◌, cond, false, Bool, [], ◌∷◌, length, IsTrue, refl, sym, ap, ◌∙◌, subst, arith, ◌<◌, map}
-use Rattle.std.specs.Prelude.{All, ◌==◌, Result, Some, is_some, nat_lt}
+use Rattle.std.proofs.Common.{◌≡◌, ℕ, ◌≤◌, true, List, ◌&&◌, cond, false, Bool, [], ◌∷◌, ◌++◌, append-nil, length, IsTrue, refl, sym, ap, ◌∙◌, subst, arith, ◌<◌, map}
+use Rattle.std.specs.Prelude.{All, IfSome, Option, None, ◌==◌, Result, Some, is_some, nat_lt, unwrap_or}
 use Rattle.std.proofs.lemmas.Bool.{and_from, and_parts, lt-ltb, ltb-true}
 use Rattle.std.proofs.lemmas.List.{length-map}
 use Rattle.std.proofs.lemmas.List.Elements.{All-head, All-tail}
@@ -100,8 +100,15 @@ module _ (app : App) where
     each = each_with_ids (IsIdOver (store_names app)) further ids known.0 over.each;
   }
 
+  over_known : (over : Option (List WriteId)) → IfSome over (IsOverApp app) → AreIdsOf app (unwrap_or over []) × Written (unwrap_or over [])
+  over_known None known = (tt, tt)
+  over_known (Some kept) known = (known.each, known.lineage.written)
+
   came_known : (o from : ℕ) (call : Call) (r : Reply) → is_placed o call ≡ true → IsReplyAt app from r → AreIdsOf app (came app o call r) × Written (came app o call r)
-  came_known o from (calls.Write key value lineage) (replies.Written written version) there known = (at_store o from written version there known, written_at o written version)
+  came_known o from (calls.Write key value lineage) (replies.Written written version over) there known = (
+    each_append (IsIdOver (store_names app)) (id_at o written version) (unwrap_or over []) (at_store o from written version there known.0) (over_known over known.1).0,
+    each_append (λ i. 1 ≤ i.version) (id_at o written version) (unwrap_or over []) (written_at o written version) (over_known over known.1).1,
+  )
   came_known o from (calls.Read region key) (replies.Shown rows) there known = rows_known o from rows.items there known
   came_known o from (calls.Scan region key) (replies.Shown rows) there known = rows_known o from rows.items there known
   came_known o from (calls.Poll region key) (replies.Shown rows) there known = rows_known o from rows.items there known
@@ -111,6 +118,10 @@ module _ (app : App) where
   keeps_known : Keeps app Bool Carries Brings were_placed Fair
   keeps_known = record {
     none_carried = λ placed n on. none_over;
+    with_carried = λ placed n ids carried brings carries on. (
+      each_append (IsIdOver (store_names app)) ids carried (subst (Each (IsIdOver (store_names app))) (append-nil ids) (brings on).0) (carries on).each,
+      each_append (λ i. 1 ≤ i.version) ids carried (subst (Each (λ i. 1 ≤ i.version)) (append-nil ids) (brings on).1) (carries on).lineage.written,
+    );
     none_brought = λ placed n on. (tt, tt);
     added = λ placed n further ids brings carries short on. more_over further ids (brings on) (carries on) short;
     taken_out = λ placed n i ids carries on.

@@ -1,6 +1,6 @@
 -- What a process carries is a lineage.
-use Rattle.std.proofs.Common.{◌≡◌, ℕ, ◌≤◌, Bool, true, false, cond, List, [], ◌∷◌, ◌++◌, refl, subst, arith}
-use Rattle.std.specs.Prelude.{Option, Some, None, Result, Ok, Err, length, nat_lt, unwrap_or, if◌then◌else◌}
+use Rattle.std.proofs.Common.{◌≡◌, ℕ, ◌≤◌, Bool, true, false, cond, List, [], ◌∷◌, ◌++◌, append-nil, refl, subst, arith}
+use Rattle.std.specs.Prelude.{Option, Some, None, IfSome, Result, Ok, Err, length, nat_lt, unwrap_or, if◌then◌else◌}
 use Rattle.std.specs.Result.{result_ok}
 use Rattle.std.proofs.lemmas.Bool.Decides.{nat_tests}
 use Rattle.anti_ids.specs.Each.{Each}
@@ -98,8 +98,13 @@ pub first_stated : (app : App) (m : Message) (ids : List WriteId) → stated_lin
 first_stated app m ids states =
     subst (λ (found : Option (List WriteId)). IsOverApp app (unwrap_or found [])) states (stated_over app m)
 
+over_written : (over : Option (List WriteId)) → IfSome over IsLineage → Written (unwrap_or over [])
+over_written None has = tt
+over_written (Some kept) has = has.written
+
 came_written : (app : App) (o : ℕ) (call : Call) (r : Reply) → HasLineages r → Written (came app o call r)
-came_written app o (calls.Write key value lineage) (replies.Written written version) has = written_at o written version
+came_written app o (calls.Write key value lineage) (replies.Written written version over) has =
+    each_append (λ i. 1 ≤ i.version) (id_at o written version) (unwrap_or over []) (written_at o written version) (over_written over has)
 came_written app o (calls.Read region key) (replies.Shown rows) has = rows_written o rows.items has
 came_written app o (calls.Scan region key) (replies.Shown rows) has = rows_written o rows.items has
 came_written app o (calls.Poll region key) (replies.Shown rows) has = rows_written o rows.items has
@@ -109,6 +114,7 @@ came_written app o call reply has = tt
 keeps_lineages : (app : App) → Keeps app (Unit {0}) Carries Brings nothing_more Fair
 keeps_lineages app = record {
   none_carried = λ h n. none_lineage;
+  with_carried = λ h n ids carried brings carries. each_append (λ i. 1 ≤ i.version) ids carried (subst (Each (λ i. 1 ≤ i.version)) (append-nil ids) brings) carries.written;
   none_brought = λ h n. tt;
   added = λ h n further ids brings carries short. lineage_with_ids further ids _ brings carries refl short;
   taken_out = λ h n i ids carries. lineage_without i ids carries;

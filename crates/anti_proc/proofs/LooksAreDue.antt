@@ -1,7 +1,7 @@
 -- Each look of a process is the first of all the looks that are planned for what is carried, or follows a look of the same barrier that left
 -- it.
 use Rattle.std.proofs.Common.{◌≡◌, ℕ, zero, suc, Bool, true, false, cond, List, [], ◌∷◌, ◌⊎◌, Option, Some, None, refl, inl, inr}
-use Rattle.std.specs.Prelude.{◌+◌, nat_lt, length, if◌then◌else◌}
+use Rattle.std.specs.Prelude.{◌+◌, ◌++◌, nat_lt, unwrap_or, length, if◌then◌else◌}
 use Rattle.std.specs.Option.{option_map_or}
 use Rattle.anti_ids.specs.Ids.{with_ids}
 use Rattle.anti_ids.specs.declared.id.WriteId.{WriteId}
@@ -103,11 +103,11 @@ module _ (app : App) where
 
   written : (store : ℕ) (variable : Option (List ℕ)) (untracked : Bool) (l : Local) (go : Go) → GoesOn go → (last : Option Ask) (reply : Reply)
       → LooksAreDue app last (after_write store variable untracked l go reply)
-  written store variable untracked l go goes last (replies.Written key version) =
-      let held : Binding = Wrote (record { store = store; key = key; version = version }) in
+  written store variable untracked l go goes last (replies.Written key version over) =
+      let held : Binding = Wrote (record { store = store; key = key; version = version }) (unwrap_or over l.carried) in
       let next : Local = option_map_or (λ name. set name held l) variable l in
-      either untracked last (go next) (carry (id_at store key version) next go) (goes last next)
-      (carried_on (id_at store key version) last next go goes)
+      either untracked last (go next) (carry (id_at store key version ++ unwrap_or over []) next go) (goes last next)
+      (carried_on (id_at store key version ++ unwrap_or over []) last next go goes)
   written store variable untracked l go goes last reply = goes last l
 
   write_asked : (store : ℕ) (value : List ℕ) (variable : Option (List ℕ)) (untracked : Bool) (last : Option Ask) (l : Local) (go : Go) (key : List ℕ) → GoesOn go

@@ -44,7 +44,7 @@ plan_without (store ∷ stores) i lineage none =
     ∙ plan_without stores i lineage both.1
 
 pub plan_removed : (here : List ℕ) (held : Option Binding) (lineage : List WriteId) → plan here lineage ≡ [] → plan here (removed held lineage) ≡ []
-plan_removed here (Some (Wrote id)) lineage none = plan_without here id lineage none
+plan_removed here (Some (Wrote id kept)) lineage none = plan_without here id lineage none
 plan_removed here (Some (Saw store rows)) lineage none = none
 plan_removed here (Some (Heard value)) lineage none = none
 plan_removed here None lineage none = none

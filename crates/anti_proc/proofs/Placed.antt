@@ -35,6 +35,7 @@ Anything h n ids = Unit {0}
 keeps_nothing : (app : App) → Keeps app (Unit {0}) Anything Anything nothing_more AnyReply
 keeps_nothing app = record {
   none_carried = λ h n. tt;
+  with_carried = λ h n ids carried brings carries. tt;
   none_brought = λ h n. tt;
   added = λ h n further ids brings carries short. tt;
   taken_out = λ h n i ids carries. tt;

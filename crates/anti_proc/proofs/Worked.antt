@@ -147,10 +147,10 @@ one = write ∷ read ∷ []
 first_call : does one [] [] ≡ writes_in 1 []
 first_call = refl
 
-second_call : does one [] (replies.Written key 1 ∷ []) ≡ reads
+second_call : does one [] (replies.Written key 1 None ∷ []) ≡ reads
 second_call = refl
 
-end : does one [] (replies.Written key 1 ∷ row ∷ []) ≡ Over Fine
+end : does one [] (replies.Written key 1 None ∷ row ∷ []) ≡ Over Fine
 end = refl
 
 -- an empty body, and a handler that is not there
@@ -161,7 +161,7 @@ no_handler : next_of (tree_of one_store (taken_at (codes "one") [])) [] ≡ Over
 no_handler = refl
 
 -- the second write carries the id of the first, and what was read is not carried
-carried : does (write ∷ read ∷ write ∷ []) [] (replies.Written key 4 ∷ row ∷ []) ≡ writes_in 1 (its_id 0 4 ∷ [])
+carried : does (write ∷ read ∷ write ∷ []) [] (replies.Written key 4 None ∷ row ∷ []) ≡ writes_in 1 (its_id 0 4 ∷ [])
 carried = refl
 
 input : does (statements.Write (codes "s") keys.Input Input None false ∷ []) (codes "v") [] ≡ Make 0 1 (calls.Write (codes "v") (codes "v") [])
@@ -170,7 +170,7 @@ input = refl
 -- so many replies to writes
 abbrev written : ℕ → List Reply
 written zero = []
-written (suc n) = replies.Written key (suc n) ∷ written n
+written (suc n) = replies.Written key (suc n) None ∷ written n
 
 -- sixteen times sixteen writes: the 257th id ends the process, and an id that is there already is none more
 abbrev often : ℕ → List Step → Step
@@ -182,11 +182,11 @@ many = refl
 full : does (often 16 (often 16 (write ∷ []) ∷ []) ∷ write ∷ []) [] (written 257) ≡ Over LineageFull
 full = refl
 
-there_already : does (often 16 (often 16 (write ∷ []) ∷ []) ∷ write ∷ []) [] (replies.Written key 1 ∷ written 256) ≡ Over Fine
+there_already : does (often 16 (often 16 (write ∷ []) ∷ []) ∷ write ∷ []) [] (replies.Written key 1 None ∷ written 256) ≡ Over Fine
 there_already = refl
 
 -- a reply of another form brings nothing, and version 0, which no write has, neither
-no_version : does (write ∷ write ∷ []) [] (replies.Written key 0 ∷ []) ≡ writes_in 1 []
+no_version : does (write ∷ write ∷ []) [] (replies.Written key 0 None ∷ []) ≡ writes_in 1 []
 no_version = refl
 
 other_form : does (write ∷ write ∷ []) [] (replies.Done ∷ []) ≡ writes_in 1 []
@@ -195,14 +195,27 @@ other_form = refl
 -- ---- variables and the lineage
 
 -- `append x` carries the id of an untracked write
-untracked : does (untracked_x ∷ write ∷ []) [] (replies.Written key 4 ∷ []) ≡ writes_in 1 []
+untracked : does (untracked_x ∷ write ∷ []) [] (replies.Written key 4 None ∷ []) ≡ writes_in 1 []
 untracked = refl
 
-appended : does (untracked_x ∷ statements.Append x ∷ write ∷ []) [] (replies.Written key 4 ∷ []) ≡ writes_in 1 (its_id 0 4 ∷ [])
+appended : does (untracked_x ∷ statements.Append x ∷ write ∷ []) [] (replies.Written key 4 None ∷ []) ≡ writes_in 1 (its_id 0 4 ∷ [])
 appended = refl
 
-taken_out : does (write ∷ write_x ∷ statements.Remove x ∷ write ∷ []) [] (replies.Written key 4 ∷ replies.Written key 5 ∷ []) ≡ writes_in 1 (its_id 0 4 ∷ [])
+taken_out : does (write ∷ write_x ∷ statements.Remove x ∷ write ∷ []) [] (replies.Written key 4 None ∷ replies.Written key 5 None ∷ []) ≡ writes_in 1 (its_id 0 4 ∷ [])
 taken_out = refl
+
+-- what is kept beside a write is carried with it, and `append x` carries both; `remove x` takes out its id alone
+kept_too : does (write ∷ write ∷ []) [] (replies.Written key 4 (Some (its_id 0 2 ∷ [])) ∷ []) ≡ writes_in 1 (its_id 0 2 ∷ its_id 0 4 ∷ [])
+kept_too = refl
+
+kept_untracked : does (untracked_x ∷ write ∷ []) [] (replies.Written key 4 (Some (its_id 0 2 ∷ [])) ∷ []) ≡ writes_in 1 []
+kept_untracked = refl
+
+kept_appended : does (untracked_x ∷ statements.Append x ∷ write ∷ []) [] (replies.Written key 4 (Some (its_id 0 2 ∷ [])) ∷ []) ≡ writes_in 1 (its_id 0 2 ∷ its_id 0 4 ∷ [])
+kept_appended = refl
+
+kept_stays : does (write_x ∷ statements.Remove x ∷ write ∷ []) [] (replies.Written key 4 (Some (its_id 0 2 ∷ [])) ∷ []) ≡ writes_in 1 (its_id 0 2 ∷ [])
+kept_stays = refl
 
 -- `transfer x` carries the ids of the rows and the lineages that are stored beside them; a row of version 0 has no id
 transferred : does (read ∷ statements.Transfer x ∷ write ∷ []) [] (replies.Shown (plain (row_of 3 (its_id 1 2 ∷ []) ∷ row_of 0 [] ∷ [])) ∷ [])
@@ -210,7 +223,7 @@ transferred : does (read ∷ statements.Transfer x ∷ write ∷ []) [] (replies
 transferred = refl
 
 -- the version of a write in decimal, and the value of the first row, as keys
-by_version : does (write_x ∷ statements.Write (codes "s") (keys.Of x) Input None true ∷ []) [] (replies.Written key 12 ∷ []) ≡ Make 0 1 (calls.Write (codes "12") [] (its_id 0 12 ∷ []))
+by_version : does (write_x ∷ statements.Write (codes "s") (keys.Of x) Input None true ∷ []) [] (replies.Written key 12 None ∷ []) ≡ Make 0 1 (calls.Write (codes "12") [] (its_id 0 12 ∷ []))
 unfolding digits
 by_version = refl
 
@@ -233,10 +246,10 @@ no_literal_key = refl
 
 -- ---- blocks and spans
 
-nack_in_block : does (often 2 (often 3 (write ∷ statements.Nack ∷ []) ∷ []) ∷ read ∷ []) [] (replies.Written key 1 ∷ []) ≡ Over Fine
+nack_in_block : does (often 2 (often 3 (write ∷ statements.Nack ∷ []) ∷ []) ∷ read ∷ []) [] (replies.Written key 1 None ∷ []) ≡ Over Fine
 nack_in_block = refl
 
-twice_three_times : does (often 2 (often 3 (read ∷ []) ∷ write ∷ []) ∷ []) [] (row ∷ row ∷ row ∷ replies.Written key 1 ∷ row ∷ row ∷ row ∷ []) ≡ writes_in 1 (its_id 0 1 ∷ [])
+twice_three_times : does (often 2 (often 3 (read ∷ []) ∷ write ∷ []) ∷ []) [] (row ∷ row ∷ row ∷ replies.Written key 1 None ∷ row ∷ row ∷ row ∷ []) ≡ writes_in 1 (its_id 0 1 ∷ [])
 twice_three_times = refl
 
 abbrev if_absent : List Step
@@ -249,10 +262,10 @@ present : does if_absent [] (replies.Shown (plain (row_of 0 [] ∷ row_of 1 [] �
 present = refl
 
 -- `root` begins a span with the empty lineage; directly behind `stop` it changes nothing more
-rooted : does (write ∷ statements.Root ∷ write ∷ []) [] (replies.Written key 1 ∷ []) ≡ writes_in 2 []
+rooted : does (write ∷ statements.Root ∷ write ∷ []) [] (replies.Written key 1 None ∷ []) ≡ writes_in 2 []
 rooted = refl
 
-stopped : does (write ∷ statements.Stop ∷ statements.Root ∷ write ∷ []) [] (replies.Written key 1 ∷ []) ≡ writes_in 2 []
+stopped : does (write ∷ statements.Stop ∷ statements.Root ∷ write ∷ []) [] (replies.Written key 1 None ∷ []) ≡ writes_in 2 []
 stopped = refl
 
 rooted_again : does (statements.Stop ∷ statements.Root ∷ statements.Root ∷ write ∷ []) [] [] ≡ writes_in 3 []
@@ -263,17 +276,17 @@ rooted_again = refl
 abbrev nothing : Reply
 nothing = replies.Missing [] []
 
-look : does (write ∷ statements.Barrier ∷ read ∷ []) [] (replies.Written key 7 ∷ []) ≡ Make 0 1 (calls.Look 0 (its_id 0 7 ∷ []) false)
+look : does (write ∷ statements.Barrier ∷ read ∷ []) [] (replies.Written key 7 None ∷ []) ≡ Make 0 1 (calls.Look 0 (its_id 0 7 ∷ []) false)
 look = refl
 
-then_read : does (write ∷ statements.Barrier ∷ read ∷ []) [] (replies.Written key 7 ∷ nothing ∷ []) ≡ reads
+then_read : does (write ∷ statements.Barrier ∷ read ∷ []) [] (replies.Written key 7 None ∷ nothing ∷ []) ≡ reads
 then_read = refl
 
 -- a dry run makes the same look as a dry one, and goes on whatever it finds
-dry_look : does (write ∷ statements.DryRun ∷ read ∷ []) [] (replies.Written key 7 ∷ []) ≡ Make 0 1 (calls.Look 0 (its_id 0 7 ∷ []) true)
+dry_look : does (write ∷ statements.DryRun ∷ read ∷ []) [] (replies.Written key 7 None ∷ []) ≡ Make 0 1 (calls.Look 0 (its_id 0 7 ∷ []) true)
 dry_look = refl
 
-dry_goes_on : does (write ∷ statements.DryRun ∷ read ∷ []) [] (replies.Written key 7 ∷ replies.Missing (its_id 0 7 ∷ []) [] ∷ []) ≡ reads
+dry_goes_on : does (write ∷ statements.DryRun ∷ read ∷ []) [] (replies.Written key 7 None ∷ replies.Missing (its_id 0 7 ∷ []) [] ∷ []) ≡ reads
 dry_goes_on = refl
 
 -- a barrier of the empty lineage makes no look
@@ -281,7 +294,7 @@ none_carried : does (statements.Barrier ∷ one) [] [] ≡ writes_in 1 []
 none_carried = refl
 
 -- a second barrier makes its own look
-looks_again : does (write ∷ statements.Barrier ∷ statements.Barrier ∷ []) [] (replies.Written key 7 ∷ nothing ∷ []) ≡ Make 0 1 (calls.Look 0 (its_id 0 7 ∷ []) false)
+looks_again : does (write ∷ statements.Barrier ∷ statements.Barrier ∷ []) [] (replies.Written key 7 None ∷ nothing ∷ []) ≡ Make 0 1 (calls.Look 0 (its_id 0 7 ∷ []) false)
 looks_again = refl
 
 -- Three stores: `s` in `eu` and `us`, `t` in `us` alone, `u` in `eu` alone. The process runs in `eu`, writes to all three, to `u` first, and its
@@ -296,7 +309,7 @@ abbrev spread : List Step
 spread = write_to (codes "u") ∷ write_to (codes "t") ∷ write_to (codes "s") ∷ statements.Barrier ∷ []
 
 abbrev after_writes : List Reply → List Reply
-after_writes further = replies.Written key 5 ∷ replies.Written key 6 ∷ replies.Written key 7 ∷ further
+after_writes further = replies.Written key 5 None ∷ replies.Written key 6 None ∷ replies.Written key 7 None ∷ further
 
 here : stores_here three_stores 0 ≡ 0 ∷ 2 ∷ []
 here = refl
@@ -366,16 +379,16 @@ full_by_reply : (baggage : List ℕ) (ids carried : List WriteId) → States bag
 full_by_reply baggage ids carried states many = rw (states, many) refl
 
 -- the text in the message holds the id of the write before it
-in_baggage : does (write ∷ call_x ∷ []) [] (replies.Written key 4 ∷ []) ≡ posts kinds.Call 1 [] (codes "1;s/k@4")
+in_baggage : does (write ∷ call_x ∷ []) [] (replies.Written key 4 None ∷ []) ≡ posts kinds.Call 1 [] (codes "1;s/k@4")
 unfolding digits
 in_baggage = refl
 
-sent : does (write ∷ send ∷ read ∷ []) (codes "v") (replies.Written key 4 ∷ []) ≡ posts kinds.Send 1 (codes "v") (codes "1;s/k@4")
+sent : does (write ∷ send ∷ read ∷ []) (codes "v") (replies.Written key 4 None ∷ []) ≡ posts kinds.Send 1 (codes "v") (codes "1;s/k@4")
 unfolding digits
 sent = refl
 
 -- no reply is taken to a send
-goes_on : does (write ∷ send ∷ read ∷ []) [] (replies.Written key 4 ∷ replies.Posted 7 ∷ []) ≡ reads
+goes_on : does (write ∷ send ∷ read ∷ []) [] (replies.Written key 4 None ∷ replies.Posted 7 ∷ []) ≡ reads
 goes_on = refl
 
 -- ---- what a process owes
@@ -384,7 +397,7 @@ goes_on = refl
 abbrev answers : ℕ → List ℕ → List ℕ → Want
 answers span value baggage = Make 1 span (calls.Post (message_of kinds.Reply 3 0 (codes "here") value baggage))
 
-answered : owing reply_owed 1 (write ∷ statements.Reply (Literal (codes "done")) ∷ []) [] (replies.Written key 4 ∷ []) ≡ answers 1 (codes "done") (codes "1;s/k@4")
+answered : owing reply_owed 1 (write ∷ statements.Reply (Literal (codes "done")) ∷ []) [] (replies.Written key 4 None ∷ []) ≡ answers 1 (codes "done") (codes "1;s/k@4")
 unfolding digits
 answered = refl
 
@@ -395,7 +408,7 @@ nacked : owing reply_owed 1 (statements.Nack ∷ read ∷ []) [] [] ≡ answers 
 nacked = refl
 
 -- Behind `root` the reply carries what came to the new span.
-rooted_reply : owing reply_owed 1 (write ∷ statements.Root ∷ statements.Reply Input ∷ []) (codes "v") (replies.Written key 4 ∷ []) ≡ answers 2 (codes "v") (codes "1;")
+rooted_reply : owing reply_owed 1 (write ∷ statements.Root ∷ statements.Reply Input ∷ []) (codes "v") (replies.Written key 4 None ∷ []) ≡ answers 2 (codes "v") (codes "1;")
 rooted_reply = refl
 
 bad_key_answers : owing reply_owed 1 (statements.Reply (Literal (codes "set")) ∷ statements.Read (codes "s") keys.Input x ∷ []) [] [] ≡ answers 1 (codes "set") (codes "1;")
@@ -408,11 +421,11 @@ bad_key_then = refl
 deepest : owing reply_owed 7 (call_x ∷ []) [] [] ≡ posts kinds.Call 8 [] (codes "1;")
 deepest = refl
 
-too_deep : owing reply_owed 8 (write ∷ call_x ∷ []) [] (replies.Written key 4 ∷ []) ≡ answers 1 [] (codes "1;s/k@4")
+too_deep : owing reply_owed 8 (write ∷ call_x ∷ []) [] (replies.Written key 4 None ∷ []) ≡ answers 1 [] (codes "1;s/k@4")
 unfolding digits
 too_deep = refl
 
-then_deep : owing reply_owed 8 (write ∷ call_x ∷ []) [] (replies.Written key 4 ∷ replies.Posted 9 ∷ []) ≡ Over Depth
+then_deep : owing reply_owed 8 (write ∷ call_x ∷ []) [] (replies.Written key 4 None ∷ replies.Posted 9 ∷ []) ≡ Over Depth
 then_deep = refl
 
 too_deep_send : owing Free 8 (send ∷ []) [] [] ≡ Over Depth
@@ -443,15 +456,15 @@ first_carried : (baggage : List ℕ) → States baggage (its_id 0 2 ∷ []) → 
 first_carried baggage states = rw states refl
 
 its_reply : (baggage : List ℕ) → States baggage (its_id 0 2 ∷ [])
-    → begun_by kinds.Call write_reply baggage (replies.Written key 4 ∷ []) ≡ Make 1 1 (calls.Post (message_of kinds.Reply 3 0 (codes "h") (codes "ok") (codes "1;s/k@2,s/k@4")))
+    → begun_by kinds.Call write_reply baggage (replies.Written key 4 None ∷ []) ≡ Make 1 1 (calls.Post (message_of kinds.Reply 3 0 (codes "h") (codes "ok") (codes "1;s/k@2,s/k@4")))
 unfolding digits
 its_reply baggage states = rw states refl
 
 -- a send and a request get none
-no_reply : begun_by kinds.Send write_reply (codes "1;") (replies.Written key 4 ∷ []) ≡ Over Fine
+no_reply : begun_by kinds.Send write_reply (codes "1;") (replies.Written key 4 None ∷ []) ≡ Over Fine
 no_reply = refl
 
-no_reply_either : begun_by kinds.Request write_reply (codes "1;") (replies.Written key 4 ∷ []) ≡ Over Fine
+no_reply_either : begun_by kinds.Request write_reply (codes "1;") (replies.Written key 4 None ∷ []) ≡ Over Fine
 no_reply_either = refl
 
 -- ---- what is foreign
@@ -547,11 +560,11 @@ row_carried : does_pulled 0 0 [] ≡ Make 2 1 (calls.Write key (codes "a") (its_
 row_carried = ap (does_one writing []) (step_again write)
 
 -- At the end of its body it acks the version of the row at the queue.
-acks : does_pulled 0 0 (replies.Written key 2 ∷ []) ≡ Make 0 1 (calls.Ack 5)
-acks = ap (does_one writing (replies.Written key 2 ∷ [])) (step_again write)
+acks : does_pulled 0 0 (replies.Written key 2 None ∷ []) ≡ Make 0 1 (calls.Ack 5)
+acks = ap (does_one writing (replies.Written key 2 None ∷ [])) (step_again write)
 
-acked : does_pulled 0 0 (replies.Written key 2 ∷ replies.Done ∷ []) ≡ Over Fine
-acked = ap (does_one writing (replies.Written key 2 ∷ replies.Done ∷ [])) (step_again write)
+acked : does_pulled 0 0 (replies.Written key 2 None ∷ replies.Done ∷ []) ≡ Over Fine
+acked = ap (does_one writing (replies.Written key 2 None ∷ replies.Done ∷ [])) (step_again write)
 
 -- At `nack` it nacks it.
 nacks : does_pulled 0 1 [] ≡ Make 0 1 (calls.Nack 5)

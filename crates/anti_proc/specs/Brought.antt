@@ -1,5 +1,5 @@
 -- What came to the spans of a process by its calls, and what it carries.
-use Rattle.std.specs.Prelude.{ℕ, ◌≡◌, ◌==◌, true, List, [], ◌∷◌, ◌++◌, Some, unwrap_or, if◌then◌else◌}
+use Rattle.std.specs.Prelude.{ℕ, ◌≡◌, ◌==◌, true, List, [], ◌∷◌, ◌++◌, Some, IfSome, unwrap_or, if◌then◌else◌}
 use Rattle.std.specs.Option.{option_map_or}
 use Rattle.anti_ids.specs.Each.{Each}
 use Rattle.anti_ids.specs.Invariants.{IsLineage}
@@ -43,8 +43,9 @@ CarriesWhatCame app first tree =
     (replies : List Reply) (ask : Ask) → ask_of (after tree replies) ≡ Some ask
     → (i : WriteId) → has_id i ask.carried ≡ true → has_id i (brought app first ask.span (made tree replies)) ≡ true
 
--- The rows of a reply have lineages.
+-- What a reply to a write tells, and the rows of a reply, have lineages.
 abbrev pub HasLineages : Reply → Type 0
+HasLineages (replies.Written key version over) = IfSome over IsLineage
 HasLineages (replies.Shown rows) = Each (λ row. IsLineage row.lineage) rows.items
 HasLineages (replies.Pulled row) = IsLineage row.lineage
 HasLineages _ = Unit {0}

@@ -1,5 +1,5 @@
 -- Replies that are not of the application.
-use Rattle.std.specs.Prelude.{Bool, false, not, ◌&&◌, is_some}
+use Rattle.std.specs.Prelude.{Bool, false, not, ◌&&◌, is_some, Some}
 use Rattle.std.specs.List.{list_all}
 use Rattle.anti_kind.specs.declared.message.Message.{Message}
 use Rattle.anti_kind.specs.declared.call.Reply.{Reply}
@@ -13,6 +13,7 @@ has_baggage app m = is_some (stated_lineage app m)
 -- Whether a reply is foreign: the baggage of its message states no lineage over the stores, or an id in one of its lineages is of no
 -- store of the application.
 abbrev pub is_foreign : App → Reply → Bool
+is_foreign app (replies.Written key version (Some kept)) = not (has_stores app kept)
 is_foreign app (replies.Shown rows) = not (list_all (λ row. has_stores app row.lineage) rows.items)
 is_foreign app (replies.Missing missing unwritten) = not (has_stores app missing && has_stores app unwritten)
 is_foreign app (replies.Pulled row) = not (has_stores app row.lineage)

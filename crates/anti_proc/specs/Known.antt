@@ -1,5 +1,5 @@
 -- What is known of each call and each reply in a run of an application, so that none is foreign.
-use Rattle.std.specs.Prelude.{◌≡◌, ℕ, ◌≤◌, true, List}
+use Rattle.std.specs.Prelude.{◌≡◌, ℕ, ◌≤◌, true, List, IfSome}
 use Rattle.anti_ids.specs.Each.{Each}
 use Rattle.anti_ids.specs.Names.{is_name}
 use Rattle.anti_ids.specs.declared.id.WriteId.{WriteId}
@@ -48,7 +48,7 @@ IsCallAt app o _ = Unit {0}
 
 -- The reply of an object to a call.
 abbrev pub IsReplyAt : App → ℕ → Reply → Type 0
-IsReplyAt app o (replies.Written key version) = AreIdsOf app (id_at o key version)
+IsReplyAt app o (replies.Written key version over) = AreIdsOf app (id_at o key version) × IfSome over (IsOverApp app)
 IsReplyAt app o (replies.Shown rows) = Each (IsRowOf app o) rows.items
 IsReplyAt app o (replies.Missing missing unwritten) = AreIdsOf app missing × AreIdsOf app unwritten
 IsReplyAt app o (replies.Pulled row) = IsRowOf app o row

@@ -70,15 +70,16 @@ row_ids store row = id_at store row.key row.version ++ row.lineage
 abbrev pub rows_ids : ℕ → List Row → List WriteId
 rows_ids store rows = flat_map (row_ids store) rows
 
--- by what the variable holds, where it is set: a write has its id, what was read those of its rows, and the value of a reply has none
+-- by what the variable holds, where it is set: a write has its id and those of what is kept beside it, what was read those of its rows, and
+-- the value of a reply has none
 abbrev pub held_ids : Option Binding → List WriteId
-held_ids (Some (Wrote id)) = id_at id.store id.key id.version
+held_ids (Some (Wrote id lineage)) = id_at id.store id.key id.version ++ lineage
 held_ids (Some (Saw store rows)) = rows_ids store rows.items
 held_ids _ = []
 
--- some ids without the id of a write
+-- some ids without the id of a write; what is kept beside it stays
 abbrev pub removed : Option Binding → List WriteId → List WriteId
-removed (Some (Wrote id)) ids = without_id id ids
+removed (Some (Wrote id lineage)) ids = without_id id ids
 removed _ ids = ids
 
 -- whether no row was read that has a version
@@ -91,7 +92,7 @@ is_absent _ = true
 -- What `$X` stands for, by what X holds: the version of a write in decimal, the value of the first row that was read, that of a reply. It is
 -- empty where there is no such row, and where X is not set.
 abbrev pub held_text : Option Binding → List ℕ
-held_text (Some (Wrote id)) = decimal id.version
+held_text (Some (Wrote id lineage)) = decimal id.version
 held_text (Some (Saw store rows)) = option_map_or (λ row. row.value) (slice_get rows.items 0) []
 held_text (Some (Heard value)) = value
 held_text None = []

@@ -1,5 +1,5 @@
 -- What a handler does.
-use Rattle.std.specs.Prelude.{ℕ, zero, suc, ◌+◌, unwrap_or, Bool, true, false, List, [], ◌∷◌, Option, Some, None, length, map, if◌then◌else◌, nat_lt}
+use Rattle.std.specs.Prelude.{ℕ, zero, suc, ◌+◌, unwrap_or, Bool, true, false, List, [], ◌∷◌, ◌++◌, Option, Some, None, length, map, if◌then◌else◌, nat_lt}
 use Rattle.std.specs.Option.{option_map_or}
 use Rattle.anti_ids.specs.Ids.{with_ids}
 use Rattle.anti_ids.specs.List.{plain}
@@ -46,13 +46,14 @@ carry ids l go =
     let all = with_ids ids l.carried in
     if nat_lt MOST_IDS (length all) then Ends LineageFull else go (record l { carried = all })
 
--- On the reply to a write its variable holds the write, and the process carries the write's id, unless the write is untracked. A reply of
--- another form brings nothing.
+-- On the reply to a write its variable holds the write, and the process carries the write's id and what is kept beside it, unless the write
+-- is untracked. Where the reply tells nothing of that, it is what was handed in, which the process carries. A reply of another form brings
+-- nothing.
 abbrev pub after_write : ℕ → Option (List ℕ) → Bool → Local → Go → Reply → Tree
-after_write store variable untracked l go (replies.Written key version) =
-    let held = Wrote (record { store = store; key = key; version = version }) in
+after_write store variable untracked l go (replies.Written key version over) =
+    let held = Wrote (record { store = store; key = key; version = version }) (unwrap_or over l.carried) in
     let next = option_map_or (λ name. set name held l) variable l in
-    if untracked then go next else carry (id_at store key version) next go
+    if untracked then go next else carry (id_at store key version ++ unwrap_or over []) next go
 after_write store variable untracked l go _ = go l
 
 -- What a read shows is held by its variable, and not carried.

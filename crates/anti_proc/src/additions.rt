@@ -1,4 +1,4 @@
-ghost use Rattle.std.specs.Prelude.{◌≡◌, ◌==◌, List, IfOk, option_map};
+ghost use Rattle.std.specs.Prelude.{◌≡◌, ◌==◌, [], ◌++◌, List, IfOk, option_map, unwrap_or};
 ghost use Rattle.std.specs.List.{list_all};
 ghost use Rattle.anti_ids.specs.declared.id.WriteId.{WriteId};
 ghost use Rattle.anti_proc.specs.inner.Adding.{Adds};
@@ -11,7 +11,7 @@ use crate::next::Stage;
 use crate::variables::Binding;
 use anti_baggage::Carried;
 use anti_ids::{Lineage, LineageRefused, MOST_IDS, NoMemory, WriteId};
-use anti_kind::Row;
+use anti_kind::{Handle, Row};
 
 // Adds the id of a version to a lineage.
 fn add_id(carried: &mut Carried, id: WriteId) -> Result<(), LineageRefused>
@@ -23,8 +23,16 @@ fn add_id(carried: &mut Carried, id: WriteId) -> Result<(), LineageRefused>
     Ok(())
 }
 
-/// Adds the ids that a row of a store brings.
+// Adds the id of a version, and what is kept beside it.
 #[tactic(auto, using(crate::proofs::Unions::more_refused, crate::proofs::Unions::with_ids_append))]
+fn add_kept(carried: &mut Carried, id: WriteId, kept: &Lineage) -> Result<(), LineageRefused>
+    ensures { Adds (id_at id.store id.key id.version ++ kept.now) carried.old carried.new result }
+{
+    add_id(carried, id)?;
+    carried.transfer(kept)
+}
+
+/// Adds the ids that a row of a store brings.
 pub fn add_row(carried: &mut Carried, store: u32, row: &Row) -> Result<(), LineageRefused>
     ensures { Adds (row_ids store row.now) carried.old carried.new result }
 {
@@ -33,8 +41,7 @@ pub fn add_row(carried: &mut Carried, store: u32, row: &Row) -> Result<(), Linea
         key: row.key,
         version: row.version,
     };
-    add_id(carried, id)?;
-    carried.transfer(&row.lineage)
+    add_kept(carried, id, &row.lineage)
 }
 
 // Adds the ids that rows of a store bring.
@@ -53,7 +60,7 @@ fn add_held(carried: &mut Carried, held: Option<&Binding>) -> Result<(), Lineage
     ensures { Adds (held_ids (option_map (λ h. h.now) held.entry)) carried.old carried.new result }
 {
     match held {
-        Some(Binding::Wrote(id)) => add_id(carried, *id),
+        Some(Binding::Wrote { id, lineage }) => add_kept(carried, *id, lineage),
         Some(Binding::Saw { store, rows }) => add_rows(carried, *store, rows.as_slice()),
         Some(Binding::Heard(_)) => Ok(()),
         None => Ok(()),
@@ -95,9 +102,38 @@ pub fn add(carried: &mut Carried, held: Option<&Binding>) -> Result<Option<Stage
 pub fn take_out(carried: &mut Carried, held: Option<&Binding>)
     ensures { carried.new ≡ removed (option_map (λ h. h.now) held.entry) carried.old }
 {
-    if let Some(Binding::Wrote(id)) = held {
+    if let Some(Binding::Wrote { id, .. }) = held {
         carried.remove(id);
     }
+}
+
+// Adds the id of a write, and what is kept beside it, where that is told.
+fn add_over(
+    carried: &mut Carried,
+    id: WriteId,
+    over: &Option<Handle<Lineage>>,
+) -> Result<(), LineageRefused>
+    ensures { Adds (id_at id.store id.key id.version ++ unwrap_or over.now []) carried.old carried.new result }
+{
+    match over {
+        Some(kept) => add_kept(carried, id, kept.get()),
+        None => add_id(carried, id),
+    }
+}
+
+/// Adds the id of a write to a lineage, and what is kept beside it, where that is told. Where they are too many the process ends, and some
+/// may be added.
+pub fn add_write(
+    carried: &mut Carried,
+    id: &WriteId,
+    over: &Option<Handle<Lineage>>,
+) -> Result<Option<Stage>, NoMemory>
+    ensures { IfOk result (λ stage. (s : Setting) (l : Local) (go : Go) → l.carried ≡ carried.old
+        → stage_or stage s (record l { carried = carried.new }) go
+        ≡ carry (id_at id.now.store id.now.key id.now.version ++ unwrap_or over.now []) l go) }
+{
+    let added = add_over(carried, *id, over);
+    next_with(carried, added)
 }
 
 /// Adds the ids of another lineage to a lineage. Where they are too many the process ends.

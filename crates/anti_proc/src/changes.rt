@@ -1,15 +1,15 @@
-ghost use Rattle.std.specs.Prelude.{◌≡◌, Some, ◌<◌, [], List as Items, IfOk, OnOk};
-ghost use Rattle.std.specs.Option.{option_map_or};
-ghost use Rattle.anti_proc.specs.Local.{first_local, held_ids, Local, set, Setting};
+ghost use Rattle.std.specs.Prelude.{◌≡◌, ◌++◌, ◌<◌, [], unwrap_or, List as Items, IfOk, OnOk};
+ghost use Rattle.anti_proc.specs.Local.{first_local, id_at, Setting};
 ghost use Rattle.anti_proc.specs.Meaning.{Go, carry};
 ghost use Rattle.anti_proc.specs.declared.variables.Variable.{Variable};
 ghost use Rattle.anti_proc.specs.inner.Standing.{local_by, stage_or, variables_in};
 
-use crate::additions::{add, carry};
+use crate::additions::{add_write, carry};
 use crate::next::Stage;
-use crate::variables::{Binding, Variable, Variables, make_room, set};
+use crate::variables::{Variable, Variables, make_room, set};
 use anti_baggage::Carried;
 use anti_ids::{Lineage, List, Name, NoMemory, Value, WriteId};
+use anti_kind::Handle;
 use std::alloc::Global;
 
 /// What became of the variables of a process since its last call.
@@ -55,17 +55,6 @@ pub fn first_variables(alloc: Global, since: Since) -> Result<Variables, NoMemor
     Ok(variables)
 }
 
-/// What becomes of the variables where one is set, if there is one to set.
-pub fn set_or(variable: Option<Name>, held: Binding) -> Since
-    ensures { (l : Local) → record l { variables = variables_in result l.variables }
-        ≡ option_map_or (λ name. set name held l) variable l }
-{
-    match variable {
-        Some(name) => Since::Set(Variable { name, held }),
-        None => Since::Same,
-    }
-}
-
 impl Changes {
     /// What a process knows that begins with a lineage. It takes no memory.
     pub fn first(alloc: Global, carried: Carried) -> Changes
@@ -81,15 +70,18 @@ impl Changes {
         }
     }
 
-    /// Adds the id of a write to the lineage. Where there are too many the process ends.
-    pub fn add_write(&mut self, id: &WriteId) -> Result<Option<Stage>, NoMemory>
+    /// Adds the id of a write to the lineage, and what is kept beside it, where that is told. Where there are too many the process ends.
+    pub fn add_write(
+        &mut self,
+        id: &WriteId,
+        over: &Option<Handle<Lineage>>,
+    ) -> Result<Option<Stage>, NoMemory>
         ensures goes { IfOk result (λ stage. (before : Items Variable) (s : Setting) (go : Go)
             → stage_or stage s (local_by self.new before) go
-            ≡ carry (held_ids (Some (Binding.Wrote id.now))) (local_by self.old before) go) }
+            ≡ carry (id_at id.now.store id.now.key id.now.version ++ unwrap_or over.now []) (local_by self.old before) go) }
         ensures span { OnOk result (self.new.span ≡ self.old.span) }
     {
-        let held = Binding::Wrote(*id);
-        add(&mut self.carried, Some(&held))
+        add_write(&mut self.carried, id, over)
     }
 
     /// Adds the ids of a lineage to the lineage. Where there are too many the process ends.

@@ -72,6 +72,10 @@ pub fn brought(alloc: Global, app: &App, reply: &Reply) -> Result<Lineage, ProcF
     ensures foreign { result ≡ Err ProcFault.Foreign → is_foreign app.now reply.now ≡ true }
 {
     match reply {
+        Reply::Written {
+            over: Some(kept),
+            ..
+        } => none_unless(alloc, !has_stores(app, kept.get())),
         Reply::Shown(rows) => none_unless(alloc, !have_stores(app, rows.as_slice())),
         Reply::Missing { missing, unwritten } => none_unless(
             alloc,

@@ -1,8 +1,11 @@
-ghost use Rattle.std.specs.Prelude.{◌≡◌, ◌<◌, None, [], IfOk, OnOk};
+ghost use Rattle.std.specs.Prelude.{◌≡◌, ◌<◌, None, [], unwrap_or, IfOk, OnOk};
 ghost use Rattle.anti_app.specs.declared.app.App.{App};
 ghost use Rattle.anti_app.specs.Objects.{body_of};
 ghost use Rattle.anti_app.specs.Running.{CanRun};
 ghost use Rattle.anti_proc.specs.declared.given.Given.{Given};
+ghost use Rattle.anti_proc.specs.declared.variables.Binding.{Binding};
+ghost use Rattle.std.specs.Option.{option_map_or};
+ghost use Rattle.anti_proc.specs.Local.{Local, set};
 ghost use Rattle.anti_proc.specs.Meaning.{after_read, after_reply, after_write, body_tree, task_tree};
 ghost use Rattle.anti_proc.specs.Trees.{branch};
 ghost use Rattle.anti_proc.specs.inner.Going.{going_tree};
@@ -10,7 +13,7 @@ ghost use Rattle.anti_proc.specs.inner.Running.{AdvanceHasSpans, HasSpans, LifeH
 ghost use Rattle.anti_proc.specs.inner.Standing.{full_in, going, life_tree, local_by, local_in, local_of, run_after, run_going, run_of, setting, setting_in, stage_or, stage_tree, variables_in};
 ghost use Rattle.anti_proc.specs.inner.Statements.{came_by};
 
-use crate::changes::{Changes, Since, first_variables, follow, set_or};
+use crate::changes::{Changes, Since, first_variables, follow};
 use crate::cursor::Cursor;
 use crate::end::BodyEnd;
 use crate::given::Given;
@@ -22,7 +25,7 @@ use crate::variables::{Binding, Variable, Variables};
 use crate::way::Way;
 use anti_app::{App, body_of};
 use anti_ids::{Copies, Lineage, Name, NoMemory, WriteId};
-use anti_kind::Reply;
+use anti_kind::{Handle, Reply};
 use std::alloc::Global;
 use std::mem;
 
@@ -284,11 +287,42 @@ impl Run {
         }
     }
 
+    // What a variable holds of a write that it made. Where the reply does not tell what is kept, that is what was handed in.
+    fn written(&self, id: &WriteId, over: &Option<Handle<Lineage>>) -> Result<Binding, NoMemory>
+        ensures { IfOk result (λ held. held
+            ≡ Binding.Wrote id.now (unwrap_or over.now self.now.at.value.changes.carried)) }
+    {
+        let kept = match over {
+            Some(kept) => kept.get(),
+            None => self.at.changes.carried.lineage(),
+        };
+        let lineage = kept.copy(self.given.alloc)?;
+        Ok(Binding::Wrote { id: *id, lineage })
+    }
+
+    // What becomes of the variables by a write that it made.
+    fn since_write(
+        &self,
+        id: &WriteId,
+        over: &Option<Handle<Lineage>>,
+        variable: Option<Name>,
+    ) -> Result<Since, NoMemory>
+        ensures { IfOk result (λ since. (l : Local) → record l { variables = variables_in since l.variables }
+            ≡ option_map_or (λ name. set name (Binding.Wrote id.now (unwrap_or over.now self.now.at.value.changes.carried)) l) variable l) }
+    {
+        let Some(name) = variable else {
+            return Ok(Since::Same);
+        };
+        let held = self.written(id, over)?;
+        Ok(Since::Set(Variable { name, held }))
+    }
+
     // What becomes of it with a write that it made.
     fn holding_write(
         &self,
         app: &App,
         id: &WriteId,
+        over: &Option<Handle<Lineage>>,
         variable: Option<Name>,
         untracked: bool,
     ) -> Result<Advance, NoMemory>
@@ -296,15 +330,15 @@ impl Run {
         requires spans { HasSpans app.now self.now.given.role self.now.at.value.cursor self.now.at.value.changes.span }
         ensures goes { IfOk result (λ a. run_after app.now self.now a
             ≡ after_write id.now.store variable untracked (local_of self.now)
-            (going app.now self.now.given self.now.at.value.cursor) (Reply.Written id.now.key id.now.version)) }
+            (going app.now self.now.given self.now.at.value.cursor) (Reply.Written id.now.key id.now.version over.now)) }
         ensures spans { IfOk result (λ a. AdvanceHasSpans app.now (Life.Runs self.now) a) }
     {
-        let since = set_or(variable, Binding::Wrote(*id));
+        let since = self.since_write(id, over, variable)?;
         let mut changes = self.changes(since)?;
         if untracked {
             return self.go_on(app, changes, None);
         }
-        let stage = changes.add_write(id)?;
+        let stage = changes.add_write(id, over)?;
         self.go_on(app, changes, stage)
     }
 
@@ -324,13 +358,13 @@ impl Run {
         ensures spans { IfOk result (λ a. AdvanceHasSpans app.now (Life.Runs self.now) a) }
     {
         match reply {
-            Reply::Written { key, version } => {
+            Reply::Written { key, version, over } => {
                 let id = WriteId {
                     store: self.at.next.object,
                     key: *key.get(),
                     version: *version,
                 };
-                self.holding_write(app, &id, variable, untracked)
+                self.holding_write(app, &id, over, variable, untracked)
             }
             _ => self.passed(app, None),
         }

@@ -2,14 +2,14 @@ ghost use Rattle.std.specs.Prelude.{◌≡◌, ◌<◌, OnErr, OnOk, option_map}
 ghost use Rattle.anti_proc.specs.Local.{held_in, with_held};
 ghost use Rattle.anti_proc.specs.inner.Variables.{place_among};
 
-use anti_ids::{List, Name, NoMemory, Value, WriteId};
+use anti_ids::{Lineage, List, Name, NoMemory, Value, WriteId};
 use anti_kind::Rows;
 
 /// What a variable of a handler holds.
 #[derive(Drop)]
 pub enum Binding {
-    /// The id of a write.
-    Wrote(WriteId),
+    /// The id of a write, and the lineage that the store keeps beside it.
+    Wrote { id: WriteId, lineage: Lineage },
     /// The rows that a read of the store of this number showed.
     Saw { store: u32, rows: Rows },
     /// The value of a reply.

@@ -28,7 +28,7 @@ fn held_text(alloc: Global, held: &Binding) -> Result<Value, NoMemory>
     ensures { IfOk result (λ v. v ≡ held_text (Some held.now)) }
 {
     match held {
-        Binding::Wrote(id) => decimal(alloc, id.version),
+        Binding::Wrote { id, .. } => decimal(alloc, id.version),
         Binding::Saw { rows, .. } => match rows.as_slice().first() {
             Some(row) => row.value.copy(alloc),
             None => Ok(Value::empty(alloc)),

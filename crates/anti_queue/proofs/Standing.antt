@@ -1,5 +1,7 @@
 -- A queue that made one call more stands for the history with that call.
 use Rattle.std.proofs.Common.{◌≡◌, ℕ, ◌<◌, ◌≤◌, false, List, [], ◌∷◌, ◌++◌, length, get_or, refl, sym, ap, subst, ◌∙◌, arith}
+use Rattle.anti_kind.specs.declared.call.Reply.{Reply}
+use Rattle.anti_ids.specs.declared.id.WriteId.{WriteId}
 use Rattle.anti_kind.specs.declared.entry.Entry.{Entry}
 use Rattle.anti_kind.specs.Stored.{rows, is_shipped}
 use Rattle.anti_kind.specs.Store.{Store, is_pull}
@@ -12,14 +14,14 @@ use Rattle.anti_kind.proofs.Rows.{is_write, is_shipping, rows_other, shipped_oth
 use Rattle.anti_replicas.specs.declared.replicas.Replicas.{Replicas}
 use Rattle.anti_replicas.specs.declared.channels.Channels.{Channels}
 use Rattle.anti_replicas.specs.Channels.{Counts}
-use Rattle.anti_replicas.specs.Stores.{At, number_of, regions_of}
+use Rattle.anti_replicas.specs.Stores.{At, MayWrite, number_of, regions_of}
 use Rattle.anti_replicas.specs.inner.Standing.{Stands}
 use Rattle.anti_replicas.proofs.Counting.{counts_other}
 use Rattle.anti_queue.specs.declared.message_states.MessageStates.{MessageStates}
 use Rattle.anti_queue.specs.declared.queue_store.Queue.{Queue}
 use Rattle.anti_queue.specs.inner.Marks.{AreMessages, can_go_out}
 use Rattle.anti_queue.specs.inner.Lists.{subs_of, HaveFree, HaveSpare, AreSorted}
-use Rattle.anti_queue.specs.QueueStates.{its_store, its_start, QueueStands}
+use Rattle.anti_queue.specs.QueueStates.{its_store, its_start, QueueStands, MayWriteTo}
 use Rattle.anti_queue.proofs.Marking.{SameMarks, same_other, messages_kept}
 use Rattle.anti_queue.proofs.Listing.{has_spare, free_same, free_kept, free_sorted}
 
@@ -42,6 +44,22 @@ base_at m h at = record { sane = at.sane; legal = at.legal; state = at.state.bas
 
 pub base_next : (m : Queue) (b : Replicas) (h : List Entry) (e : Entry) → StandsFor (its_start m) (QueueStands m) h → Follows (its_start m) h e → Stands b (its_store m) (h ++ e ∷ []) → At b (its_store m) (h ++ e ∷ [])
 base_next m b h e at f stands = record { sane = at.sane; legal = legal_more (its_start m) h e at.legal f; state = stands }
+
+-- a write that may be made may be made of the base
+pub base_may : (m : Queue) (b : Replicas) (channel value : List ℕ) (lineage : List WriteId) (reply : Reply) → b ≡ m.base → MayWriteTo m channel value lineage reply → MayWrite b value lineage reply
+base_may m b channel value lineage reply same may = (
+  its_store m,
+  channel,
+  record {
+    may = record {
+      history = may.may.history;
+      stands_for = subst (λ (x : Replicas). At x (its_store m) may.may.history) (sym same) (base_at m may.may.history may.may.stands_for);
+      is_ready = may.may.is_ready;
+      fits = may.may.fits;
+    };
+    is_due = may.is_due;
+  },
+)
 
 -- each list has room for one version more
 pub have_spare : (m : Queue) (h : List Entry) → QueueStands m h → HaveSpare m.subscribers.list.items

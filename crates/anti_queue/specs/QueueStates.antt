@@ -2,13 +2,15 @@
 -- subscription.
 use Rattle.std.specs.Prelude.{◌≡◌, ℕ, ◌+◌, ◌^◌, ◌<◌, List, [], ◌∷◌, ◌++◌}
 use Rattle.std.specs.Vec.{vec_len, vec_capacity}
+use Rattle.anti_ids.specs.declared.id.WriteId.{WriteId}
 use Rattle.anti_kind.specs.declared.call.Call.{Call}
-use Rattle.anti_kind.specs.declared.call.Call.TheVariants.{Again, Look}
+use Rattle.anti_kind.specs.declared.call.Call.TheVariants.{Write, Again, Look}
+use Rattle.anti_kind.specs.declared.call.Reply.{Reply}
 use Rattle.anti_kind.specs.declared.entry.Entry.{Entry}
 use Rattle.anti_kind.specs.Store.{Store}
 use Rattle.anti_kind.specs.Starts.{queue_store}
 use Rattle.anti_kind.specs.Objects.{Start, store, Follows}
-use Rattle.anti_kind.specs.Machines.{StandsFor, MayMake}
+use Rattle.anti_kind.specs.Machines.{StandsFor, MayMake, MayApply}
 use Rattle.anti_replicas.specs.Channels.{count_at, HasChannel, Counts}
 use Rattle.anti_replicas.specs.Stores.{number_of, regions_of}
 use Rattle.anti_replicas.specs.inner.Standing.{Stands}
@@ -32,6 +34,10 @@ pub record QueueStands (m : Queue) (h : List Entry) : Type 0 where
 -- some history for which it stands has the call ready, and it fits
 abbrev pub MayCall : Queue → Call → Type 0
 MayCall m c = MayMake (its_start m) (QueueStands m) c
+
+-- and a write of the value to the channel, with the lineage, which is due the reply
+abbrev pub MayWriteTo : Queue → List ℕ → List ℕ → List WriteId → Reply → Type 0
+MayWriteTo m channel value lineage reply = MayApply (its_start m) (QueueStands m) (Write channel value lineage) reply
 
 -- n stands for what m stands for, with an entry of the call
 abbrev pub Makes : Queue → Call → Queue → Type 0

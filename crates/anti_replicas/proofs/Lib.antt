@@ -8,6 +8,7 @@ pub mod Groups
 pub mod Backlogs
 pub mod Behind
 pub mod Standing
+pub mod Replacing
 pub mod Scanning
 pub mod Keys
 pub mod Counting

@@ -33,12 +33,12 @@ same_key key k same = (bytes_eq-Decides key k).0 same
 some_same : (i j : ℕ) → Some i ≡ Some j → i ≡ j
 some_same i j same = cc
 
--- no version at any region
+-- no version at any place
 abbrev blank : List ℕ
-blank = replicate 8 0
+blank = replicate 9 0
 
 none_stands : (g : ℕ) → get_or blank g 0 ≡ 0
-none_stands g = ⊎_elim (λ (low : g < 8). get_or-replicate 8 g 0 0 low) (λ (high : 8 ≤ g). get_or_past blank g 0 high) (cases_lt g 8)
+none_stands g = ⊎_elim (λ (low : g < 9). get_or-replicate 9 g 0 0 low) (λ (high : 9 ≤ g). get_or_past blank g 0 high) (cases_lt g 9)
 
 -- the keys that stand in the map tell their numbers
 number_by : (m n : Newest) → n.numbers.entries ≡ m.numbers.entries → (k : List ℕ) → key_number n k ≡ key_number m k

@@ -15,6 +15,7 @@ use Rattle.anti_kind.proofs.FactLaws.{has_parts}
 use Rattle.anti_kind.specs.Stored.{rows, is_shipped, parts_of, parts, is_whole, greatest, shows_of}
 use Rattle.anti_kind.specs.Store.{Store}
 use Rattle.anti_kind.specs.Objects.{store, Follows, IsLegal}
+use Rattle.anti_kind.proofs.Overs.{greatest_push}
 use Rattle.anti_kind.proofs.Rows.{is_write, is_shipping, new_row, rows_write, rows_other, shipped_other, shipped_ship, version_at, or_false}
 use Rattle.anti_kind.proofs.Shipped.{never_shipped}
 use Rattle.anti_replicas.proofs.Numbers.{all_numbers}
@@ -39,9 +40,10 @@ greatest_none test k (r ∷ rs) none =
     rw (off, rest) refl
 
 -- where one row more stands at the end, and does not pass
-greatest_push : (test : Row → Bool) (k : List ℕ) (rs : List Row) (r : Row) → test r ≡ false → greatest test k (rs ++ r ∷ []) ≡ greatest test k rs
-greatest_push test k [] r off = rw (off, and_false (bytes_eq r.key k)) refl
-greatest_push test k (x ∷ rs) r off = let rest : greatest test k (rs ++ r ∷ []) ≡ greatest test k rs = greatest_push test k rs r off in rw rest refl
+greatest_past : (test : Row → Bool) (k : List ℕ) (rs : List Row) (r : Row) → test r ≡ false → greatest test k (rs ++ r ∷ []) ≡ greatest test k rs
+greatest_past test k rs r off =
+    let none : (bytes_eq r.key k && test r) ≡ false = ap (λ (b : Bool). bytes_eq r.key k && b) off ∙ and_false (bytes_eq r.key k) in
+    greatest_push test k rs r ∙ ap (λ (b : Bool). max (greatest test k rs) (cond b r.version 0)) none ∙ omega arith
 
 raised : (here was now : Bool) (v rest : ℕ) → (was ≡ true → now ≡ true)
     → max (cond (here && now) v 0) rest ≡ max (cond (here && now) v 0) (max (cond (here && was) v 0) rest)
@@ -93,7 +95,7 @@ module _ (s : Store) (h : List Entry) (e : Entry) (l : IsLegal (store s) h) (f :
     shows_write k =
         greatest_same (is_whole s.kind h g) (is_whole s.kind (h ++ e ∷ []) g) k (rows (h ++ e ∷ [])) (λ i d short. whole_other (ap is_shipping is) (get_or (rows (h ++ e ∷ [])) i d))
         ∙ ap (greatest (is_whole s.kind h g) k) (rows_write s h e key value lineage f is)
-        ∙ greatest_push (is_whole s.kind h g) k (rows h) (new_row s h key value lineage) new_not_whole
+        ∙ greatest_past (is_whole s.kind h g) k (rows h) (new_row s h key value lineage) new_not_whole
 
   module _ (region version part : ℕ) (is : e.call ≡ Ship region version part) where
     -- what was shipped stays

@@ -1,10 +1,11 @@
 -- A base that made one call more stands for the history with that call.
-use Rattle.std.proofs.Common.{◌≡◌, ◌≢◌, ℕ, ◌+◌, ◌-◌, ◌*◌, ◌<◌, ◌≤◌, max, min, Bool, true, false, cond, ◌&&◌, List, [], ◌∷◌, ◌++◌, length, map, get_or, set, replicate, Option, Some, refl, sym, ap, subst, ◌∙◌, inr, ⊎_elim, ◌==◌, eq-eqb, leb-true, true≢false, arith}
-use Rattle.std.specs.Prelude.{bytes_eq, ◌^◌}
+use Rattle.std.proofs.Common.{◌≡◌, ◌≢◌, ℕ, ◌+◌, ◌-◌, ◌*◌, ◌<◌, ◌≤◌, max, min, Bool, true, false, cond, ◌&&◌, List, [], ◌∷◌, ◌++◌, length, map, get_or, set, replicate, All, Option, Some, refl, sym, ap, subst, ◌∙◌, inr, ⊎_elim, ◌==◌, eq-eqb, ne_eqb, leb-true, true≢false, arith}
+use Rattle.std.specs.Prelude.{bytes_eq, unwrap_or, ◌^◌}
 use Rattle.std.specs.List.{range_with_len, prefix_len}
 use Rattle.anti_flight.specs.Queued.{Queued, queued}
 use Rattle.std.proofs.lemmas.Bool.{cases_lt, cases_eq, both_ways}
 use Rattle.std.proofs.lemmas.List.{map_push, length_push, get_or_append_left, get_or_push, map-set, set-get_or, get_or-set_same, get_or-set_other, length-set}
+use Rattle.std.proofs.lemmas.List.Elements.{All-push, All-weaker}
 use Rattle.std.proofs.lemmas.List.Folds.{list_all_at}
 use Rattle.std.proofs.lemmas.List.Sums.{prefix_len_passes}
 use Rattle.std.proofs.lemmas.List.FromFn.{get_or-range_with_len, length-range_with_len}
@@ -14,14 +15,17 @@ use Rattle.anti_ids.specs.declared.id.WriteId.{WriteId}
 use Rattle.anti_kind.specs.Kinds.{facts_of}
 use Rattle.anti_kind.specs.declared.call.Call.{Call}
 use Rattle.anti_kind.specs.declared.call.Call.TheVariants.{Write, Ship}
+use Rattle.anti_kind.specs.declared.call.Reply.{Reply}
+use Rattle.anti_kind.specs.declared.call.Reply.TheVariants.{Written}
 use Rattle.anti_kind.specs.declared.entry.Entry.{Entry}
 use Rattle.anti_kind.specs.declared.row.Row.{Row}
 use Rattle.anti_kind.specs.declared.store_kind.StoreKind.{StoreKind}
-use Rattle.anti_kind.specs.Stored.{rows, is_shipped, parts_of, is_whole, shows_of}
-use Rattle.anti_kind.specs.Store.{Store, is_replica, has_part, absent, key_for, store_due, owed_shipments, outs}
+use Rattle.anti_kind.specs.Stored.{rows, is_shipped, parts_of, is_whole, greatest, shows_of}
+use Rattle.anti_kind.specs.Store.{Store, is_replica, has_part, absent, key_for, store_due, store_need, owed_shipments, outs, told_over}
 use Rattle.anti_kind.specs.Objects.{store, Follows, IsLegal, weight, held}
 use Rattle.anti_kind.proofs.Histories.{held_more, legal_more}
 use Rattle.anti_kind.proofs.Bounds.{held_within}
+use Rattle.anti_kind.proofs.Overs.{fitting, greatest_push}
 use Rattle.anti_kind.proofs.Rows.{rows_held, is_write, is_shipping, new_row, rows_write, rows_other, shipped_other, shipped_ship, version_at}
 use Rattle.anti_kind.proofs.Shipped.{IsReadyShipment, ready_ship, ready_shipment}
 use Rattle.anti_kind.proofs.Units.{owed_write, owed_ship, owed_other, ship_owed}
@@ -31,7 +35,7 @@ use Rattle.anti_replicas.specs.declared.newest.Newest.{Newest}
 use Rattle.anti_replicas.specs.inner.Backlogs.{without, group_whole, IsBehind, AreBehind, AreBelow}
 use Rattle.anti_replicas.specs.inner.Marks.{came, has_all, marked}
 use Rattle.anti_replicas.specs.inner.Newest.{key_number, newest_at, AreNumbered, MakesPlace}
-use Rattle.anti_replicas.specs.inner.Standing.{IsKept, AreKept, Stands, its_number, Keeps, BringsIf, Marks, Shippable, Writable, LeavesIf, CanReach, ReachesIf, group_at}
+use Rattle.anti_replicas.specs.inner.Standing.{IsKept, AreKept, HasFew, Stands, its_number, Keeps, BringsIf, Marks, Shippable, Writable, LeavesIf, CanReach, ReachesIf, group_at}
 use Rattle.anti_replicas.specs.Stores.{At, MayShip, MayWrite, IsOther, IsPassing}
 use Rattle.anti_replicas.proofs.Masks.{unmarked, mark_same, mark_part, mark_region}
 use Rattle.anti_replicas.proofs.Numbers.{all_numbers, prefix_push, prefix_set_same, prefix_set_behind, prefix_set_first}
@@ -62,25 +66,71 @@ weighs_due s h e c f is one =
 
 -- A write.
 
-module _ (m n : Replicas) (s : Store) (h : List Entry) (e : Entry) (name key value : List ℕ) (lineage : List WriteId) (v : ℕ)
-    (at : At m s h) (f : Follows (store s) h e) (is : e.call ≡ Write name value lineage) (key_is : key ≡ key_for s.kind h name) (v_is : v ≡ length m.kept.items + 1)
-    (keeps : Keeps m n (record { key = key; version = v; value = value; lineage = lineage })) where
+-- the greatest of two versions, whichever is told first
+either : (b : Bool) (v g : ℕ) → max (cond b v 0) g ≡ max g (cond (b && true) v 0)
+either true v g = omega arith
+either false v g = omega arith
+
+module _ (m n : Replicas) (s : Store) (h : List Entry) (e : Entry) (name key value : List ℕ) (lineage : List WriteId) (told : Option (List WriteId)) (v w : ℕ)
+    (at : At m s h) (f : Follows (store s) h e) (is : e.call ≡ Write name value lineage) (given : e.reply ≡ Written key w told) (v_is : v ≡ length m.kept.items + 1)
+    (keeps : Keeps m n (record { key = key; version = v; value = value; lineage = unwrap_or told lineage })) where
   abbrev the_row : Row
-  the_row = record { key = key; version = v; value = value; lineage = lineage }
+  the_row = record { key = key; version = v; value = value; lineage = unwrap_or told lineage }
 
   abbrev one_kept : KeptWrite
-  one_kept = record { row = the_row; marks = replicate 8 0; parts = parts_of m.kind value; number = its_number n.newest key }
+  one_kept = record { row = the_row; marks = replicate 8 0; parts = parts_of m.kind value; number = its_number keeps.placed key }
+
+  row_now : the_row ≡ new_row s h name value lineage
+  row_now =
+      let due : Written key w told ≡ Written (key_for s.kind h name) (length (rows h) + 1) (told_over s h name lineage) = sym given ∙ f.reply ∙ ap (λ (c : Call). store_due s h c) is in
+      let key_is : key ≡ key_for s.kind h name = cc in
+      let told_is : told ≡ told_over s h name lineage = cc in
+      let number : v ≡ length (rows h) + 1 = omega (arith, count_is m s h at.state) in
+      ap (λ (x : ℕ). let r : Row = record { key = key; version = x; value = value; lineage = unwrap_or told lineage } in r) number
+      ∙ ap (λ (x : List ℕ). let r : Row = record { key = x; version = length (rows h) + 1; value = value; lineage = unwrap_or told lineage } in r) key_is
+      ∙ ap (λ (x : Option (List WriteId)). let r : Row = record { key = key_for s.kind h name; version = length (rows h) + 1; value = value; lineage = unwrap_or x lineage } in r) told_is
+
+  rows_now : rows (h ++ e ∷ []) ≡ rows h ++ the_row ∷ []
+  rows_now = rows_write s h e name value lineage f is ∙ ap (λ (r : Row). rows h ++ r ∷ []) (sym row_now)
 
   wrote_rows : map (λ (k : KeptWrite). k.row) n.kept.items ≡ rows (h ++ e ∷ [])
   wrote_rows =
-      let number : v ≡ length (rows h) + 1 = omega (arith, count_is m s h at.state) in
-      let row : the_row ≡ new_row s h name value lineage =
-      ap (λ (x : ℕ). let r : Row = record { key = key; version = x; value = value; lineage = lineage } in r) number
-      ∙ ap (λ (x : List ℕ). let r : Row = record { key = x; version = length (rows h) + 1; value = value; lineage = lineage } in r) key_is in
       ap (map (λ (k : KeptWrite). k.row)) keeps.kept_is ∙ map_push (λ (k : KeptWrite). k.row) m.kept.items one_kept
       ∙ ap (λ (rs : List Row). rs ++ the_row ∷ []) at.state.rows_are
-      ∙ ap (λ (r : Row). rows h ++ r ∷ []) row
-      ∙ sym (rows_write s h e name value lineage f is)
+      ∙ sym rows_now
+
+  -- the versions of the keys now: the write is the last of its key, and no region shows it
+
+  versions_now : (g : ℕ) (k : List ℕ) → newest_at n.newest g k ≡ max (cond ((8 == g) && bytes_eq key k) v 0) (newest_at m.newest g k)
+  versions_now g k =
+      brought keeps.placed n.newest 8 (its_number keeps.placed key) v keeps.brings keeps.makes.numbered key keeps.number g k
+      ∙ ap (λ (x : ℕ). max (cond ((8 == g) && bytes_eq key k) v 0) x) (keeps.makes.same g k)
+
+  wrote_shows : (g : ℕ) (k : List ℕ) → g < 8 → newest_at n.newest g k ≡ shows_of s.kind (h ++ e ∷ []) g k
+  wrote_shows g k low =
+      let off : (8 == g) ≡ false = ne_eqb 8 g (λ same. omega (arith, same)) in
+      versions_now g k
+      ∙ ap (λ (b : Bool). max (cond (b && bytes_eq key k) v 0) (newest_at m.newest g k)) off
+      ∙ sym (max_zero (newest_at m.newest g k))
+      ∙ at.state.shows g k low ∙ sym (shows_write s h e at.legal f g name value lineage is k)
+
+  wrote_last : (k : List ℕ) → newest_at n.newest 8 k ≡ greatest (λ r. true) k (rows (h ++ e ∷ []))
+  wrote_last k =
+      versions_now 8 k
+      ∙ ap (λ (x : ℕ). max (cond (bytes_eq key k) v 0) x) (at.state.last_is k)
+      ∙ either (bytes_eq key k) v (greatest (λ r. true) k (rows h))
+      ∙ sym (ap (greatest (λ r. true) k) rows_now ∙ greatest_push (λ r. true) k (rows h) the_row)
+
+  -- and no write has more ids beside it than were counted
+  wrote_longest : All (HasFew n.longest) (rows (h ++ e ∷ []))
+  wrote_longest =
+      subst (All (HasFew n.longest)) (sym rows_now)
+      (All-push (HasFew n.longest) (rows h) the_row
+      (All-weaker (HasFew m.longest) (HasFew n.longest) (λ r few. omega (arith, few, keeps.longest_is)) (rows h) at.state.longest_is)
+      (omega (arith, keeps.longest_is)))
+
+  numbers_kept : (k : List ℕ) (i : ℕ) → key_number m.newest k ≡ Some i → key_number n.newest k ≡ Some i
+  numbers_kept k i number = brought_numbers keeps.placed n.newest 8 (its_number keeps.placed key) v keeps.brings k i (keeps.makes.numbers k i number)
 
   stays : (g w p : ℕ) → is_shipped (h ++ e ∷ []) g w p ≡ is_shipped h g w p
   stays g w p = shipped_other h e g w p (ap is_shipping is)
@@ -97,14 +147,14 @@ module _ (m n : Replicas) (s : Store) (h : List Entry) (e : Entry) (name key val
     parts = ap (λ (kind : StoreKind). parts_of kind value) at.state.kind_is;
     some = keeps.some;
     few = keeps.few;
-    number = keeps.number;
+    number = brought_numbers keeps.placed n.newest 8 (its_number keeps.placed key) v keeps.brings key (its_number keeps.placed key) keeps.number;
   }
 
   wrote_kept : AreKept s (h ++ e ∷ []) n.newest (m.kept.items ++ one_kept ∷ [])
   wrote_kept i d short =
       ⊎_elim (λ (before : i < length m.kept.items).
       subst (IsKept s (h ++ e ∷ []) n.newest (i + 1)) (sym (get_or_append_left m.kept.items (one_kept ∷ []) d i before))
-      (kept_later s h (h ++ e ∷ []) m.newest n.newest (i + 1) (get_or m.kept.items i d) (λ g p. stays g (i + 1) p) keeps.makes.numbers (at.state.kept_are i d before)))
+      (kept_later s h (h ++ e ∷ []) m.newest n.newest (i + 1) (get_or m.kept.items i d) (λ g p. stays g (i + 1) p) numbers_kept (at.state.kept_are i d before)))
       (λ (last : length m.kept.items ≤ i).
       let here : length m.kept.items ≡ i = omega (arith, length_push m.kept.items one_kept) in
       subst (IsKept s (h ++ e ∷ []) n.newest (i + 1)) (sym (get_or_push m.kept.items one_kept d i here))
@@ -142,8 +192,10 @@ module _ (m n : Replicas) (s : Store) (h : List Entry) (e : Entry) (name key val
     behind = wrote_behind;
     uptos = ap (λ (us : List ℕ). length us) keeps.upto_is ∙ at.state.uptos;
     upto_is = wrote_upto;
-    numbered = keeps.makes.numbered;
-    shows = λ g k low. keeps.makes.same g k ∙ at.state.shows g k low ∙ sym (shows_write s h e at.legal f g name value lineage is k);
+    numbered = brought_numbered keeps.placed n.newest 8 (its_number keeps.placed key) v keeps.brings keeps.makes.numbered;
+    shows = wrote_shows;
+    last_is = wrote_last;
+    longest_is = wrote_longest;
     held_is = omega (arith, keeps.held_is, at.state.held_is, weighs_due s h e (Write name value lineage) f is refl);
     owed_is = wrote_owed;
   }
@@ -411,6 +463,15 @@ module _ (m n : Replicas) (s : Store) (h : List Entry) (e : Entry) (region versi
       ∙ ap (λ (r : Row). max (cond ((region == g) && (bytes_eq r.key k && is_whole s.kind (h ++ e ∷ []) region r)) version 0) (shows_of s.kind h g k)) (sym row)
       ∙ sym (shows_ship s h e at.legal f g region version part is (version - 1) (absent []) place short k)
 
+  -- a shipment writes nothing
+  shipped_last : (k : List ℕ) → newest_at n.newest 8 k ≡ greatest (λ r. true) k (rows (h ++ e ∷ []))
+  shipped_last k =
+      let off : (region == 8) ≡ false = ne_eqb region 8 (λ same. omega (arith, same, low)) in
+      now_if full m.newest n.newest region (was no_kept).number version (was no_kept).row.key brings at.state.numbered was_kept.number 8 k
+      ∙ ap (λ (b : Bool). max (cond (b && (bytes_eq (was no_kept).row.key k && full)) version 0) (newest_at m.newest 8 k)) off
+      ∙ sym (max_zero (newest_at m.newest 8 k))
+      ∙ at.state.last_is k ∙ sym (ap (greatest (λ r. true) k) (rows_other h e (ap is_write is)))
+
   pub stands_ship : Stands n s (h ++ e ∷ [])
   stands_ship = record {
     kind_is = marks.kind_is ∙ at.state.kind_is;
@@ -424,6 +485,10 @@ module _ (m n : Replicas) (s : Store) (h : List Entry) (e : Entry) (region versi
     upto_is = upto_by_whole full refl (marks.reaches no_kept);
     numbered = numbered_if full m.newest n.newest region (was no_kept).number version brings at.state.numbered;
     shows = shipped_shows;
+    last_is = shipped_last;
+    longest_is =
+        subst (λ (n : ℕ). All (HasFew n) (rows (h ++ e ∷ []))) (sym marks.longest_is)
+        (subst (All (HasFew m.longest)) (sym (rows_other h e (ap is_write is))) at.state.longest_is);
     held_is = omega (arith, marks.held_is, at.state.held_is, weighs_due s h e (Ship region version part) f is refl);
     owed_is =
         let less : owed_shipments s h ≡ owed_shipments s (h ++ e ∷ []) + 1 = owed_ship s h e region version part at.sane at.legal f is in
@@ -462,6 +527,8 @@ module _ (m n : Replicas) (s : Store) (h : List Entry) (e : Entry) (units : ℕ)
     upto_is = at.state.upto_is;
     numbered = at.state.numbered;
     shows = λ g k low. at.state.shows g k low ∙ sym (shows_other s h e at.legal f g writes ships k);
+    last_is = λ k. at.state.last_is k ∙ sym (ap (greatest (λ r. true) k) (rows_other h e writes));
+    longest_is = subst (All (HasFew m.longest)) (sym (rows_other h e writes)) at.state.longest_is;
     held_is =
         let within : held (h ++ e ∷ []) ≤ MOST_UNITS = held_within (store s) (h ++ e ∷ []) at.sane (legal_more (store s) h e at.legal f) in
         omega (arith, at.state.held_is, held_more h e);
@@ -487,6 +554,8 @@ stands_with_place m n s h state makes kept behind is = subst (λ (x : Replicas).
   upto_is = λ g low. state.upto_is g low ∙ sym (ap (prefix_len (has_all g)) kept);
   numbered = makes.numbered;
   shows = λ g k low. makes.same g k ∙ state.shows g k low;
+  last_is = λ k. makes.same 8 k ∙ state.last_is k;
+  longest_is = state.longest_is;
   held_is = state.held_is;
   owed_is = state.owed_is;
 })
@@ -514,12 +583,15 @@ shippable m g v p may =
       held = omega (arith, at.state.held_is);
     }
 
-pub writable : (m : Replicas) (value : List ℕ) (lineage : List WriteId) → MayWrite m value lineage → Writable m (parts_of m.kind value)
-writable m value lineage may =
+pub writable : (m : Replicas) (value : List ℕ) (lineage : List WriteId) (reply : Reply) → MayWrite m value lineage reply → Writable m (parts_of m.kind value)
+writable m value lineage reply may =
     let s : Store = may.0 in
-    let h : List Entry = may.2.history in
-    let at : At m s h = may.2.stands_for in
-    let units : held h + (owed_shipments s h + cond (facts_of s.kind).tried (outs h) 0) + (1 + length s.regions * parts_of s.kind value) ≤ MOST_UNITS = leb-true _ _ may.2.fits in
+    let may' = may.2.may in
+    let h : List Entry = may'.history in
+    let at : At m s h = may'.stands_for in
+    let fits : held h + (owed_shipments s h + cond (facts_of s.kind).tried (outs h) 0) + store_need s h (Write may.1 value lineage) ≤ MOST_UNITS = leb-true _ _ may'.fits in
+    let need : store_need s h (Write may.1 value lineage) ≡ 1 + length s.regions * parts_of s.kind value = (fitting s h may.1 value lineage (omega arith)).1 in
+    let units : held h + (owed_shipments s h + cond (facts_of s.kind).tried (outs h) 0) + (1 + length s.regions * parts_of s.kind value) ≤ MOST_UNITS = omega arith in
     let same : m.replicas * parts_of m.kind value ≡ length s.regions * parts_of s.kind value =
     ap (λ (x : ℕ). x * parts_of m.kind value) at.state.replicas_are ∙ ap (λ (kind : StoreKind). length s.regions * parts_of kind value) at.state.kind_is in
     record {

@@ -1,14 +1,16 @@
 -- The words of the base's clauses: which histories it stands for, and which calls may change it.
-use Rattle.std.specs.Prelude.{◌≡◌, ℕ, List, [], true}
+use Rattle.std.specs.Prelude.{◌≡◌, ℕ, ◌≤◌, List, [], length, true}
 use Rattle.anti_ids.specs.declared.id.WriteId.{WriteId}
+use Rattle.anti_ids.specs.declared.limits.TheConstants.{MOST_IDS}
 use Rattle.anti_kind.specs.Kinds.{facts_of}
 use Rattle.anti_kind.specs.declared.call.Call.{Call}
 use Rattle.anti_kind.specs.declared.call.Call.TheVariants.{Write, Look, Ship, Again}
+use Rattle.anti_kind.specs.declared.call.Reply.{Reply}
 use Rattle.anti_kind.specs.declared.entry.Entry.{Entry}
 use Rattle.anti_kind.specs.declared.store_kind.StoreKind.{StoreKind}
-use Rattle.anti_kind.specs.Store.{Store, store_of}
+use Rattle.anti_kind.specs.Store.{Store, store_of, over}
 use Rattle.anti_kind.specs.Objects.{store}
-use Rattle.anti_kind.specs.Machines.{StandsFor, MayMake}
+use Rattle.anti_kind.specs.Machines.{StandsFor, MayMake, MayApply}
 use Rattle.anti_replicas.specs.declared.replicas.Replicas.{Replicas}
 use Rattle.anti_replicas.specs.inner.Standing.{Stands}
 
@@ -36,12 +38,20 @@ At m s h = StandsFor (store s) (Stands m s) h
 abbrev pub showing_whole : Store → Store
 showing_whole s = store_of s.kind s.number s.regions s.subs s.tries
 
--- after some history of some store for which m stands the shipment, or the write, is ready and fits
+-- after some history of some store for which m stands the shipment is ready and fits
 abbrev pub MayShip : Replicas → ℕ → ℕ → ℕ → Type 0
 MayShip m g v p = (s : Store) × MayMake (store s) (Stands m s) (Ship g v p)
 
-abbrev pub MayWrite : Replicas → List ℕ → List WriteId → Type 0
-MayWrite m value lineage = (s : Store) × (name : List ℕ) × MayMake (store s) (Stands m s) (Write name value lineage)
+-- and a write of the value with the lineage, to some key, which is due the reply
+abbrev pub MayWrite : Replicas → List ℕ → List WriteId → Reply → Type 0
+MayWrite m value lineage reply = (s : Store) × (name : List ℕ) × MayApply (store s) (Stands m s) (Write name value lineage) reply
+
+-- after some history of some store for which m stands a write keeps no more ids than a lineage may have
+pub record MayKeep (m : Replicas) (name : List ℕ) (lineage : List WriteId) : Type 0 where
+  pub of_store : Store
+  pub history : List Entry
+  pub at : At m of_store history
+  pub few : length (over of_store history name lineage) ≤ MOST_IDS
 
 -- a store that is read by keys
 abbrev pub keyed : StoreKind → ℕ → List ℕ → Store
@@ -52,6 +62,12 @@ abbrev pub MayKeyed : Replicas → Call → Type 0
 MayKeyed m c =
     (kind : StoreKind) × (number : ℕ) × (regions : List ℕ)
     × MayMake (store (keyed kind number regions)) (Stands m (keyed kind number regions)) c × ((facts_of kind).keyed ≡ true)
+
+-- and is due the reply
+abbrev pub MayApplyKeyed : Replicas → Call → Reply → Type 0
+MayApplyKeyed m c reply =
+    (kind : StoreKind) × (number : ℕ) × (regions : List ℕ)
+    × MayApply (store (keyed kind number regions)) (Stands m (keyed kind number regions)) c reply × ((facts_of kind).keyed ≡ true)
 
 -- after some history of some store for which m stands the call is ready and fits
 abbrev pub MayPass : Replicas → Call → Type 0

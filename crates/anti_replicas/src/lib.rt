@@ -11,6 +11,7 @@ mod keyed;
 mod looks;
 mod newest;
 mod reads;
+mod replaced;
 mod replicas;
 mod scans;
 mod shared;

@@ -28,10 +28,10 @@ struct Found {
     written: bool,
 }
 
-// Adds an id to a lineage that has room for it.
-fn add(ids: &mut Lineage, id: WriteId) -> Result<(), NoMemory>
+// Adds an id to a lineage that has it or has room for it.
+pub(crate) fn add(ids: &mut Lineage, id: WriteId) -> Result<(), NoMemory>
     requires version { 1 ≤ id.version }
-    requires room { length ids.old < MOST_IDS }
+    requires room { length (with_id id ids.old) ≤ MOST_IDS }
     ensures { OnOk result (ids.new ≡ with_id id ids.old) }
 {
     match ids.append(id) {

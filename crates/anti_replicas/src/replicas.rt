@@ -24,6 +24,8 @@ pub struct Replicas {
     // for each region how many versions, from the first on, are whole there
     pub(crate) upto: [u64; MOST_REGIONS],
     pub(crate) newest: Newest,
+    // the most ids that are kept beside a write
+    pub(crate) longest: u32,
     pub(crate) held: u32,
     pub(crate) owed: u32,
     pub(crate) alloc: Global,
@@ -71,6 +73,7 @@ impl Replicas {
                 backlogs,
                 upto: [0; MOST_REGIONS],
                 newest: Newest::new(alloc),
+                longest: 0,
                 held: 0,
                 owed: 0,
                 alloc,

@@ -1,4 +1,5 @@
 ghost use Rattle.std.specs.Prelude.{◌≡◌, ◌≤◌, List, [], ◌∷◌, ◌++◌};
+ghost use Rattle.anti_kind.specs.declared.call.Call.TheVariants.{Write};
 ghost use Rattle.anti_kind.specs.declared.entry.Entry.{Entry};
 ghost use Rattle.anti_kind.specs.Stored.{parts_of};
 ghost use Rattle.anti_kind.specs.Store.{Store, store_need, owed_shipments};
@@ -6,7 +7,7 @@ ghost use Rattle.anti_kind.specs.Objects.{store, weight, held, Follows};
 
 use crate::kept_write::MOST_PARTS;
 use crate::replicas::Replicas;
-use anti_ids::{PART_BYTES, Value};
+use anti_ids::{Lineage, MOST_UNITS, Name, PART_BYTES, Value};
 use anti_kind::{Call, StoreKind};
 
 // How many parts a value has.
@@ -40,15 +41,28 @@ impl Replicas {
         self.owed
     }
 
+    // The units that a write needs: more than an object has, where it would keep more ids than a lineage may have.
+    fn write_units(&self, key: &Name, value: &Value, lineage: &Lineage) -> u32
+        ensures { (s : Store) (h : List Entry) → At self.now s h
+            → result ≡ store_need (showing_whole s) h (Write key.now value.now lineage.now) }
+    {
+        if !self.keeps_few(key, lineage) {
+            return MOST_UNITS + 1;
+        }
+        1 + u32::from(self.replicas) * u32::from(parts_of(self.kind, value))
+    }
+
     /// The units that a call needs, whether it is ready or not, where regions show the greatest version that is whole there.
     pub fn need(&self, call: &Call) -> u32
         ensures { (s : Store) (h : List Entry) → At self.now s h
             → result ≡ store_need (showing_whole s) h call.now }
     {
         match call {
-            Call::Write { value, .. } => {
-                1 + u32::from(self.replicas) * u32::from(parts_of(self.kind, value))
-            }
+            Call::Write {
+                key,
+                value,
+                lineage,
+            } => self.write_units(key.get(), value, lineage.get()),
             Call::Scan { region, prefix } => self.scan_units(*region, prefix),
             Call::Pull { .. } => { if self.kind.facts().tried { 2 } else { 1 } }
             Call::Ship { .. } => 0,

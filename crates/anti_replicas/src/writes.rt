@@ -1,17 +1,28 @@
-ghost use Rattle.std.specs.Prelude.{◌≡◌, ℕ, ◌+◌, ◌-◌, ◌*◌, ◌≤◌, ◌⊎◌, ◌<◌, List, [], ◌∷◌, ◌++◌, length, IfOk, OnOk, OnErr, IfSome, IfNone, slice_get, is_some};
+ghost use Rattle.std.specs.Prelude.{◌≡◌, ℕ, ◌+◌, ◌-◌, ◌*◌, ◌≤◌, ◌⊎◌, ◌<◌, List, [], ◌∷◌, ◌++◌, length, IfOk, OnOk, OnErr, IfSome, IfNone, slice_get, is_some, unwrap_or};
 ghost use Rattle.anti_kind.specs.declared.call.Call.TheVariants.{Write};
 ghost use Rattle.anti_kind.specs.declared.entry.Entry.{Entry};
 ghost use Rattle.anti_ids.specs.declared.limits.TheConstants.{MOST_UNITS};
 ghost use Rattle.anti_kind.specs.Stored.{rows, row_of, parts_of};
-ghost use Rattle.anti_kind.specs.Store.{Store, key_for};
+ghost use Rattle.anti_kind.specs.Store.{Store};
 ghost use Rattle.anti_kind.specs.Objects.{store, Follows};
 
 use crate::backlog::IN_GROUP;
 use crate::kept_write::KeptWrite;
+use crate::newest::WRITTEN;
 use crate::replicas::Replicas;
 use crate::units::parts_of;
 use anti_ids::{Copies, Lineage, MOST_REGIONS, Name, NoMemory, Value};
-use anti_kind::Row;
+use anti_kind::{Handle, Reply, Row};
+
+// What is kept beside a write: the lineage that its reply tells, or else that which was handed in.
+fn kept_beside<'a>(over: &'a Option<Handle<Lineage>>, lineage: &'a Lineage) -> &'a Lineage
+    ensures { result.now ≡ unwrap_or over.now lineage.now }
+{
+    match over {
+        Some(union) => union.get(),
+        None => lineage,
+    }
+}
 
 impl Replicas {
     ghost use Rattle.anti_replicas.specs.declared.kept_write.KeptWrite.{KeptWrite};
@@ -63,18 +74,22 @@ impl Replicas {
         }
     }
 
-    /// Writes a value to the key that it gets, in the next version. The shipments of its parts are owed from now on.
-    pub fn write(&mut self, key: Name, value: &Value, lineage: &Lineage) -> Result<(), NoMemory>
-        requires { MayWrite self.old value.now lineage.now }
+    /// Writes a value which is handed in with this lineage, with the key and what is kept beside it by the reply to the write, in the next
+    /// version. The shipments of its parts are owed from now on.
+    pub fn write(&mut self, value: &Value, lineage: &Lineage, reply: &Reply) -> Result<(), NoMemory>
+        requires { MayWrite self.old value.now lineage.now reply.now }
         ensures stands { (s : Store) (h : List Entry) (e : Entry) (name : List ℕ) → At self.old s h
-            → Follows (store s) h e → e.call ≡ Write name value.now lineage.now
-            → key ≡ key_for s.kind h name → OnOk result (Stands self.new s (h ++ e ∷ [])) }
+            → Follows (store s) h e → e.call ≡ Write name value.now lineage.now → e.reply ≡ reply.now
+            → OnOk result (Stands self.new s (h ++ e ∷ [])) }
         ensures err { (s : Store) (h : List Entry) → Stands self.old s h → OnErr result (Stands self.new s h) }
         ensures kind { kind_of self.new ≡ kind_of self.old }
         ensures number { number_of self.new ≡ number_of self.old }
         ensures regions { regions_of self.new ≡ regions_of self.old }
     {
-        self.keep(key, value, lineage)
+        let Reply::Written { key, over, .. } = reply else {
+            unreachable!(); // that is the reply to a write
+        };
+        self.keep(*key.get(), value, kept_beside(over, lineage))
     }
 
     // Puts the group of the next version into the backlog of each replica, where that version is the first of it. Where a write found no
@@ -113,9 +128,10 @@ impl Replicas {
         ensures regions { regions_of self.new ≡ regions_of self.old }
     {
         let parts = parts_of(self.kind, value);
+        let version = self.kept.len() as u64 + 1;
         let row = Row {
             key,
-            version: self.kept.len() as u64 + 1,
+            version,
             value: value.copy(self.alloc)?,
             lineage: lineage.copy(self.alloc)?,
         };
@@ -130,6 +146,8 @@ impl Replicas {
         if self.kept.push(kept).is_err() {
             return Err(NoMemory);
         }
+        self.newest.bring(WRITTEN, number, version);
+        self.longest = self.longest.max(lineage.len());
         self.held += 1;
         self.owed += u32::from(self.replicas) * u32::from(parts);
         Ok(())

@@ -5,3 +5,4 @@ pub mod PlanLemmas
 pub mod SightLemmas
 pub mod BarrierLoop
 pub mod DryRunLoop
+pub mod Carried

@@ -1,6 +1,6 @@
 -- What the calls of a shim do and give: each makes one call on its store.
-use Rattle.std.specs.Prelude.{◌≡◌, ℕ, ◌<◌, ◌≤◌, false, length, List, [], ◌∷◌, Result, Ok, Err}
-use Rattle.anti_ids.specs.Ids.{with_id}
+use Rattle.std.specs.Prelude.{◌≡◌, ℕ, ◌<◌, ◌≤◌, false, length, List, [], ◌∷◌, Option, unwrap_or, Result, Ok, Err}
+use Rattle.anti_ids.specs.Ids.{with_ids}
 use Rattle.anti_ids.specs.List.{Listed, plain}
 use Rattle.anti_ids.specs.declared.limits.TheConstants.{MOST_IDS}
 use Rattle.anti_ids.specs.declared.id.WriteId.{WriteId}
@@ -48,23 +48,26 @@ Scans step store region prefix result =
 
 -- Writing.
 
--- The id goes into the lineage, unless it would be one too many.
-module _ (id : WriteId) (old new : List WriteId) where
+-- The id and what is kept beside the write go into the lineage, unless these would be too many.
+module _ (id : WriteId) (kept old new : List WriteId) where
   abbrev pub Appends : Result WriteId ShimFault → Type 0
   Appends (Ok given) =
-      (given ≡ id) × (new ≡ with_id id old) × (length (with_id id old) ≤ MOST_IDS)
+      (given ≡ id) × (new ≡ with_ids (id ∷ kept) old)
+      × (length (with_ids (id ∷ kept) old) ≤ MOST_IDS)
   Appends (Err fault) =
-      (fault ≡ LineageFull id) × (new ≡ old) × (MOST_IDS < length (with_id id old))
+      (fault ≡ LineageFull id) × (new ≡ old) × (MOST_IDS < length (with_ids (id ∷ kept) old))
 
--- The id of what was written goes into the lineage; with a refusal the lineage stays.
+-- The id of what was written goes into the lineage, and what is kept beside it: what the reply tells,
+-- or else the lineage that was handed in. With a refusal it stays.
 module _ (store : ℕ) (old new : List WriteId) where
   abbrev pub WriteGives : Result Made ShimFault → Result WriteId ShimFault → Type 0
   WriteGives (Ok made) result =
-      (id : WriteId) × (id.store ≡ store) × (made.reply ≡ Written id.key id.version)
-      × Appends id old new result
+      (id : WriteId) × (over : Option (List WriteId)) × (id.store ≡ store)
+      × (made.reply ≡ Written id.key id.version over)
+      × Appends id (unwrap_or over old) old new result
   WriteGives (Err refusal) result = (result ≡ Err refusal) × (new ≡ old)
 
--- A write stores the lineage as it was.
+-- A write hands in the lineage as it was.
 pub record Writes (step : Step) (store : ℕ) (key value : List ℕ) (old new : List WriteId)
     (result : Result WriteId ShimFault) : Type 0 where
   pub outcome : Result Made ShimFault

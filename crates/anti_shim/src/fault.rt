@@ -16,8 +16,8 @@ pub enum ShimFault {
     /// The look was made, and this id is the first that nobody wrote.
     #[error("nobody wrote version {} of store {}", .0.version, .0.store)]
     Unwritten(WriteId),
-    /// The write was made, and its id would be one more than the lineage can have, which is as it
-    /// was.
+    /// The write was made, and with its id and what is kept beside it the lineage would have more
+    /// ids than one can have. It is as it was.
     #[error("version {} of store {} was written, and the lineage is full", .0.version, .0.store)]
     LineageFull(WriteId),
     /// There was no memory.

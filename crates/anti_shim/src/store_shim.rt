@@ -1,5 +1,7 @@
-ghost use Rattle.std.specs.Prelude.{◌≡◌, ◌≤◌, ℕ, is_some, true, IfOk};
-ghost use Rattle.anti_ids.specs.Ids.{ids_of};
+ghost use Rattle.std.specs.Prelude.{◌≡◌, ◌+◌, ◌≤◌, ℕ, List, [], ◌∷◌, length, is_some, unwrap_or, true, IfOk};
+ghost use Rattle.anti_ids.specs.Ids.{ids_of, with_ids};
+ghost use Rattle.anti_ids.specs.Invariants.{IsAscending};
+ghost use Rattle.anti_ids.specs.declared.limits.TheConstants.{MOST_IDS};
 ghost use Rattle.anti_shim.specs.Steps.{between};
 ghost use Rattle.anti_shim.specs.Shims.{Appends, IsShown, Polls, Reads, Scans, Sees, Writes};
 ghost use Rattle.anti_shim.specs.inner.Writes.{Puts};
@@ -9,7 +11,7 @@ use crate::caller::Caller;
 use crate::fault::ShimFault;
 use crate::kinds::{ReadByKey, TableStore, TopicStore};
 use crate::sight::{Sight, see};
-use anti_ids::{Copies, Lineage, Name, NoMemory, Roomy, RoomyFull, Value, WriteId};
+use anti_ids::{Copies, Lineage, MOST_IDS, Name, NoMemory, Roomy, RoomyFull, Value, WriteId};
 use anti_kind::{Call, Handle, Port, Reply, Row, Rows};
 use std::alloc::Global;
 use std::marker::PhantomData;
@@ -21,6 +23,13 @@ pub struct StoreShim<K> {
     pub store: u32,
     pub region: u32,
     kind: PhantomData<K>,
+}
+
+// A write that was made: its id, and what is kept beside it, where that is not what it handed in.
+#[derive(Drop)]
+struct MadeWrite {
+    id: WriteId,
+    over: Option<Handle<Lineage>>,
 }
 
 impl<K> StoreShim<K> {
@@ -36,11 +45,11 @@ impl<K> StoreShim<K> {
         }
     }
 
-    /// Makes one write, which stores the lineage as it is, and appends the id of what was written.
-    /// A write to a queue or a topic names a channel, and the id has the key of the reply, which is
-    /// `c#n` for the nth write to the channel `c`. Where the id would be one more than a lineage can
-    /// have the write is made, and the lineage stays; with every other fault nothing was written and
-    /// the lineage stays too.
+    /// Makes one write, which hands in the lineage as it is, and appends what is kept beside the
+    /// write, and its id. A write to a queue or a topic names a channel, and the id has the key of
+    /// the reply, which is `c#n` for the nth write to the channel `c`. Where all these are more ids
+    /// than a lineage can have the write is made, and the lineage stays; with every other fault
+    /// nothing was written and the lineage stays too.
     pub fn write<P: Port>(
         &self,
         alloc: Global,
@@ -56,8 +65,11 @@ impl<K> StoreShim<K> {
         ensures fixed { (o : ℕ) → P.start port.new o ≡ P.start port.old o }
     {
         let (key, stored) = handles_of(alloc, key, lineage)?;
+        // the room that there may be need of, before anything is written
+        let spare = spare_room(alloc)?;
+        let _ascending = lineage.iter(); // so ids that are there already change nothing
         let taken = std::mem::replace(lineage, Lineage::root(alloc));
-        let roomy = match taken.reserve(1) {
+        let carried = match taken.reserve(1) {
             Ok(roomy) => roomy,
             Err((kept, NoMemory)) => {
                 *lineage = kept;
@@ -65,15 +77,15 @@ impl<K> StoreShim<K> {
             }
         };
         match self.put(port, who, key, value, stored) {
-            Ok(id) => append_written(lineage, roomy, id),
+            Ok(made) => append_written(lineage, carried, spare, &made),
             Err(fault) => {
-                *lineage = roomy.into_lineage();
+                *lineage = carried.into_lineage();
                 Err(fault)
             }
         }
     }
 
-    // Makes the write, which stores these ids. It gives the id of what was written.
+    // Makes the write, which hands in these ids.
     fn put<P: Port>(
         &self,
         port: &mut P,
@@ -81,7 +93,7 @@ impl<K> StoreShim<K> {
         key: Handle<Name>,
         value: Value,
         stored: Handle<Lineage>,
-    ) -> Result<WriteId, ShimFault>
+    ) -> Result<MadeWrite, ShimFault>
         ensures answer { let step = between P.Port port.old port.new who.old who.new in
             Puts step self.now.store key value stored result }
         ensures fixed { (o : ℕ) → P.start port.new o ≡ P.start port.old o }
@@ -92,10 +104,13 @@ impl<K> StoreShim<K> {
             lineage: stored,
         };
         match who.ask::<P, Once>(port, self.store, write)?.reply {
-            Reply::Written { key, version } => Ok(WriteId {
-                store: self.store,
-                key: *key.get(),
-                version,
+            Reply::Written { key, version, over } => Ok(MadeWrite {
+                id: WriteId {
+                    store: self.store,
+                    key: *key.get(),
+                    version,
+                },
+                over,
             }),
             // by `IsAsked`: the entry that was made has the reply that its call is due
             _ => unreachable!(),
@@ -209,22 +224,101 @@ fn only_row(reply: Reply) -> Row
     }
 }
 
-// Appends the id of a write that was made to the lineage that was taken for it, and puts the
-// lineage back.
+// Room for as many ids as a lineage may have.
+fn spare_room(alloc: Global) -> Result<Roomy, NoMemory>
+    ensures ids { IfOk result (λ spare. spare.ids ≡ []) }
+    ensures room { IfOk result (λ spare. spare.spare ≡ MOST_IDS) }
+{
+    match Lineage::root(alloc).reserve(MOST_IDS as u32) {
+        Ok(spare) => Ok(spare),
+        Err((_, NoMemory)) => Err(NoMemory),
+    }
+}
+
+// Puts the ids of a lineage where there is room for as many as one may have.
+fn refill(spare: &mut Roomy, before: &Lineage)
+    requires ids { spare.old.ids ≡ [] }
+    requires room { spare.old.spare ≡ MOST_IDS }
+    ensures ids { spare.new.ids ≡ before.now }
+    ensures room { length spare.new.ids + spare.new.spare ≡ MOST_IDS }
+{
+    let _ascending = before.iter(); // so they are as many there
+    let Ok(()) = spare.transfer(before) else {
+        unreachable!() // they are those of a lineage
+    };
+}
+
+// Adds the id of a write and what is kept beside it, which are few enough for a lineage.
+fn add_written(ids: &mut Roomy, id: &WriteId, over: &Lineage)
+    requires few { length (with_ids (id.now ∷ over.now) ids.old.ids) ≤ MOST_IDS }
+    requires room { length ids.old.ids + ids.old.spare ≡ MOST_IDS }
+    requires written { 1 ≤ id.now.version }
+    ensures { ids.new.ids ≡ with_ids (id.now ∷ over.now) ids.old.ids }
+{
+    let Ok(_) = ids.append(*id) else {
+        unreachable!() // they are few enough
+    };
+    let Ok(()) = ids.transfer(over) else {
+        unreachable!() // as above
+    };
+}
+
+// Appends the id of a write, and what is kept beside it, to what was carried, and puts the lineage
+// back.
+fn append_over(
+    lineage: &mut Lineage,
+    carried: Roomy,
+    mut spare: Roomy,
+    id: &WriteId,
+    over: &Lineage,
+) -> Result<WriteId, ShimFault>
+    requires ids { spare.ids ≡ [] }
+    requires room { spare.spare ≡ MOST_IDS }
+    requires written { 1 ≤ id.now.version }
+    ensures { Appends id.now over.now carried.ids lineage.new result }
+{
+    let before = carried.into_lineage();
+    if before.union_len(id, over) > MOST_IDS as u32 {
+        *lineage = before;
+        return Err(ShimFault::LineageFull(*id));
+    }
+    refill(&mut spare, &before);
+    add_written(&mut spare, id, over);
+    *lineage = spare.into_lineage();
+    Ok(*id)
+}
+
+// Appends the id of a write alone to what was carried, and puts the lineage back.
+fn append_id(lineage: &mut Lineage, mut carried: Roomy, id: &WriteId) -> Result<WriteId, ShimFault>
+    requires room { 1 ≤ carried.spare }
+    requires written { 1 ≤ id.now.version }
+    ensures { Appends id.now [] carried.ids lineage.new result }
+{
+    let added = carried.append(*id);
+    *lineage = carried.into_lineage();
+    match added {
+        Ok(_) => Ok(*id),
+        Err(RoomyFull) => Err(ShimFault::LineageFull(*id)),
+    }
+}
+
+// Appends the id of a write that was made, and what is kept beside it, to what was carried, and puts
+// the lineage back. Where the write keeps what it handed in, that is carried already.
 fn append_written(
     lineage: &mut Lineage,
-    mut taken: Roomy,
-    id: WriteId,
+    carried: Roomy,
+    spare: Roomy,
+    made: &MadeWrite,
 ) -> Result<WriteId, ShimFault>
-    requires room { 1 ≤ taken.spare }
-    requires written { 1 ≤ id.version }
-    ensures { Appends id taken.ids lineage.new result }
+    requires ascending { IsAscending carried.ids }
+    requires room { 1 ≤ carried.spare }
+    requires spare { spare.ids ≡ [] }
+    requires most { spare.spare ≡ MOST_IDS }
+    requires written { 1 ≤ made.now.id.version }
+    ensures { Appends made.now.id (unwrap_or made.now.over carried.ids) carried.ids lineage.new result }
 {
-    let written = &id;
-    let added = taken.append(*written);
-    *lineage = taken.into_lineage();
-    match added {
-        Ok(_) => Ok(id),
-        Err(RoomyFull) => Err(ShimFault::LineageFull(id)),
+    match &made.over {
+        Some(over) => append_over(lineage, carried, spare, &made.id, over.get()),
+        None => append_id(lineage, carried, &made.id),
     }
 }

@@ -1,6 +1,6 @@
 -- The lines of a small run, worked out: a process writes and reads one key, and its last choice is a wait.
 use Rattle.std.proofs.Common.{◌≡◌, ℕ, List, [], ◌∷◌, false, refl, Option, Some, None}
-use Rattle.std.specs.Prelude.{codes}
+use Rattle.std.specs.Prelude.{None, Some, codes}
 use Rattle.std.specs.Fmt.{digits}
 use Rattle.anti_ids.specs.List.{plain}
 use Rattle.anti_kind.specs.declared.actor.Actor.{Actor}
@@ -83,7 +83,7 @@ abbrev taken : Entry
 taken = record { stamp = 1; object = 1; place = 1; seat = 0; actor = by_w; span = 1; call = calls.Take 1; reply = replies.Got 1 message }
 
 abbrev written : Entry
-written = record { stamp = 2; object = 0; place = 1; seat = 0; actor = by_w; span = 1; call = calls.Write (codes "k") (codes "a%") []; reply = replies.Written (codes "k") 1 }
+written = record { stamp = 2; object = 0; place = 1; seat = 0; actor = by_w; span = 1; call = calls.Write (codes "k") (codes "a%") []; reply = replies.Written (codes "k") 1 None }
 
 abbrev moved : Entry
 moved = record { stamp = 3; object = 0; place = 2; seat = 0; actor = Carrier 0; span = 0; call = calls.Ship 0 1 1; reply = replies.Moved }
@@ -234,6 +234,11 @@ nothing-shown = refl
 pub rows-shown : reply_text app (replies.Shown (plain (row_of_version (codes "a") 3 ∷ row_of_version (codes "b") 2 ∷ []))) ≡ codes "a@3 \"v\" 1; + b@2 \"v\" 1;"
 unfolding digits percent_encode_byte
 rows-shown = refl
+
+-- a write that replaced one tells what is kept beside it
+pub over-told : reply_text app (replies.Written (codes "k") 2 (Some (id_k ∷ []))) ≡ codes "k@2 over 1;s/k@1"
+unfolding digits
+over-told = refl
 
 pub part : call_text app 0 (calls.Ship 0 7 4) ≡ codes "ship eu 7 4"
 unfolding digits

@@ -1,5 +1,5 @@
 -- The words of a call and of a reply.
-use Rattle.std.specs.Prelude.{ℕ, List, [], ◌∷◌, ◌++◌, ◌==◌, codes, decimal, if◌then◌else◌}
+use Rattle.std.specs.Prelude.{ℕ, List, [], ◌∷◌, ◌++◌, ◌==◌, Option, None, Some, codes, decimal, if◌then◌else◌}
 use Rattle.std.specs.List.{join_by}
 use Rattle.anti_ids.specs.declared.id.WriteId.{WriteId}
 use Rattle.anti_kind.specs.declared.call.Call.{Call}
@@ -91,8 +91,13 @@ look_text app [] [] = codes "clear"
 look_text app missing unwritten =
     codes "missing " ++ lineage_text app missing ++ codes " unwritten " ++ lineage_text app unwritten
 
+-- what is kept beside a write, where that is more than it handed in
+abbrev pub over_text : App → Option (List WriteId) → List ℕ
+over_text app None = []
+over_text app (Some kept) = codes " over " ++ lineage_text app kept
+
 abbrev pub reply_text : App → Reply → List ℕ
-reply_text app (replies.Written key version) = version_text key version
+reply_text app (replies.Written key version over) = version_text key version ++ over_text app over
 reply_text app (replies.Shown rows) = rows_text app rows.items
 reply_text app (replies.Missing missing unwritten) = look_text app missing unwritten
 reply_text app replies.Moved = codes "moved"

@@ -1,12 +1,12 @@
 ghost use Rattle.std.specs.Prelude.{◌≡◌, ◌++◌, ◌&&◌, ◌==◌, length, OnOk};
-ghost use Rattle.anti_text.specs.Calls.{taken_text, version_text, row_text, rows_text, look_text, reply_text};
+ghost use Rattle.anti_text.specs.Calls.{look_text, over_text, reply_text, row_text, rows_text, taken_text, version_text};
 
 use crate::call_words::{handler_and_rest, kind_text, value_and_baggage};
 use crate::output::Output;
 use crate::printer::Printer;
 use crate::words::quoted;
 use anti_ids::{Lineage, Name, NoMemory};
-use anti_kind::{Message, MessageKind, Reply, Row};
+use anti_kind::{Handle, Message, MessageKind, Reply, Row};
 
 // Writes a message as it is taken.
 fn taken_text(
@@ -88,12 +88,32 @@ fn look_text(
     printer.lineage(out, unwritten)
 }
 
+// Writes what is kept beside a write, where that is more than it handed in.
+fn over_text(
+    out: &mut Output,
+    printer: &Printer,
+    over: &Option<Handle<Lineage>>,
+) -> Result<(), NoMemory>
+    ensures { OnOk result (out.new ≡ out.old ++ over_text printer.now.app.now over.now) }
+{
+    match over {
+        Some(kept) => {
+            out.put(b" over ")?;
+            printer.lineage(out, kept.get())
+        }
+        None => Ok(()),
+    }
+}
+
 /// Writes a reply.
 pub fn reply_text(out: &mut Output, printer: &Printer, reply: &Reply) -> Result<(), NoMemory>
     ensures { OnOk result (out.new ≡ out.old ++ reply_text printer.now.app.now reply.now) }
 {
     match reply {
-        Reply::Written { key, version } => version_text(out, key.get(), *version),
+        Reply::Written { key, version, over } => {
+            version_text(out, key.get(), *version)?;
+            over_text(out, printer, over)
+        }
         Reply::Shown(rows) => rows_text(out, printer, rows.as_slice()),
         Reply::Missing { missing, unwritten } => look_text(
             out,

@@ -77,7 +77,7 @@ impl Groups {
 
     // Adds the id that an entry of a process wrote, where it is the next of its store.
     fn add(&mut self, entry: &Entry) -> Result<(), NoMemory> {
-        let Reply::Written { key, version } = &entry.reply else {
+        let Reply::Written { key, version, .. } = &entry.reply else {
             return Ok(());
         };
         let Actor::Process(birth) = entry.actor else {

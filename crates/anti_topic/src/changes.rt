@@ -2,17 +2,17 @@ ghost use Rattle.std.specs.Prelude.{◌≡◌, List, [], ◌∷◌, ◌++◌, On
 ghost use Rattle.anti_kind.specs.declared.call.Call.TheVariants.{Write};
 ghost use Rattle.anti_kind.specs.declared.entry.Entry.{Entry};
 ghost use Rattle.anti_kind.specs.Objects.{Follows};
-ghost use Rattle.anti_kind.specs.Machines.{MayMake, MayApply};
+ghost use Rattle.anti_kind.specs.Machines.{MayMake};
 
 use crate::topic_store::Topic;
 use anti_ids::{Lineage, Name, NoMemory, Value};
 use anti_kind::{Call, Reply};
 
 impl Topic {
-    ghost use Rattle.anti_topic.specs.TopicStates.{its_start, TopicStands, At};
+    ghost use Rattle.anti_topic.specs.TopicStates.{its_start, TopicStands, At, MayWriteTo};
     ghost use Rattle.anti_topic.specs.inner.Changes.{IsQuiet};
 
-    // Writes a value to a channel: it is the next cell there, with the key that the reply says.
+    // Writes a value to a channel: it is the next cell there. It is handed in with this lineage, and the reply says its key.
     pub(crate) fn write(
         &mut self,
         channel: &Name,
@@ -20,19 +20,15 @@ impl Topic {
         lineage: &Lineage,
         reply: &Reply,
     ) -> Result<(), NoMemory>
-        requires { MayApply (its_start self.old) (TopicStands self.old)
-            (Write channel.now value.now lineage.now) reply.now }
+        requires { MayWriteTo self.old channel.now value.now lineage.now reply.now }
         ensures stands { (h : List Entry) (e : Entry) → At self.old h
             → Follows (its_start self.old) h e → e.call ≡ Write channel.now value.now lineage.now → e.reply ≡ reply.now
             → OnOk result (TopicStands self.new (h ++ e ∷ [])) }
         ensures err { (h : List Entry) → TopicStands self.old h → OnErr result (TopicStands self.new h) }
         ensures start { its_start self.new ≡ its_start self.old }
     {
-        let Reply::Written { key, .. } = reply else {
-            unreachable!(); // that is the reply to a write
-        };
         self.channels.make_place(*channel)?;
-        self.base.write(*key.get(), value, lineage)?;
+        self.base.write(value, lineage, reply)?;
         self.channels.add(channel);
         Ok(())
     }

@@ -106,6 +106,7 @@ impl Machine for Topic {
                 Some(key) => Ok(Reply::Written {
                     key: Handle::new(self.base.allocator(), key)?,
                     version: self.base.next_version(),
+                    over: None, // nothing is replaced
                 }),
                 None => unreachable!(), // the channel is plain, since the call is ready
             },

@@ -117,7 +117,7 @@ same_birth b c = by_test (same_actor (Acting c) (Acting b)) refl
     by_test false t = inr (sym t)
 
 module _ (app : App) (trace after : List Entry) (goes : GoesOn trace after) where
-  full_later : (object : ℕ) (call : Call) → WasFull app trace object call → WasFull app after object call
+  pub full_later : (object : ℕ) (call : Call) → WasFull app trace object call → WasFull app after object call
   full_later object call was = record {
     start = was.start;
     there = was.there;
@@ -128,6 +128,7 @@ module _ (app : App) (trace after : List Entry) (goes : GoesOn trace after) wher
     owed_units = was.owed_units;
     need_units = was.need_units;
     was_full = was.was_full;
+    ascends = was.ascends;
   }
 
   ended_later : (want : Want) (at : ℕ) → IsEnded app trace want at → IsEnded app after want at

@@ -32,4 +32,4 @@ module _ (app : App) (trace : List Entry) (run : IsLegalTrace app trace) (sound 
       let same : entries_on object trace ++ rest ≡ was.before ++ (was.later ++ rest) = ap (λ (h : List Entry). h ++ rest) was.history ∙ append_assoc was.before was.later rest in
       subst (λ (h : List Entry). fits was.start h call ≡ false) (sym same)
       (full_stays was.start was.before (was.later ++ rest) call (start_sound app object was.start sound was.there) (start_stays app object was.start was.there)
-      (subst (IsLegal was.start) same legal) (unfit was.start was.before call was.held_units was.owed_units was.need_units was.was_full))
+      (subst (IsLegal was.start) same legal) was.was_full.is_ready was.ascends (unfit was.start was.before call was.held_units was.owed_units was.need_units was.was_full))

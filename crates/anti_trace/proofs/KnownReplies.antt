@@ -1,9 +1,9 @@
 -- What a known call of an object is due is known too.
-use Rattle.std.proofs.Common.{◌≡◌, ◌⊎◌, ⊎_elim, ℕ, zero, suc, ◌+◌, ◌-◌, ◌<◌, ◌≤◌, ◌^◌, Bool, true, false, not, cond, List, [], ◌∷◌, ◌++◌, length, get_or, refl, sym, ap, ◌∙◌, subst, arith, length-append, unwrap_or}
-use Rattle.std.specs.Prelude.{All, IsTrue, Option, None, Some, find, flat_map, option_and_then, option_map, slice_get, nat_eq, nat_lt, nat_le, bytes_eq, count_by, decimal, ◌==◌, ◌||◌}
+use Rattle.std.proofs.Common.{◌≡◌, ◌⊎◌, ⊎_elim, inl, ℕ, zero, suc, ◌+◌, ◌-◌, ◌<◌, ◌≤◌, ◌^◌, Bool, true, false, not, cond, List, [], ◌∷◌, ◌++◌, length, get_or, refl, sym, ap, ◌∙◌, eqb-true, subst, arith, length-append, unwrap_or}
+use Rattle.std.specs.Prelude.{All, IfSome, IsTrue, Option, None, Some, find, flat_map, option_and_then, option_map, slice_get, nat_eq, nat_lt, nat_le, bytes_eq, count_by, decimal, ◌==◌, ◌||◌}
 use Rattle.std.specs.List.{list_all}
 use Rattle.std.specs.Option.{option_map_or}
-use Rattle.std.proofs.lemmas.Bool.{or_right, or_left, and_parts, and_from, leb-true, le-leb, lt-ltb}
+use Rattle.std.proofs.lemmas.Bool.{or_right, or_left, and_parts, and_from, cases_lt, leb-true, le-leb, lt-ltb}
 use Rattle.std.proofs.lemmas.Fmt.{decimal_is_IsNumeral, length-decimal-le}
 use Rattle.std.proofs.lemmas.List.{length-map}
 use Rattle.std.proofs.lemmas.List.Concat.{flat_map-cons}
@@ -15,8 +15,10 @@ use Rattle.anti_ids.specs.Each.{Each}
 use Rattle.std.specs.Char.{is_ascii_alphanumeric}
 use Rattle.std.specs.Int.{is_in_range}
 use Rattle.anti_ids.specs.Names.{is_name, is_name_byte, is_plain, is_plain_byte}
-use Rattle.anti_ids.proofs.IdLemmas.{each_filter}
-use Rattle.anti_ids.specs.declared.limits.TheConstants.{MOST_UNITS}
+use Rattle.anti_ids.specs.Ids.{has_id, with_ids}
+use Rattle.anti_ids.specs.declared.id.WriteId.{WriteId}
+use Rattle.anti_ids.proofs.IdLemmas.{each_filter, each_with_ids, lineage_with_ids}
+use Rattle.anti_ids.specs.declared.limits.TheConstants.{MOST_IDS, MOST_UNITS}
 use Rattle.anti_kind.specs.Kinds.{facts_of}
 use Rattle.anti_kind.specs.declared.call.Call.{Call}
 use Rattle.anti_kind.specs.declared.call.Call.TheVariants as calls
@@ -30,14 +32,16 @@ use Rattle.anti_kind.specs.declared.row.Row.{Row}
 use Rattle.anti_kind.specs.declared.store_kind.StoreKind.{StoreKind}
 use Rattle.anti_kind.specs.Inbox.{if_to, free, got_of, handed, inbox_due, listed, messages, numbered, post_due, posted, replied}
 use Rattle.anti_kind.specs.Inbox as inboxes
-use Rattle.anti_kind.specs.Objects.{Start, store, IsLegal, ready, due}
-use Rattle.anti_kind.specs.Store.{Store, store_of, absent, is_visible, is_written, key_for, next, scanned, shown_row, store_due, store_ready}
-use Rattle.anti_kind.specs.Stored.{is_in, rows, row_of, wrote}
+use Rattle.anti_kind.specs.Fulls.{HasAscending}
+use Rattle.anti_kind.specs.Objects.{Start, store, IsLegal, ready, due, fits, held, need, owed}
+use Rattle.anti_kind.specs.Store.{Store, store_of, absent, is_visible, is_written, key_for, left_by, next, over, replaced, scanned, shown_row, store_due, store_need, store_ready, told_over, with_left, with_replaced}
+use Rattle.anti_kind.specs.Stored.{greatest, is_in, rows, row_of, wrote}
 use Rattle.anti_kind.proofs.Bounds.{length_within}
 use Rattle.anti_kind.proofs.Finding.{Found, find_found}
 use Rattle.anti_kind.proofs.Sources.{rows_have_sources}
 use Rattle.anti_kind.specs.Laws.{IsOfWrite, RowsHaveSources}
-use Rattle.anti_kind.proofs.Rows.{rows_length}
+use Rattle.anti_kind.proofs.Overs.{fitting}
+use Rattle.anti_kind.proofs.Rows.{row_of_none, rows_length}
 use Rattle.anti_kind.proofs.Showing.{same_bytes}
 use Rattle.anti_app.specs.declared.app.App.{App}
 use Rattle.anti_app.specs.declared.app.HandlerDef.{HandlerDef}
@@ -144,7 +148,8 @@ module _ (app : App) (o : ℕ) where
 
   -- a written row
   wrote_known : (c : Call) (r : Reply) → IsCallAt app o c → IsReplyAt app o r → Each (IsRowOf app o) (wrote c r)
-  wrote_known (calls.Write key value lineage) (replies.Written written version) call reply = (record { id = reply; lineage = call.1 }, tt)
+  wrote_known (calls.Write key value lineage) (replies.Written written version None) call reply = (record { id = reply.0; lineage = call.1 }, tt)
+  wrote_known (calls.Write key value lineage) (replies.Written written version (Some kept)) call reply = (record { id = reply.0; lineage = reply.1 }, tt)
   wrote_known _ r call reply = tt
 
   rows_known : (h : List Entry) → Each KnownAt h → Each (IsRowOf app o) (rows h)
@@ -173,17 +178,53 @@ module _ (app : App) (o : ℕ) where
       sources : RowsHaveSources s
       sources = rows_have_sources s
 
-      store_known : (c : Call) → IsCallAt app o c → store_ready s h c ≡ true → IsReplyAt app o (store_due s h c)
-      store_known (calls.Write key value lineage) call is_ready =
-          ids_at (key_for s.kind h key) (length (rows h) + 1) within (key_named s.kind h key short call.0 is_ready) (omega (arith, rows_length h))
-      store_known (calls.Look g ids dry) call is_ready =
+      -- the id of the write that one to a key replaces
+      replaced_written : (key : List ℕ) (r : Row) → replaced h key ≡ Some r → 1 ≤ r.version
+      replaced_written key r is =
+          let v = greatest (λ (x : Row). true) key (rows h) in
+          let same : r.version ≡ v = eqb-true r.version v (find_found (λ (x : Row). x.version == v) (rows h) r is).passes in
+          ⊎_elim (λ (low : v < 1). absurd (let both : None ≡ Some r = sym (row_of_none s h legal v (inl (omega arith))) ∙ is in cc)) (λ (some : 1 ≤ v). omega arith) (cases_lt v 1)
+
+      replaced_known : (number : s.number ≡ o) (key : List ℕ) (r : Row) → replaced h key ≡ Some r → IsRowOf app o r
+          → AreIdsOf app (record { store = s.number; key = r.key; version = r.version } ∷ [])
+      replaced_known number key r is row =
+          let id : WriteId = record { store = o; key = r.key; version = r.version } in
+          let known : AreIdsOf app (id ∷ []) = subst (λ (some : Bool). AreIdsOf app (cond some (id ∷ []) [])) (lt-ltb 0 r.version (replaced_written key r is)) row.id in
+          subst (λ (n : ℕ). AreIdsOf app (record { store = n; key = r.key; version = r.version } ∷ [])) (sym number) known
+
+      -- what a write tells that it keeps, where that is no more than a lineage may have
+      new_known : s.number ≡ o → (key : List ℕ) (r : Row) → replaced h key ≡ Some r → (lineage : List WriteId) → IsOverApp app lineage → (all : Bool)
+          → length (unwrap_or (cond all None (Some (with_ids (left_by s.number (Some r)) lineage))) lineage) ≤ MOST_IDS
+          → IfSome (cond all None (Some (with_ids (left_by s.number (Some r)) lineage))) (IsOverApp app)
+      new_known number key r is lineage own true few = tt
+      new_known number key r is lineage own false few =
+          let row : IsRowOf app o r = each_found (IsRowOf app o) (λ x. x.version == greatest (λ (x : Row). true) key (rows h)) (rows h) r (rows_known h known) is in
+          let left : List WriteId = left_by s.number (Some r) in
+          record {
+            lineage = lineage_with_ids left lineage (with_ids left lineage) (replaced_written key r is, row.lineage.lineage.written) own.lineage refl few;
+            each = each_with_ids _ left lineage ((replaced_known number key r is row).0, row.lineage.each) own.each;
+          }
+
+      kept_known : s.number ≡ o → (key : List ℕ) (lineage : List WriteId) → IsOverApp app lineage → length (over s h key lineage) ≤ MOST_IDS → IfSome (told_over s h key lineage) (IsOverApp app)
+      kept_known number key lineage own few = by_row (replaced h key) refl few
+        where
+          by_row : (found : Option Row) → replaced h key ≡ found → length (with_replaced s.number found lineage) ≤ MOST_IDS → IfSome (with_left (left_by s.number found) lineage) (IsOverApp app)
+          by_row None is few = tt
+          by_row (Some r) is few = new_known number key r is lineage own (list_all (λ i. has_id i lineage) (left_by s.number (Some r))) few
+
+      store_known : s.number ≡ o → (c : Call) → IsCallAt app o c → store_ready s h c ≡ true → store_need s h c ≤ MOST_UNITS → IsReplyAt app o (store_due s h c)
+      store_known number (calls.Write key value lineage) call is_ready enough = (
+        ids_at (key_for s.kind h key) (length (rows h) + 1) within (key_named s.kind h key short call.0 is_ready) (omega (arith, rows_length h)),
+        kept_known number key lineage call.1 (fitting s h key value lineage enough).0,
+      )
+      store_known number (calls.Look g ids dry) call is_ready enough =
           (each_filter _ (λ id. not (is_visible s h g id)) ids call.each, each_filter _ (λ id. not (is_written h id)) ids call.each)
-      store_known (calls.Read g key) call is_ready = shown_known (shown_row s h g key ∷ []) (sources h (calls.Read g key) legal is_ready)
-      store_known (calls.Scan g prefix) call is_ready = shown_known (scanned s h g prefix) (sources h (calls.Scan g prefix) legal is_ready)
-      store_known (calls.Poll g key) call is_ready = shown_known (shown_row s h g key ∷ []) (sources h (calls.Poll g key) legal is_ready)
-      store_known (calls.Pull n) call is_ready = source_known (unwrap_or (next s h n) (absent [])) (sources h (calls.Pull n) legal is_ready)
-      store_known (calls.Repull n v) call is_ready = source_known (unwrap_or (row_of h v) (absent [])) (sources h (calls.Repull n v) legal is_ready)
-      store_known _ call is_ready = tt
+      store_known number (calls.Read g key) call is_ready enough = shown_known (shown_row s h g key ∷ []) (sources h (calls.Read g key) legal is_ready)
+      store_known number (calls.Scan g prefix) call is_ready enough = shown_known (scanned s h g prefix) (sources h (calls.Scan g prefix) legal is_ready)
+      store_known number (calls.Poll g key) call is_ready enough = shown_known (shown_row s h g key ∷ []) (sources h (calls.Poll g key) legal is_ready)
+      store_known number (calls.Pull n) call is_ready enough = source_known (unwrap_or (next s h n) (absent [])) (sources h (calls.Pull n) legal is_ready)
+      store_known number (calls.Repull n v) call is_ready enough = source_known (unwrap_or (row_of h v) (absent [])) (sources h (calls.Repull n v) legal is_ready)
+      store_known number _ call is_ready enough = tt
 
   -- ---- an inbox
 
@@ -285,20 +326,21 @@ module _ (app : App) (o : ℕ) where
   -- ---- each object
 
   abbrev IsDue : List Entry → Call → Start → Type 0
-  IsDue h c start = length h ≤ MOST_UNITS → IsLegal start h → ready start h c ≡ true → IsReplyAt app o (due start h c)
+  IsDue h c start = length h ≤ MOST_UNITS → IsLegal start h → ready start h c ≡ true → need start h c ≤ MOST_UNITS → IsReplyAt app o (due start h c)
 
   module _ (h : List Entry) (known : Each KnownAt h) (c : Call) (call : IsCallAt app o c) (start : Start) where
     of_store : IsStore app o → (found : Option StoreDef) → option_map (store_start app o) found ≡ Some start → IsDue h c start
     of_store within None is = absurd (cc)
     of_store within (Some s) is =
         let same : store_start app o s ≡ start = cc in
-        subst (IsDue h c) same (λ short legal is_ready. store_known (store_of s.kind o s.replicas.items (subs_on app o) (tries_of s)) h known within short legal c call is_ready)
+        subst (IsDue h c) same
+        (λ short legal is_ready enough. store_known (store_of s.kind o s.replicas.items (subs_on app o) (tries_of s)) h known within short legal refl c call is_ready enough)
 
     of_inbox : (found : Option ServiceDef) → slice_get app.services.items (service_at app o) ≡ found → option_map (inbox_start app (service_at app o)) found ≡ Some start → IsDue h c start
     of_inbox None at is = absurd (cc)
     of_inbox (Some s) at is =
         let same : inbox_start app (service_at app o) s ≡ start = cc in
-        subst (IsDue h c) same (λ short legal is_ready. inbox_known (requests_to app s (service_at app o)) h (requests_known s at) known c)
+        subst (IsDue h c) same (λ short legal is_ready enough. inbox_known (requests_to app s (service_at app o)) h (requests_known s at) known c)
 
     is_due : start_of app o ≡ Some start → IsDue h c start
     is_due there = by_object (object_at app o) refl there
@@ -312,8 +354,14 @@ module _ (app : App) (o : ℕ) where
             of_inbox (slice_get app.services.items (service_at app o)) refl
             (subst (λ (k : ℕ). option_map (inbox_start app k) (slice_get app.services.items k) ≡ Some start) (inbox_is app o service at).0 is)
 
--- After a legal history of an object, whose entries are known, a known call that is ready is due a known reply.
+-- A known call hands in a lineage, if it is a write.
+pub call_ascends : (app : App) (o : ℕ) (c : Call) → IsCallAt app o c → HasAscending c
+call_ascends app o (calls.Write key value lineage) known = known.1.lineage.ascending
+call_ascends app o _ known = tt
+
+-- After a legal history of an object, whose entries are known, a known call that is ready and fits is due a known reply.
 pub due_known : (app : App) (o : ℕ) (start : Start) (h : List Entry) (c : Call) → IsTrue (is_sound app) → start_of app o ≡ Some start → IsLegal start h → Each (KnownAt app o) h
-    → IsCallAt app o c → ready start h c ≡ true → IsReplyAt app o (due start h c)
-due_known app o start h c sound there legal known call is_ready =
-    is_due app o h known c call start there (length_within start h (start_sound app o start sound there) legal) legal is_ready
+    → IsCallAt app o c → ready start h c ≡ true → fits start h c ≡ true → IsReplyAt app o (due start h c)
+due_known app o start h c sound there legal known call is_ready fit =
+    let enough : held h + owed start h + need start h c ≤ MOST_UNITS = leb-true (held h + owed start h + need start h c) MOST_UNITS fit in
+    is_due app o h known c call start there (length_within start h (start_sound app o start sound there) legal) legal is_ready (omega (arith, enough))

@@ -150,7 +150,7 @@ module _ (app : App) (trace : List Entry) (legal : IsLegalTrace app trace) where
         record {
           call = call;
           reply = subst (IsReplyAt app e.object) (sym follows.reply)
-              (due_known app e.object there.0 (entries_on e.object before) e.call sound there.1 (legal_before there.0 there.1) (known_on app before known e.object) call follows.is_ready);
+              (due_known app e.object there.0 (entries_on e.object before) e.call sound there.1 (legal_before there.0 there.1) (known_on app before known e.object) call follows.is_ready follows.fits);
         }
 
     -- and one by whose call a process is born starts one

@@ -1,10 +1,10 @@
 -- A call of a process that was ready and did not fit stays ready, so that it is full for ever.
-use Rattle.std.proofs.Common.{◌≡◌, ℕ, ◌+◌, ◌<◌, ◌≤◌, Bool, true, false, not, ◌&&◌, ◌||◌, List, [], ◌∷◌, ◌++◌, inl, inr, refl, sym, ap, ◌∙◌, subst, ⊎_elim, append_assoc, append-nil, leb-false, arith}
-use Rattle.std.specs.Prelude.{IsTrue, ◌==◌, bytes_eq}
+use Rattle.std.proofs.Common.{◌≡◌, ℕ, ◌+◌, ◌<◌, ◌≤◌, cond, Bool, true, false, not, ◌&&◌, ◌||◌, List, [], ◌∷◌, ◌++◌, inl, inr, refl, sym, ap, ◌∙◌, subst, ⊎_elim, append_assoc, append-nil, leb-false, arith}
+use Rattle.std.specs.Prelude.{IsTrue, ◌==◌, ◌*◌, bytes_eq, length, nat_le}
 use Rattle.std.specs.List.{list_all, list_any}
 use Rattle.std.proofs.lemmas.Bool.{and_parts, and_from, cases_Bool, or_cases, or_left, or_right}
 use Rattle.anti_ids.specs.declared.id.WriteId.{WriteId}
-use Rattle.anti_ids.specs.declared.limits.TheConstants.{MOST_UNITS}
+use Rattle.anti_ids.specs.declared.limits.TheConstants.{MOST_IDS, MOST_UNITS}
 use Rattle.anti_kind.specs.declared.call.Call.{Call}
 use Rattle.anti_kind.specs.declared.call.Call.TheVariants as calls
 use Rattle.anti_kind.specs.declared.entry.Entry.{Entry}
@@ -16,8 +16,8 @@ use Rattle.anti_kind.specs.Fulls.{ShowsStay}
 use Rattle.anti_kind.specs.Inbox.{post_need, post_ready}
 use Rattle.anti_kind.specs.Objects.{Start, store, inbox, Follows, IsLegal, fits, held, need, owed, ready}
 use Rattle.anti_kind.specs.Starts.{IsStart}
-use Rattle.anti_kind.specs.Store.{Store, can_look, is_replica, is_visible, is_written}
-use Rattle.anti_kind.specs.Stored.{rows}
+use Rattle.anti_kind.specs.Store.{Store, can_look, is_replica, is_visible, is_written, over}
+use Rattle.anti_kind.specs.Stored.{parts_of, rows}
 use Rattle.anti_kind.proofs.Bounds.{within_units}
 use Rattle.anti_kind.proofs.Fullness.{finds_all_stays, units_rise}
 use Rattle.anti_kind.proofs.Histories.{fits_number, follows_in, legal_front}
@@ -36,7 +36,11 @@ use Rattle.anti_trace.proofs.FullStays.{unfit, never_fits}
 -- ---- nothing is written any more where not even one unit is left
 
 write_needs : (s : Store) (h : List Entry) (call : Call) → is_write call ≡ true → 1 ≤ need (store s) h call
-write_needs s h (calls.Write key value lineage) is = omega arith
+write_needs s h (calls.Write key value lineage) is = least (nat_le (length (over s h key lineage)) MOST_IDS)
+  where
+    least : (few : Bool) → 1 ≤ cond few (1 + length s.regions * parts_of s.kind value) (MOST_UNITS + 1)
+    least true = omega arith
+    least false = omega arith
 write_needs s h _ is = absurd (cc)
 
 module _ (s : Store) (sane : IsStart (store s)) where

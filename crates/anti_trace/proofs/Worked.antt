@@ -87,7 +87,7 @@ written = record {
   actor = Process (first_on 1);
   span = 1;
   call = calls.Write (codes "k") (codes "a") [];
-  reply = replies.Written (codes "k") 1;
+  reply = replies.Written (codes "k") 1 None;
 }
 
 abbrev shipped : Entry

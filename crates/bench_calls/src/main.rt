@@ -1,6 +1,7 @@
 //! Makes calls on shared key-value stores, by so many threads: a benchmark. `bench_calls 4 100` has four threads make 4,000 calls together
-//! on one store, a hundred times, each time on a new store. It tells how many calls were made. `bench_calls 4 100 50` asks besides, after
-//! every fourth call, fifty times how far the region has everything, which takes no turn.
+//! on one store, a hundred times, each time on a new store. A thread writes no key twice, so that what a write keeps stays short. It tells
+//! how many calls were made. `bench_calls 4 100 50` asks besides, after every fourth call, fifty times how far the region has everything,
+//! which takes no turn.
 #![tactic(auto)]
 
 ghost use Rattle.std.specs.Prelude.{◌≡◌, IfSome};
@@ -40,12 +41,21 @@ fn ask<M: Machine>(shared: &Shared<M>, pass: &mut Pass<M>, questions: u32)
     }
 }
 
+// The key of a turn: no other of some thousands has it.
+fn key_of(turn: u32) -> Option<Name> {
+    let letters = [
+        b'a' + (turn / 676 % 26) as u8,
+        b'a' + (turn / 26 % 26) as u8,
+        b'a' + (turn % 26) as u8,
+    ];
+    Name::new(&letters).ok()
+}
+
 // Writes, ships what was written, reads twice, and asks questions, so often.
 fn work<M: Machine, R: Wait + AllocGlobal>(
     rt: &R,
     shared: &Shared<M>,
     mut pass: Pass<M>,
-    key: Name,
     turns: u32,
     questions: u32,
 ) -> Pass<M>
@@ -53,6 +63,9 @@ fn work<M: Machine, R: Wait + AllocGlobal>(
     ensures { result.id ≡ pass.id }
 {
     for turn in 0..turns {
+        let Some(key) = key_of(turn) else {
+            return pass;
+        };
         let Some(call) = write_of(rt.alloc(), key) else {
             return pass;
         };
@@ -101,7 +114,6 @@ fn work_two<M: Machine + Send, R: Threads + Wait + Sync + AllocGlobal>(
     rt: &R,
     shared: &Shared<M>,
     mut first: Pass<M>,
-    key: Name,
     turns: u32,
     questions: u32,
 ) -> Option<Pass<M>>
@@ -111,8 +123,8 @@ fn work_two<M: Machine + Send, R: Threads + Wait + Sync + AllocGlobal>(
     let second = split(shared, &mut first)?;
     let (mut first, second) = join(
         rt,
-        || work(rt, shared, first, key, turns, questions),
-        || work(rt, shared, second, key, turns, questions),
+        || work(rt, shared, first, turns, questions),
+        || work(rt, shared, second, turns, questions),
     );
     shared.join(&mut first, second);
     Some(first)
@@ -123,7 +135,6 @@ fn work_four<M: Machine + Send, R: Threads + Wait + Sync + AllocGlobal>(
     rt: &R,
     shared: &Shared<M>,
     mut first: Pass<M>,
-    key: Name,
     turns: u32,
     questions: u32,
 ) -> Option<Pass<M>>
@@ -135,10 +146,10 @@ fn work_four<M: Machine + Send, R: Threads + Wait + Sync + AllocGlobal>(
         rt,
         ||
             requires { first.id ≡ shared.now.id }
-        { work_two(rt, shared, first, key, turns, questions) },
+        { work_two(rt, shared, first, turns, questions) },
         ||
             requires { second.id ≡ shared.now.id }
-        { work_two(rt, shared, second, key, turns, questions) },
+        { work_two(rt, shared, second, turns, questions) },
     );
     let mut first = first?;
     shared.join(&mut first, second?);
@@ -151,7 +162,6 @@ fn work_all<M: Machine + Send, R: Threads + Wait + Sync + AllocGlobal>(
     shared: &Shared<M>,
     first: Pass<M>,
     words: Words,
-    key: Name,
 ) -> Option<Pass<M>>
     requires { first.id ≡ shared.now.id }
     ensures { IfSome result (λ pass. pass.id ≡ shared.now.id) }
@@ -162,17 +172,17 @@ fn work_all<M: Machine + Send, R: Threads + Wait + Sync + AllocGlobal>(
         rounds: _,
     } = words;
     match threads {
-        1 => Some(work(rt, shared, first, key, CALLS / 4, questions)),
-        2 => work_two(rt, shared, first, key, CALLS / 8, questions),
-        _ => work_four(rt, shared, first, key, CALLS / 16, questions),
+        1 => Some(work(rt, shared, first, CALLS / 4, questions)),
+        2 => work_two(rt, shared, first, CALLS / 8, questions),
+        _ => work_four(rt, shared, first, CALLS / 16, questions),
     }
 }
 
 // So many threads, which are one, two or four, make all calls on a new store. It gives how many were made.
-fn round<R: Threads + Wait + Sync + AllocGlobal>(rt: &R, words: Words, key: Name) -> Option<usize> {
+fn round<R: Threads + Wait + Sync + AllocGlobal>(rt: &R, words: Words) -> Option<usize> {
     let store = Kv::new(rt.alloc(), 0, &[0]).ok()?;
     let (shared, first) = Shared::new(rt.alloc(), 0, store).ok()?;
-    let pass = work_all(rt, &shared, first, words, key)?;
+    let pass = work_all(rt, &shared, first, words)?;
     let kept = shared.close(pass).ok()?;
     Some(kept.history().len())
 }
@@ -208,12 +218,9 @@ fn main(rt: HostRuntime) -> ExitCode {
         let _ = eprintln!(rt; "bench_calls THREADS ROUNDS QUESTIONS: the threads are 1, 2 or 4");
         return ExitCode::FAILURE;
     };
-    let Ok(key) = Name::new(b"k") else {
-        return ExitCode::FAILURE;
-    };
     let mut made: usize = 0;
     for _ in 0..words.rounds {
-        match round(&rt, words, key) {
+        match round(&rt, words) {
             Some(calls) => made = made.wrapping_add(calls),
             None => return ExitCode::FAILURE,
         }

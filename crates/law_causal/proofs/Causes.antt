@@ -11,7 +11,7 @@ use Rattle.law_causal.specs.Carried.{Brought, IsLossless}
 use Rattle.law_causal.proofs.Facts.{Facts}
 use Rattle.law_causal.proofs.Brings.{part_comes, of_write, reads_hand, writes_only}
 use Rattle.law_causal.proofs.Lists.{same_at}
-use Rattle.law_causal.proofs.Known.{Knows, before_it, brought_before, flow, forward, keeps, source, source_order, with_it}
+use Rattle.law_causal.proofs.Known.{Knows, before_it, brought_before, flow, forward, keeps, kept_before, knows_kept, own_or_kept, source, source_order, with_it}
 
 module _ (app : App) (trace : List Entry) (facts : Facts app trace) where
   -- ---- what is carried was written
@@ -24,6 +24,14 @@ module _ (app : App) (trace : List Entry) (facts : Facts app trace) where
 
   pub carried_was_written : CarriedWasWritten app trace
   carried_was_written j e at w has = brought_was_written j e w at (facts.came j e at w has)
+
+  -- and so was what is kept
+  pub kept_was_written : (j : ℕ) (b : Entry) (w : WriteId) → slice_get trace j ≡ Some b → has_id w (kept_with b) ≡ true
+      → WrittenBefore trace j w
+  kept_was_written j b w at kept =
+      let s = source app trace facts j b w at (knows_kept app trace facts j b w at kept) in
+      let before = kept_before app trace facts s.place s.entry w s.there s.wrote j b at kept in
+      record { place = s.place; entry = s.entry; there = s.there; wrote = s.wrote; before = before.1 }
 
   -- ---- what is carried is causally before
 
@@ -57,16 +65,17 @@ module _ (app : App) (trace : List Entry) (facts : Facts app trace) where
 
     module _ (v : WriteId) (writes : has_id v (wrote b) ≡ true) where
       kept_of : i < j → Knows app trace j b w → has_id w (kept_with b) ≡ true
-      kept_of low (before_it k) = (keeps app trace facts j b v at_j writes w).1 lossless k
+      kept_of low (before_it k) = keeps app trace facts lossless j b v at_j writes w k
       kept_of low (with_it came) =
-          let own = ap (has_id w) (writes_only app b v writes).own in
-          let same = facts.once i j a b w at_i at_j has (sym own ∙ came) in
-          absurd (omega (arith, same, low))
+          elim (own_or_kept app trace facts b v writes w came) [
+            | inl own ↦ absurd (let same = facts.once i j a b w at_i at_j has own in omega (arith, same, low))
+            | inr kept ↦ kept
+          ]
 
       into_write : Before trace i j ↔ (has_id w (kept_with b) ≡ true)
       into_write = (
         λ before. kept_of (forward app trace facts before) (known_after before),
-        λ kept. (brought_before app trace facts i a w at_i has j b at_j ((keeps app trace facts j b v at_j writes w).0 kept)).1,
+        λ kept. (kept_before app trace facts i a w at_i has j b at_j kept).1,
       )
 
   pub carried_is_causal : IsLossless app trace → CarriedIsCausal app trace

@@ -1,5 +1,5 @@
 -- What is known at an entry, and the writes that it comes from.
-use Rattle.std.proofs.Common.{◌≡◌, ℕ, zero, suc, ◌<◌, ◌⊎◌, true, List, Contains, Some, slice_get, refl, sym, ap, ◌∙◌, subst, subst₂, inl, inr, arith}
+use Rattle.std.proofs.Common.{◌≡◌, ℕ, zero, suc, ◌<◌, ◌⊎◌, true, List, Contains, Some, slice_get, take, refl, sym, ap, ◌∙◌, subst, subst₂, inl, inr, arith}
 use Rattle.std.proofs.lemmas.Bool.{cases_eq}
 use Rattle.anti_ids.specs.Ids.{has_id}
 use Rattle.anti_ids.specs.declared.id.WriteId.{WriteId}
@@ -7,13 +7,14 @@ use Rattle.anti_kind.specs.declared.entry.Entry.{Entry}
 use Rattle.anti_kind.specs.declared.row.Row.{Row}
 use Rattle.anti_app.specs.declared.app.App.{App}
 use Rattle.law_causal.specs.Words.{brings, rows_in, wrote}
-use Rattle.law_causal.specs.Pasts.{kept_with}
-use Rattle.law_causal.specs.Causal.{Before, Delivers, Earlier, lineage, message, program, row, through}
+use Rattle.law_causal.specs.inner.Taken.{told}
+use Rattle.law_causal.specs.Pasts.{FromReplaced, kept_with}
+use Rattle.law_causal.specs.Causal.{Before, Delivers, Earlier, id_replaced, lineage, message, over, program, row, through}
 use Rattle.law_causal.specs.Carried.{Brought, IsLossless}
-use Rattle.law_causal.proofs.Facts.{Facts, RowSource}
-use Rattle.law_causal.proofs.Ids.{has_id_at, id_for, in_id_at, not_none}
+use Rattle.law_causal.proofs.Facts.{Facts, Replaces, RowSource}
+use Rattle.law_causal.proofs.Ids.{has_id_at, id_for, in_either, in_id_at, not_none}
 use Rattle.law_causal.proofs.Lists.{same_at}
-use Rattle.law_causal.proofs.Brings.{Part, part_comes, of_lineage, of_message, of_row, of_write, part_of, posts_bring_none, row_beside, row_shown, shows_row, writes_only}
+use Rattle.law_causal.proofs.Brings.{Part, part_comes, of_kept, of_lineage, of_message, of_row, of_write, part_of, posts_bring_none, row_beside, row_shown, shows_row, told_kept, writes_only}
 
 -- An id is known at the entry b, at place j: it came to the span before, or comes with the entry.
 pub data Knows (app : App) (trace : List Entry) (j : ℕ) (b : Entry) (w : WriteId) : Type 0 where
@@ -47,13 +48,25 @@ module _ (app : App) (trace : List Entry) (facts : Facts app trace) where
       before_it (record { place = k.place; entry = k.entry; there = k.there; earlier = further k.place i j k.entry a b k.earlier e; came = k.came })
   along i j a b at_i e v (with_it came) = before_it (record { place = i; entry = a; there = at_i; earlier = e; came = came })
 
-  -- What is kept beside a write came to its span, and where no lineage loses a write, what came to the span is kept.
-  pub keeps : (j : ℕ) (e : Entry) (v : WriteId) → slice_get trace j ≡ Some e → has_id v (wrote e) ≡ true → (w : WriteId)
-      → (has_id w (kept_with e) ≡ true → Brought app trace j e w) × (IsLossless app trace → Brought app trace j e w → has_id w (kept_with e) ≡ true)
-  keeps j e v at has w =
-      let kept = ap (has_id w) (facts.writes j e v at has).kept in
-      let hands = (writes_only app e v has).hands in
-      (λ its. facts.came j e at w (sym kept ∙ its), λ lossless brought. kept ∙ lossless j e at hands w brought)
+  -- Where no lineage loses a write, what came to the span of a write is kept beside it.
+  pub keeps : IsLossless app trace → (j : ℕ) (e : Entry) (v : WriteId) → slice_get trace j ≡ Some e → has_id v (wrote e) ≡ true
+      → (w : WriteId) → Brought app trace j e w → has_id w (kept_with e) ≡ true
+  keeps lossless j e v at has w brought = (facts.writes j e v at has).keeps w (lossless j e at (writes_only app e v has).hands w brought)
+
+  -- what comes with a write is its id, or kept beside it
+  pub own_or_kept : (e : Entry) (v : WriteId) → has_id v (wrote e) ≡ true → (w : WriteId) → has_id w (brings app e) ≡ true
+      → (has_id w (wrote e) ≡ true) ⊎ (has_id w (kept_with e) ≡ true)
+  own_or_kept e v has w came =
+      elim ((in_either w (wrote e) (told e)).0 (sym (ap (has_id w) (writes_only app e v has).own) ∙ came)) [ inl own ↦ inl own | inr tells ↦ inr (told_kept e w tells) ]
+
+  -- what is kept beside a write is known at it
+  pub knows_kept : (j : ℕ) (b : Entry) (w : WriteId) → slice_get trace j ≡ Some b → has_id w (kept_with b) ≡ true → Knows app trace j b w
+  knows_kept j b w at kept =
+      let write = facts.keeper j b w at kept in
+      elim ((facts.writes j b write.0 at write.1).tells w kept) [
+        | inl tells ↦ with_it (part_comes app b w (of_kept tells))
+        | inr carried ↦ before_it (facts.came j b at w carried)
+      ]
 
   -- from a post to what takes its message
   to_letter : IsLossless app trace → (i j : ℕ) (a b : Entry) → slice_get trace i ≡ Some a → slice_get trace j ≡ Some b → Delivers a b
@@ -62,6 +75,20 @@ module _ (app : App) (trace : List Entry) (facts : Facts app trace) where
       let p = facts.passes i j a b at_i at_j d in
       part_comes app b v (of_message (p.same v ∙ lossless i a at_i p.hands v k))
   to_letter lossless i j a b at_i at_j d v (with_it came) = not_none v (brings app a) (posts_bring_none app a d.letter d.posted) came
+
+  -- from a write to the one that replaces it
+  module _ (i j : ℕ) (a b : Entry) (w : WriteId) (at_i : slice_get trace i ≡ Some a) (at_j : slice_get trace j ≡ Some b)
+      (has : has_id w (wrote a) ≡ true) (replaced : has_id w (id_replaced (take j trace) b) ≡ true) where
+    abbrev its_replacer : Replaces i a j b
+    its_replacer = facts.replaces i j a b w at_i at_j has replaced
+
+    to_replacer : IsLossless app trace → (v : WriteId) → Knows app trace i a v → Knows app trace j b v
+    to_replacer lossless v (before_it k) = knows_kept j b v at_j (its_replacer.kept v (keeps lossless i a w at_i has v k))
+    to_replacer lossless v (with_it came) =
+        elim (own_or_kept a w has v came) [
+          | inl own ↦ knows_kept j b v at_j (its_replacer.id v own)
+          | inr kept ↦ knows_kept j b v at_j (its_replacer.kept v kept)
+        ]
 
   -- ---- rows of version 1 or later
 
@@ -75,14 +102,18 @@ module _ (app : App) (trace : List Entry) (facts : Facts app trace) where
     has_its_id : has_id its_id (wrote its_write.entry) ≡ true
     has_its_id = ap (has_id its_id) its_write.wrote ∙ has_id_at b.object r.key r.version some
 
+    -- what is kept beside its write is beside the row
+    to_lineage : (v : WriteId) → has_id v (kept_with its_write.entry) ≡ true → has_id v (brings app b) ≡ true
+    to_lineage v kept = part_comes app b v (of_lineage r in_it (sym (ap (has_id v) its_write.kept) ∙ kept))
+
     -- from its write to what shows the row
     to_row : IsLossless app trace → (v : WriteId) → Knows app trace its_write.place its_write.entry v → has_id v (brings app b) ≡ true
-    to_row lossless v (before_it k) =
-        let kept = (keeps its_write.place its_write.entry its_id its_write.there has_its_id v).1 lossless k in
-        part_comes app b v (of_lineage r in_it (sym (ap (has_id v) its_write.kept) ∙ kept))
+    to_row lossless v (before_it k) = to_lineage v (keeps lossless its_write.place its_write.entry its_id its_write.there has_its_id v k)
     to_row lossless v (with_it came) =
-        let own = (writes_only app its_write.entry its_id has_its_id).own in
-        part_comes app b v (of_row r in_it (sym (ap (has_id v) its_write.wrote) ∙ sym (ap (has_id v) own) ∙ came))
+        elim (own_or_kept its_write.entry its_id has_its_id v came) [
+          | inl own ↦ part_comes app b v (of_row r in_it (sym (ap (has_id v) its_write.wrote) ∙ own))
+          | inr kept ↦ to_lineage v kept
+        ]
 
     row_before : Before trace its_write.place j
     row_before = row its_write.entry b its_id its_write.there at has_its_id (shows_row b its_id r in_it (has_id_at b.object r.key r.version some))
@@ -126,8 +157,38 @@ module _ (app : App) (trace : List Entry) (facts : Facts app trace) where
   itself : (j : ℕ) (b : Entry) (w : WriteId) → slice_get trace j ≡ Some b → has_id w (wrote b) ≡ true → Source app trace j b w
   itself j b w at has = record { place = j; entry = b; there = at; wrote = has; order = inl refl; flows = λ lossless v k. k }
 
+  of_before : (j : ℕ) (b : Entry) (w : WriteId) → slice_get trace j ≡ Some b → Sources j w → Brought app trace j b w
+      → Source app trace j b w
+  of_before j b w at below k =
+      onward k.place j k.entry b w k.earlier.before (program k.entry b k.there at k.earlier)
+      (λ lossless v x. along k.place j k.entry b k.there k.earlier v x)
+      (below k.place k.entry k.earlier.before k.there (with_it k.came))
+
+  -- what the write that is replaced leaves is known at it
+  left_known : (j : ℕ) (b : Entry) (w : WriteId) (f : FromReplaced trace j b w) → Knows app trace f.place f.entry w
+  left_known j b w f =
+      elim f.leaves [
+        | inl same ↦ with_it (part_comes app f.entry w (of_write (ap (λ (i : WriteId). has_id i (wrote f.entry)) same ∙ f.wrote)))
+        | inr kept ↦ knows_kept f.place f.entry w f.there kept
+      ]
+
+  of_replaced : (j : ℕ) (b : Entry) (w : WriteId) → slice_get trace j ≡ Some b → Sources j w → FromReplaced trace j b w
+      → Source app trace j b w
+  of_replaced j b w at below f =
+      let before = (facts.replaces f.place j f.entry b f.id f.there at f.wrote f.replaced).before in
+      onward f.place j f.entry b w before (over f.entry b f.id f.there at f.wrote f.replaced)
+      (λ lossless v k. to_replacer f.place j f.entry b f.id f.there at f.wrote f.replaced lossless v k)
+      (below f.place f.entry before f.there (left_known j b w f))
+
   of_part : (j : ℕ) (b : Entry) (w : WriteId) → slice_get trace j ≡ Some b → Sources j w → Part app b w → Source app trace j b w
   of_part j b w at below (of_write has) = itself j b w at has
+  of_part j b w at below (of_kept has) =
+      let kept = told_kept b w has in
+      let write = facts.keeper j b w at kept in
+      elim ((facts.writes j b write.0 at write.1).from w kept) [
+        | inl carried ↦ of_before j b w at below (facts.came j b at w carried)
+        | inr left ↦ of_replaced j b w at below left
+      ]
   of_part j b w at below (of_row r in_it has) =
       let some = (in_id_at w b.object r.key r.version has).0 in
       let from = facts.rows j b r at in_it some in
@@ -135,8 +196,7 @@ module _ (app : App) (trace : List Entry) (facts : Facts app trace) where
   of_part j b w at below (of_lineage r in_it has) =
       let some = has_version j b r w at in_it has in
       let from = facts.rows j b r at in_it some in
-      let came = (keeps from.place from.entry (id_for b.object r.key r.version) from.there (has_its_id j b r at in_it some) w).0 (ap (has_id w) from.kept ∙ has) in
-      from_row j b r at in_it some w (below from.place from.entry from.before from.there (before_it came))
+      from_row j b r at in_it some w (below from.place from.entry from.before from.there (knows_kept from.place from.entry w from.there (ap (has_id w) from.kept ∙ has)))
   of_part j b w at below (of_message has) =
       let from = facts.letters j b w at has in
       let p = facts.passes from.place j from.entry b from.there at from.delivers in
@@ -146,9 +206,7 @@ module _ (app : App) (trace : List Entry) (facts : Facts app trace) where
       (below from.place from.entry p.before from.there (before_it came))
 
   step : (j : ℕ) (b : Entry) (w : WriteId) → slice_get trace j ≡ Some b → Sources j w → Knows app trace j b w → Source app trace j b w
-  step j b w at below (before_it k) =
-      onward k.place j k.entry b w k.earlier.before (program k.entry b k.there at k.earlier) (λ lossless v x. along k.place j k.entry b k.there k.earlier v x)
-      (below k.place k.entry k.earlier.before k.there (with_it k.came))
+  step j b w at below (before_it k) = of_before j b w at below k
   step j b w at below (with_it came) = of_part j b w at below (part_of app b w came)
 
   sources : (n : ℕ) (w : WriteId) (j : ℕ) (b : Entry) → j < n → slice_get trace j ≡ Some b → Knows app trace j b w → Source app trace j b w
@@ -181,6 +239,18 @@ module _ (app : App) (trace : List Entry) (facts : Facts app trace) where
         let order = source_order k.place k.entry (source k.place k.entry w k.there (with_it k.came)) in
         farther i k.place j order k.earlier.before (program k.entry b k.there at_j k.earlier)
 
+    -- and so was what a write keeps
+    pub kept_before : (j : ℕ) (b : Entry) → slice_get trace j ≡ Some b → has_id w (kept_with b) ≡ true → (i < j) × Before trace i j
+    kept_before j b at_j kept =
+        let write = facts.keeper j b w at_j kept in
+        elim ((facts.writes j b write.0 at_j write.1).from w kept) [
+          | inl carried ↦ brought_before j b at_j (facts.came j b at_j w carried)
+          | inr f ↦
+              let order = source_order f.place f.entry (source f.place f.entry w f.there (left_known j b w f)) in
+              farther i f.place j order (facts.replaces f.place j f.entry b f.id f.there at_j f.wrote f.replaced).before
+              (over f.entry b f.id f.there at_j f.wrote f.replaced)
+        ]
+
     -- what a reply with a row brings, and did not write, was written causally before
     module _ (j : ℕ) (b : Entry) (r : Row) (at_j : slice_get trace j ≡ Some b) (in_it : Contains (rows_in b.call b.reply) r) (came : has_id w (brings app b) ≡ true) where
       abbrev shown_source : Source app trace j b w
@@ -210,6 +280,7 @@ module _ (app : App) (trace : List Entry) (facts : Facts app trace) where
   forward (lineage {i = i} {j = j} a b w at_i at_j has shows) =
       let (r, in_it, came) = row_beside app b w shows in
       (shown_before i a w at_i has j b r at_j in_it came).0
+  forward (over {i = i} {j = j} a b w at_i at_j has replaced) = (facts.replaces i j a b w at_i at_j has replaced).before
   forward (through p q) = let low = forward p in let high = forward q in omega (arith, low, high)
 
   -- an id is known at the entry at a place
@@ -228,6 +299,8 @@ module _ (app : App) (trace : List Entry) (facts : Facts app trace) where
   goes_along lossless (lineage {i = i} {j = j} a b w at_i at_j has shows) v k =
       let (r, in_it, came) = row_beside app b w shows in
       known_at j b v at_j (shown_flows i a w at_i has j b r at_j in_it came lossless v (k a at_i))
+  goes_along lossless (over {i = i} {j = j} a b w at_i at_j has replaced) v k =
+      known_at j b v at_j (to_replacer i j a b w at_i at_j has replaced lossless v (k a at_i))
   goes_along lossless (through p q) v k = goes_along lossless q v (goes_along lossless p v k)
 
   -- What is known goes along it, where no lineage loses a write.

@@ -7,11 +7,13 @@ pub mod Processes
 pub mod Looks
 pub mod Objects
 pub mod Stores
+pub mod Replacing
 pub mod Inboxes
 pub mod Brings
 pub mod Known
 pub mod Causes
 pub mod Written
+pub mod Keyed
 pub mod Legal
 pub mod Barriers
 pub mod WorkedForms

@@ -1,6 +1,6 @@
 -- The looks of a legal trace: what they ask for and where, how one follows another, and that those of a barrier or a dry run leave out nothing
 -- that is carried.
-use Rattle.std.proofs.Common.{◌≡◌, ℕ, zero, suc, ◌<◌, ◌≤◌, ◌==◌, ◌&&◌, ◌||◌, ◌++◌, ◌⊎◌, Bool, true, false, List, [], ◌∷◌, length, length-append, map, refl, sym, ap, ap₂, ◌∙◌, subst, eqb-true, inl, inr, arith}
+use Rattle.std.proofs.Common.{◌≡◌, ℕ, zero, suc, ◌<◌, ◌==◌, ◌&&◌, ◌||◌, ◌++◌, ◌⊎◌, Bool, true, List, [], ◌∷◌, length, length-append, map, refl, sym, ap, ap₂, ◌∙◌, subst, eqb-true, inl, inr, arith}
 use Rattle.std.specs.Prelude.{Option, Some, None, slice_get, take, drop, option_and_then}
 use Rattle.std.proofs.lemmas.Bool.{and_from, and_parts, cases_order, or_cases}
 use Rattle.anti_ids.specs.Ids.{has_id, ids_of}

@@ -16,7 +16,6 @@ use Rattle.anti_kind.specs.declared.call.Reply.{Reply}
 use Rattle.anti_kind.specs.declared.call.Reply.TheVariants as replies
 use Rattle.anti_kind.specs.declared.entry.Entry.{Entry}
 use Rattle.anti_kind.specs.declared.message.Message.{Message}
-use Rattle.anti_kind.specs.Stored.{stored}
 use Rattle.anti_baggage.specs.Texts.{lineage_text}
 use Rattle.anti_baggage.specs.Reading.{read_lineage}
 use Rattle.anti_baggage.specs.declared.fault.BaggageFault.{BaggageFault}
@@ -47,7 +46,6 @@ use Rattle.law_causal.specs.Words.{Letter, hands_all, id_written, posts_in, wrot
 use Rattle.law_causal.specs.Causal.{is_process}
 use Rattle.law_causal.specs.Carried.{Brought, ask_at, carried_at}
 use Rattle.law_causal.proofs.Coming.{IsBroughtBy, by_entries, first_within}
-use Rattle.law_causal.proofs.Facts.{Writes}
 use Rattle.law_causal.proofs.Ids.{in_either}
 use Rattle.law_causal.proofs.Places.{did, made_at}
 
@@ -148,6 +146,15 @@ tree_asks app trace j e a = sym (ap (λ es. ask_of (process_after app es)) a.bef
 
 pub carried_is : (app : App) (trace : List Entry) (j : ℕ) (e : Entry) (a : IsAsked app trace j e) → carried_at app trace j e ≡ a.ask.carried
 carried_is app trace j e a = ap (λ found. option_map_or (λ (ask : Ask). ask.carried) found []) a.asked
+
+-- a write is one of a process, which hands in what is carried into it
+pub record HandsIn (app : App) (trace : List Entry) (j : ℕ) (e : Entry) : Type 0 where
+  pub process : is_process e.actor ≡ true
+  pub key : List ℕ
+  pub value : List ℕ
+  pub lineage : List WriteId
+  pub call : e.call ≡ calls.Write key value lineage
+  pub carried : lineage ≡ carried_at app trace j e
 
 -- the message that is posted states what is carried into the post
 pub record PostsCarried (app : App) (trace : List Entry) (j : ℕ) (e : Entry) (m : Message) : Type 0 where
@@ -337,16 +344,16 @@ module _ (app : App) (trace : List Entry) (legal : IsLegalTrace app trace) (j : 
           each_asked (IsAtHome home) (tree_of app a.birth) (map reply_of a.later) a.ask (process_at_home app a.birth task is) (tree_asks app trace j e a) in
           (task, is, subst (IsMadeIn home) (sym a.call) its)
 
-  -- A write is one of a process, and keeps what is carried into it.
-  pub writes : (w : WriteId) → has_id w (wrote e) ≡ true → Writes app trace j e
-  writes w has = by_call e.call e.reply refl has
+  -- A write is one of a process, which hands in what is carried into it.
+  pub hands_in : (w : WriteId) → has_id w (wrote e) ≡ true → HandsIn app trace j e
+  hands_in w has = by_call e.call e.reply refl has
     where
-      by_call : (call : Call) (reply : Reply) → e.call ≡ call → has_id w (id_written e.object call reply) ≡ true → Writes app trace j e
-      by_call (calls.Write key value lineage) (replies.Written name version) is has =
+      by_call : (call : Call) (reply : Reply) → e.call ≡ call → has_id w (id_written e.object call reply) ≡ true → HandsIn app trace j e
+      by_call (calls.Write key value lineage) (replies.Written name version over) is has =
           let a : IsAsked app trace j e = hands_asked (ap hands_all is) in
-          let kept : HandsOn app (carried_at app trace j e) e.object (calls.Write key value lineage) =
+          let carried : HandsOn app (carried_at app trace j e) e.object (calls.Write key value lineage) =
           subst (λ c. HandsOn app (carried_at app trace j e) e.object c) is (handed a) in
-          record { process = a.process; kept = ap (λ c. stored c e.reply) is ∙ kept }
+          record { process = a.process; key = key; value = value; lineage = lineage; call = is; carried = carried }
       by_call call reply is has = absurd (cc)
 
   -- ---- messages

@@ -1,7 +1,7 @@
 -- What the stores of a legal trace give the causal order: each write has an id of its own, each row is that of an earlier write, and what a
 -- look found visible stays visible.
 use Rattle.std.proofs.Common.{◌≡◌, ℕ, zero, suc, ◌+◌, ◌<◌, ◌≤◌, ◌++◌, ◌⊎◌, ◌&&◌, ◌||◌, ◌==◌, Bool, true, false, not, List, [], ◌∷◌, length, length-append, get_or, refl, sym, ap, ap₂, ◌∙◌, subst, inl, inr, ⊎_elim, arith}
-use Rattle.std.specs.Prelude.{◌↔◌, Contains, Some, slice_get, take, bytes_eq}
+use Rattle.std.specs.Prelude.{◌↔◌, Contains, Option, Some, unwrap_or, slice_get, take, bytes_eq}
 use Rattle.std.specs.List.{list_all, list_any, Any}
 use Rattle.std.proofs.lemmas.Bool.{and_from, and_parts, both_ways, cases_order, eq-eqb, le-leb, leb-true, not-true, or_cases, or_left, or_right}
 use Rattle.std.proofs.lemmas.List.Elements.{All-contains, Contains-get_or}
@@ -21,7 +21,7 @@ use Rattle.anti_kind.specs.Inbox.{inbox_ready}
 use Rattle.anti_kind.specs.Laws.{AreSourced, IsOfWrite}
 use Rattle.anti_kind.specs.Replies.{named_missing}
 use Rattle.anti_kind.specs.Objects.{Start, store, inbox, Follows, IsLegal, ready}
-use Rattle.anti_kind.specs.Store.{Store, absent, can_look, is_replica, is_visible, is_written, key_for, store_due, store_ready}
+use Rattle.anti_kind.specs.Store.{Store, absent, can_look, is_replica, is_visible, is_written, key_for, store_due, store_ready, told_over}
 use Rattle.anti_kind.specs.Stored.{rows, stored, wrote as wrote_row}
 use Rattle.anti_kind.proofs.Finding.{Found, find_found, joined_from}
 use Rattle.anti_kind.proofs.Keeping.{looks_right}
@@ -49,20 +49,32 @@ pub record IsWrite (o : ℕ) (c : Call) (y : Reply) (w : WriteId) : Type 0 where
   pub lineage : List WriteId
   pub name : List ℕ
   pub version : ℕ
+  pub over : Option (List WriteId)
   pub call : c ≡ calls.Write key value lineage
-  pub reply : y ≡ replies.Written name version
+  pub reply : y ≡ replies.Written name version over
   pub some : 0 < version
   pub id : w ≡ id_for o name version
 
 pub write_parts : (o : ℕ) (c : Call) (y : Reply) (w : WriteId) → has_id w (id_written o c y) ≡ true → IsWrite o c y w
-write_parts o (calls.Write key value lineage) (replies.Written name version) w has =
+write_parts o (calls.Write key value lineage) (replies.Written name version over) w has =
     let known = in_id_at w o name version has in
-    record { key = key; value = value; lineage = lineage; name = name; version = version; call = refl; reply = refl; some = known.0; id = known.1 }
+    record {
+      key = key;
+      value = value;
+      lineage = lineage;
+      name = name;
+      version = version;
+      over = over;
+      call = refl;
+      reply = refl;
+      some = known.0;
+      id = known.1;
+    }
 write_parts o _ _ w has = absurd (cc)
 
 -- the row that it adds
-abbrev row_made : {o : ℕ} {c : Call} {y : Reply} {w : WriteId} → IsWrite o c y w → Row
-row_made it = record { key = it.name; version = it.version; value = it.value; lineage = it.lineage }
+abbrev pub row_made : {o : ℕ} {c : Call} {y : Reply} {w : WriteId} → IsWrite o c y w → Row
+row_made it = record { key = it.name; version = it.version; value = it.value; lineage = unwrap_or it.over it.lineage }
 
 row_added : (o : ℕ) (c : Call) (y : Reply) (w : WriteId) (it : IsWrite o c y w) → wrote_row c y ≡ row_made it ∷ []
 row_added o c y w it = ap₂ wrote_row it.call it.reply
@@ -70,7 +82,8 @@ row_added o c y w it = ap₂ wrote_row it.call it.reply
 -- a write gets the version after those that are there
 next_version : (start : Start) (h : List Entry) (e : Entry) (w : WriteId) → Follows start h e → IsWrite e.object e.call e.reply w → w.version ≡ length (rows h) + 1
 next_version (store s) h e w f it =
-    let due : replies.Written it.name it.version ≡ replies.Written (key_for s.kind h it.key) (length (rows h) + 1) =
+    let due : replies.Written it.name it.version it.over
+    ≡ replies.Written (key_for s.kind h it.key) (length (rows h) + 1) (told_over s h it.key it.lineage) =
     sym it.reply ∙ f.reply ∙ ap (λ (c : Call). store_due s h c) it.call in
     let same : it.version ≡ length (rows h) + 1 = cc in
     ap (λ (x : WriteId). x.version) it.id ∙ same
@@ -79,7 +92,7 @@ next_version (inbox requests) h e w f it =
     absurd (cc)
 
 -- the rows of a history with a write among its entries
-rows_cut : (before : List Entry) (a : Entry) (rest : List Entry) (o : ℕ) (w : WriteId) (it : IsWrite o a.call a.reply w)
+pub rows_cut : (before : List Entry) (a : Entry) (rest : List Entry) (o : ℕ) (w : WriteId) (it : IsWrite o a.call a.reply w)
     → rows (before ++ a ∷ rest) ≡ rows before ++ row_made it ∷ rows rest
 rows_cut before a rest o w it =
     rows-append before (a ∷ rest) ∙ ap (λ (rs : List Row). rows before ++ (rs ++ rows rest)) (row_added o a.call a.reply w it)
@@ -120,9 +133,9 @@ row_from (inbox requests) h e r l f in' = absurd (no_rows requests h e.call e.re
 
 -- the write of a row
 row_written : (o : ℕ) (c : Call) (y : Reply) (r : Row) → Contains (wrote_row c y) r → (id_written o c y ≡ id_at o r.key r.version) × (stored c y ≡ r.lineage)
-row_written o (calls.Write key value lineage) (replies.Written name version) r (zero, short, is) =
+row_written o (calls.Write key value lineage) (replies.Written name version over) r (zero, short, is) =
     (ap (λ (x : Row). id_at o x.key x.version) is, ap (λ (x : Row). x.lineage) is)
-row_written o (calls.Write key value lineage) (replies.Written name version) r (suc k, short, is) = absurd (omega (arith, short))
+row_written o (calls.Write key value lineage) (replies.Written name version over) r (suc k, short, is) = absurd (omega (arith, short))
 row_written o _ _ r in' = absurd (omega (arith, in'.1))
 
 -- ---- looks
@@ -160,7 +173,7 @@ visible_after app trace region w o own s start =
 
 module _ (app : App) (trace : List Entry) (legal : IsLegalTrace app trace) where
   -- the id of a write: its store, and the version after those before it
-  write_at : (j : ℕ) (e : Entry) (w : WriteId) → slice_get trace j ≡ Some e → has_id w (wrote e) ≡ true
+  pub write_at : (j : ℕ) (e : Entry) (w : WriteId) → slice_get trace j ≡ Some e → has_id w (wrote e) ≡ true
       → (e.object ≡ w.store) × (w.version ≡ length (rows (entries_on w.store (take j trace))) + 1)
   write_at j e w at has =
       let it : IsWrite e.object e.call e.reply w = write_parts e.object e.call e.reply w has in
@@ -215,7 +228,8 @@ module _ (app : App) (trace : List Entry) (legal : IsLegalTrace app trace) where
       row_from start.0 (entries_on b.object (take j trace)) b r (legal_at app trace legal b.object start.0 start.1 j)
       (follows_at app trace legal b.object start.0 start.1 j b at refl) in'
 
-  source_in : (j : ℕ) (b : Entry) (r : Row) → Contains (rows (entries_on b.object (take j trace))) r → RowSource trace j b r
+  -- a row of the history is that of an earlier write
+  pub source_in : (j : ℕ) (b : Entry) (r : Row) → Contains (rows (entries_on b.object (take j trace))) r → RowSource trace j b r
   source_in j b r in' =
       let h : List Entry = entries_on b.object (take j trace) in
       let found : Any (λ (e : Entry). Contains (wrote_row e.call e.reply) r) h = joined_from (λ (e : Entry). wrote_row e.call e.reply) h r in' in

@@ -1,6 +1,6 @@
 -- Worked traces: the stores `s` and `t`, and the service `v`, whose inbox is object 2, with two processes.
-use Rattle.std.proofs.Common.{◌≡◌, ℕ, zero, suc, true, false, List, [], ◌∷◌, Contains, Some, slice_get, refl, sym, ap, ◌∙◌, subst, arith}
-use Rattle.std.specs.Prelude.{Ok, codes}
+use Rattle.std.proofs.Common.{◌≡◌, ℕ, zero, suc, true, false, List, [], ◌∷◌, Contains, Some, slice_get, take as front_of, refl, sym, ap, ◌∙◌, subst, arith}
+use Rattle.std.specs.Prelude.{None, Ok, codes}
 use Rattle.anti_ids.specs.Ids.{has_id}
 use Rattle.anti_ids.specs.List.{plain}
 use Rattle.anti_ids.specs.declared.id.WriteId.{WriteId}
@@ -18,7 +18,7 @@ use Rattle.anti_app.specs.declared.app.App.{App}
 use Rattle.anti_baggage.specs.Reading.{read_lineage}
 use Rattle.law_causal.specs.Words.{answered, asked, beside, brings, posts_in, shown, wrote}
 use Rattle.law_causal.specs.Pasts.{kept_with}
-use Rattle.law_causal.specs.Causal.{Before, Earlier, lineage, message, program, row, through}
+use Rattle.law_causal.specs.Causal.{Before, Earlier, id_replaced, lineage, message, over, program, row, through}
 use Rattle.law_causal.specs.Carried.{Brought}
 use Rattle.law_causal.specs.Settled.{found_in, is_visible_after, region_named}
 use Rattle.law_causal.proofs.WorkedForms.{app_with, born_at, made, service_in, store_in}
@@ -49,7 +49,7 @@ message_of kind to baggage = record { kind = kind; to = to; depth = 0; handler =
 -- ---- a process writes and sends a message, and the process of the message reads what was written
 
 abbrev write : Entry
-write = made 2 0 1 first 1 (calls.Write key (codes "a") []) (replies.Written key 1)
+write = made 2 0 1 first 1 (calls.Write key (codes "a") []) (replies.Written key 1 None)
 
 abbrev send : Entry
 send = made 3 2 2 first 1 (calls.Post (message_of kinds.Send 0 (codes "1;s/k@1"))) (replies.Posted 2)
@@ -113,10 +113,10 @@ answer_before_hear =
 -- ---- a row that was stored with a lineage
 
 abbrev older : Entry
-older = made 2 1 1 first 1 (calls.Write key (codes "a") []) (replies.Written key 1)
+older = made 2 1 1 first 1 (calls.Write key (codes "a") []) (replies.Written key 1 None)
 
 abbrev newer : Entry
-newer = made 3 0 1 second 1 (calls.Write key (codes "a") (its_id 1 1 ∷ [])) (replies.Written key 1)
+newer = made 3 0 1 second 1 (calls.Write key (codes "a") (its_id 1 1 ∷ [])) (replies.Written key 1 None)
 
 abbrev read_newer : Entry
 read_newer = made 4 0 2 first 2 (calls.Scan 0 key) (replies.Shown (plain (row_of 1 (its_id 1 1 ∷ []) ∷ row_of 0 [] ∷ [])))
@@ -139,7 +139,7 @@ older_before_read = lineage older read_newer (its_id 1 1) refl refl refl refl
 
 -- ---- what comes with an entry
 
--- a write brings its own id, and not what is kept beside it
+-- a write brings its own id, and what is kept beside it where that is more than it handed in
 brings_itself : brings app newer ≡ its_id 0 1 ∷ []
 brings_itself = refl
 
@@ -198,25 +198,49 @@ inbox_is_not = refl
 none_is_not : is_visible_after app (write ∷ ship ∷ []) 0 (its_id 3 0) ≡ false
 none_is_not = refl
 
+-- ---- a write that replaces another is after it, by whatever process
+
+-- it keeps the id of the other
+abbrev overwrite : Entry
+overwrite = made 3 0 2 second 1 (calls.Write key (codes "b") []) (replies.Written key 2 (Some (its_id 0 1 ∷ [])))
+
+brings_over : brings app overwrite ≡ its_id 0 2 ∷ its_id 0 1 ∷ []
+brings_over = refl
+
+replaces_it : id_replaced (front_of 1 (write ∷ overwrite ∷ [])) overwrite ≡ its_id 0 1 ∷ []
+replaces_it = refl
+
+replaces_none : id_replaced (front_of 0 (write ∷ overwrite ∷ [])) write ≡ []
+replaces_none = refl
+
+write_before_overwrite : Before (write ∷ overwrite ∷ []) 0 1
+write_before_overwrite = over write overwrite (its_id 0 1) refl refl refl refl
+
 -- ---- a new span is not after the span before it
 
-abbrev write_in : ℕ → ℕ → Entry
-write_in span version = made version 0 version first span (calls.Write key (codes "a") []) (replies.Written key version)
+abbrev write_in : ℕ → List ℕ → Entry
+write_in span name = made span 0 span first span (calls.Write name (codes "a") []) (replies.Written name span None)
+
+abbrev one : Entry
+one = write_in 1 (codes "k")
+
+abbrev other : Entry
+other = write_in 2 (codes "l")
 
 abbrev two_spans : List Entry
-two_spans = write_in 1 1 ∷ write_in 2 2 ∷ []
+two_spans = one ∷ other ∷ []
 
-either : (P : Entry → Type 0) → P (write_in 1 1) → P (write_in 2 2) → (i : ℕ) (a : Entry) → slice_get two_spans i ≡ Some a → P a
-either P p q zero a at = let is : write_in 1 1 ≡ a = cc in subst P is p
-either P p q (suc zero) a at = let is : write_in 2 2 ≡ a = cc in subst P is q
+either : (P : ℕ → Entry → Type 0) → P 0 one → P 1 other → (i : ℕ) (a : Entry) → slice_get two_spans i ≡ Some a → P i a
+either P p q zero a at = let is : one ≡ a = cc in subst (P 0) is p
+either P p q (suc zero) a at = let is : other ≡ a = cc in subst (P 1) is q
 either P p q (suc (suc i)) a at = absurd (cc)
 
 not_earlier : (i j : ℕ) (a b : Entry) → slice_get two_spans i ≡ Some a → slice_get two_spans j ≡ Some b → Earlier i a j b → ⊥
 not_earlier zero zero a b at_i at_j e = omega (arith, e.before)
 not_earlier zero (suc zero) a b at_i at_j e =
-    let of_first : write_in 1 1 ≡ a = cc in
-    let of_second : write_in 2 2 ≡ b = cc in
-    let same : (write_in 1 1).span ≡ (write_in 2 2).span = ap (λ (x : Entry). x.span) of_first ∙ e.span ∙ ap (λ (x : Entry). x.span) (sym of_second) in
+    let of_first : one ≡ a = cc in
+    let of_second : other ≡ b = cc in
+    let same : one.span ≡ other.span = ap (λ (x : Entry). x.span) of_first ∙ e.span ∙ ap (λ (x : Entry). x.span) (sym of_second) in
     omega (arith, same)
 not_earlier (suc i) zero a b at_i at_j e = omega (arith, e.before)
 not_earlier (suc i) (suc zero) a b at_i at_j e = omega (arith, e.before)
@@ -225,9 +249,13 @@ not_earlier i (suc (suc j)) a b at_i at_j e = absurd (cc)
 none_before : {i j : ℕ} → Before two_spans i j → ⊥
 none_before (program {i = i} {j = j} a b at_i at_j e) = not_earlier i j a b at_i at_j e
 none_before (message {i = i} a b at_i at_j d) =
-    either (λ (e : Entry). Contains (posts_in e.call e.reply) d.letter → ⊥) (λ at. omega (arith, at.1)) (λ at. omega (arith, at.1)) i a at_i d.posted
+    either (λ (k : ℕ) (e : Entry). Contains (posts_in e.call e.reply) d.letter → ⊥) (λ at. omega (arith, at.1)) (λ at. omega (arith, at.1))
+    i a at_i d.posted
 none_before (row {j = j} a b w at_i at_j has shows) =
-    either (λ (e : Entry). has_id w (shown e) ≡ true → ⊥) (λ never. absurd (cc)) (λ never. absurd (cc)) j b at_j shows
+    either (λ (k : ℕ) (e : Entry). has_id w (shown e) ≡ true → ⊥) (λ never. absurd (cc)) (λ never. absurd (cc)) j b at_j shows
 none_before (lineage {j = j} a b w at_i at_j has shows) =
-    either (λ (e : Entry). has_id w (beside e) ≡ true → ⊥) (λ never. absurd (cc)) (λ never. absurd (cc)) j b at_j shows
+    either (λ (k : ℕ) (e : Entry). has_id w (beside e) ≡ true → ⊥) (λ never. absurd (cc)) (λ never. absurd (cc)) j b at_j shows
+none_before (over {j = j} a b w at_i at_j has replaced) =
+    either (λ (k : ℕ) (e : Entry). has_id w (id_replaced (front_of k two_spans) e) ≡ true → ⊥) (λ never. absurd (cc)) (λ never. absurd (cc))
+    j b at_j replaced
 none_before (through p q) = none_before p

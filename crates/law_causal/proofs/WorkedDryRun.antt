@@ -1,5 +1,5 @@
 -- A worked trace: a process writes, and makes a dry run before its write is shipped. The one look of the dry run names the write.
-use Rattle.std.proofs.Common.{◌≡◌, ℕ, true, false, List, [], ◌∷◌, Some, take, refl, ap, arith}
+use Rattle.std.proofs.Common.{◌≡◌, true, false, List, [], ◌∷◌, Some, take, refl, ap, arith}
 use Rattle.std.specs.Prelude.{codes}
 use Rattle.anti_kind.specs.declared.call.Call.TheVariants as calls
 use Rattle.anti_kind.specs.declared.call.Reply.TheVariants as replies

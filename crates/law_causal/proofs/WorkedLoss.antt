@@ -1,7 +1,7 @@
 -- Two worked traces of one service. In the first a process reads what it wrote, with no barrier between: the read is not settled, and no
 -- lineage loses a write. In the second a process writes behind a read, without a transfer of what it read: this write loses the other.
 use Rattle.std.proofs.Common.{◌≡◌, ℕ, zero, suc, ◌<◌, Bool, true, false, List, [], ◌∷◌, Some, slice_get, take, flat_map, refl, sym, ap, ◌∙◌, subst, inl, inr, arith}
-use Rattle.std.specs.Prelude.{Contains, codes}
+use Rattle.std.specs.Prelude.{Contains, None, codes}
 use Rattle.std.specs.List.{list_all}
 use Rattle.std.proofs.lemmas.Bool.{and_parts, or_cases}
 use Rattle.std.proofs.lemmas.List.Elements.{Contains-append_right}
@@ -97,7 +97,7 @@ abbrev pub first : Entry
 first = taken_at 1 1 1 (codes "one") []
 
 abbrev pub write : Entry
-write = made 2 0 1 (born_at 1 1) 1 (calls.Write (codes "k") (codes "a") []) (replies.Written (codes "k") 1)
+write = made 2 0 1 (born_at 1 1) 1 (calls.Write (codes "k") (codes "a") []) (replies.Written (codes "k") 1 None)
 
 abbrev pub its : WriteId
 its = id_for 0 (codes "k") 1
@@ -153,7 +153,7 @@ abbrev pub read : Entry
 read = made 4 0 3 (born_at 1 2) 1 (calls.Read 0 (codes "k")) (shows (row_of (codes "k") 1 (codes "a") []))
 
 abbrev pub last : Entry
-last = made 5 0 4 (born_at 1 2) 1 (calls.Write (codes "j") (codes "b") []) (replies.Written (codes "j") 2)
+last = made 5 0 4 (born_at 1 2) 1 (calls.Write (codes "j") (codes "b") []) (replies.Written (codes "j") 2 None)
 
 abbrev pub long : List Entry
 long = first ∷ write ∷ second ∷ made 3 0 2 (Carrier 0) 0 (calls.Ship 0 1 1) replies.Moved ∷ read ∷ last ∷ []

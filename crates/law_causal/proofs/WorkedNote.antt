@@ -54,10 +54,10 @@ abbrev pub note_id : WriteId
 note_id = id_for 1 (codes "n#1") 1
 
 abbrev pub post : Entry
-post = made 2 0 1 (born_at 2 1) 1 (calls.Write (codes "p1") (codes "hello") []) (replies.Written (codes "p1") 1)
+post = made 2 0 1 (born_at 2 1) 1 (calls.Write (codes "p1") (codes "hello") []) (replies.Written (codes "p1") 1 None)
 
 abbrev pub note : Entry
-note = made 3 1 1 (born_at 2 1) 1 (calls.Write (codes "n") (codes "p1") (post_id ∷ [])) (replies.Written (codes "n#1") 1)
+note = made 3 1 1 (born_at 2 1) 1 (calls.Write (codes "n") (codes "p1") (post_id ∷ [])) (replies.Written (codes "n#1") 1 None)
 
 -- the process of the note
 abbrev pub did : ℕ → ℕ → ℕ → Call → Reply → Entry

@@ -16,13 +16,13 @@ use Rattle.anti_kind.specs.Store.{is_written}
 use Rattle.anti_kind.specs.Stored as stored
 use Rattle.anti_app.specs.declared.app.App.{App}
 use Rattle.anti_trace.specs.Traces.{entries_on, is_on}
-use Rattle.law_causal.specs.Words.{id_written, wrote}
-use Rattle.law_causal.specs.Pasts.{kept_with}
-use Rattle.law_causal.specs.Carried.{Brought, carried_at}
+use Rattle.law_causal.specs.Words.{id_written}
+use Rattle.law_causal.specs.Pasts.{WrittenBefore, kept_with}
+use Rattle.law_causal.specs.Carried.{carried_at}
 use Rattle.law_causal.proofs.Facts.{Facts}
 use Rattle.law_causal.proofs.Ids.{in_id_at}
-use Rattle.law_causal.proofs.Known.{forward, keeps}
-use Rattle.law_causal.proofs.Causes.{brought_was_written}
+use Rattle.law_causal.proofs.Known.{forward}
+use Rattle.law_causal.proofs.Causes.{carried_was_written, kept_was_written}
 
 -- ---- lists
 
@@ -52,7 +52,7 @@ abbrev is_row : WriteId → Row → Bool
 is_row w r = (r.version == w.version) && bytes_eq r.key w.key
 
 its_row : (o : ℕ) (c : Call) (r : Reply) (w : WriteId) → has_id w (id_written o c r) ≡ true → (o ≡ w.store) × (list_any (is_row w) (stored.wrote c r) ≡ true)
-its_row o (calls.Write key value lineage) (replies.Written name version) w has =
+its_row o (calls.Write key value lineage) (replies.Written name version kept) w has =
     let is = (in_id_at w o name version has).1 in
     let number : version ≡ w.version = ap (λ (i : WriteId). i.version) (sym is) in
     let named = (bytes_eq-Decides name w.key).1 (ap (λ (i : WriteId). i.key) (sym is)) in
@@ -61,18 +61,17 @@ its_row o (calls.Write key value lineage) (replies.Written name version) w has =
 its_row o c r w has = absurd (cc)
 
 module _ (app : App) (trace : List Entry) (facts : Facts app trace) (j : ℕ) (e : Entry) (at : slice_get trace j ≡ Some e) (w : WriteId) where
-  -- The history of its store has, before the entry, the write of each id that came to the entry's span.
-  brought_is_written : Brought app trace j e w → is_written (entries_on w.store (take j trace)) w ≡ true
-  brought_is_written came =
-      let from = brought_was_written app trace facts j e w at came in
+  -- What was written before is in the history of its store, as this is before the entry.
+  in_history : WrittenBefore trace j w → is_written (entries_on w.store (take j trace)) w ≡ true
+  in_history from =
       let its = its_row from.entry.object from.entry.call from.entry.reply w from.wrote in
       any_joined (is_row w) (λ (d : Entry). stored.wrote d.call d.reply) (entries_on w.store (take j trace))
       ∙ any_early (is_on w.store) (λ (d : Entry). list_any (is_row w) (stored.wrote d.call d.reply)) trace from.place j from.entry
       (forward app trace facts from.before) from.there (eq-eqb from.entry.object w.store its.0) its.1
 
-  -- So it has the write of each id that is carried into the entry, and of each that is kept beside the entry's write.
+  -- So this has the write of each id that is carried into the entry, and of each that is kept beside the entry's write.
   pub carried_is_written : has_id w (carried_at app trace j e) ≡ true → is_written (entries_on w.store (take j trace)) w ≡ true
-  carried_is_written has = brought_is_written (facts.came j e at w has)
+  carried_is_written has = in_history (carried_was_written app trace facts j e at w has)
 
-  pub kept_is_written : (v : WriteId) → has_id v (wrote e) ≡ true → has_id w (kept_with e) ≡ true → is_written (entries_on w.store (take j trace)) w ≡ true
-  kept_is_written v writes has = brought_is_written ((keeps app trace facts j e v at writes w).0 has)
+  pub kept_is_written : has_id w (kept_with e) ≡ true → is_written (entries_on w.store (take j trace)) w ≡ true
+  kept_is_written has = in_history (kept_was_written app trace facts j e w at has)

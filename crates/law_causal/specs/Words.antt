@@ -14,7 +14,7 @@ use Rattle.anti_proc.specs.Meaning.{stated_in}
 
 -- the id of the write that a call made at an object
 abbrev pub id_written : ℕ → Call → Reply → List WriteId
-id_written o (calls.Write key value lineage) (replies.Written name version) = id_at o name version
+id_written o (calls.Write key value lineage) (replies.Written name version kept) = id_at o name version
 id_written o call reply = []
 
 abbrev pub wrote : Entry → List WriteId
@@ -36,7 +36,8 @@ shown e = flat_map (λ row. id_at e.object row.key row.version) (rows_in e.call 
 abbrev pub beside : Entry → List WriteId
 beside e = flat_map (λ row. row.lineage) (rows_in e.call e.reply)
 
--- All ids that come with an answered call: of a write its own, of a row its own and its lineage, of a message its lineage.
+-- All ids that come with an answered call: of a write its own and those that are kept beside it, of a row its own and its lineage, of a
+-- message its lineage.
 abbrev pub comes_with : App → ℕ → Call → Reply → List WriteId
 comes_with app o (calls.Take nth) (replies.Got number m) = stated_in app m
 comes_with app o (calls.Pull sub) (replies.Pulled row) = row_ids o row

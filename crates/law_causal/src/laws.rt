@@ -4,17 +4,17 @@ ghost use Rattle.anti_kind.specs.declared.entry.Entry.{Entry};
 ghost use Rattle.anti_app.specs.declared.app.App.{App};
 ghost use Rattle.anti_app.specs.Sound.{is_sound};
 ghost use Rattle.anti_trace.specs.Legal.{IsLegalTrace};
-ghost use Rattle.law_causal.specs.Pasts.{CarriedIsCausal, CarriedWasWritten, KeptIsCarried};
+ghost use Rattle.law_causal.specs.Pasts.{CarriedIsCausal, CarriedWasWritten, KeptIsOver};
 ghost use Rattle.law_causal.specs.Carried.{IsLossless};
 ghost use Rattle.law_causal.specs.Settled.{BarriersFindAll, DryRunsName};
 
 /// In a legal trace of a sound application that loses no lineage, what is carried into a read, and what comes with its rows, is just what is
-/// causally before the read; and the lineage that is kept beside a write is just what is causally before the write. This lineage is what the
-/// process of the write carries, also where lineages are lost.
+/// causally before the read; and the lineage that is kept beside a write is just what is causally before the write. Also where lineages are
+/// lost this lineage is what the process of the write carries, with the write that is replaced and what is kept beside that.
 pub fn carried_sets_are_the_causal_past()
     ensures past { (app : App) (trace : List Entry) → IsTrue (is_sound app)
         → IsLegalTrace app trace → IsLossless app trace → CarriedIsCausal app trace }
-    ensures kept { (app : App) (trace : List Entry) → IsLegalTrace app trace → KeptIsCarried app trace }
+    ensures kept { (app : App) (trace : List Entry) → IsLegalTrace app trace → KeptIsOver app trace }
 {}
 
 /// In a legal trace of a sound application each id that a process carries was written before, and causally so. Lineages may be lost.

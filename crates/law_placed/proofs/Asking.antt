@@ -1,6 +1,6 @@
 -- The calls of a process where no line fails: each carries what it must, and what it is answered is kept.
-use Rattle.std.proofs.Common.{◌≡◌, ℕ, ◌⊎◌, Bool, true, false, cond, List, [], ◌∷◌, refl, sym, ap, ◌∙◌, subst, inl, inr, length, nat_lt}
-use Rattle.std.specs.Prelude.{Option, Some, None}
+use Rattle.std.proofs.Common.{◌≡◌, ℕ, ◌⊎◌, Bool, true, false, cond, List, [], ◌∷◌, ◌++◌, refl, sym, ap, ◌∙◌, subst, inl, inr, length, nat_lt}
+use Rattle.std.specs.Prelude.{Option, Some, None, unwrap_or}
 use Rattle.std.proofs.lemmas.Bool.{or_cases, or_left, or_right}
 use Rattle.std.proofs.lemmas.Slice.Eq.{bytes_eq-Decides}
 use Rattle.anti_ids.specs.Ids.{has_id, with_ids}
@@ -142,12 +142,12 @@ module _ (s : Setting) where
 
         written : (store : ℕ) (key value : List ℕ) (x : Option (List ℕ)) (reply : Reply)
             → Good s.app (more s.app h store l.span (calls.Write key value l.carried) reply) (after_write store x false l go reply)
-        written store key value None (replies.Written name version) =
-            more_good store (calls.Write key value l.carried) (replies.Written name version) (id_at store name version) l.variables
+        written store key value None (replies.Written name version over) =
+            more_good store (calls.Write key value l.carried) (replies.Written name version over) (id_at store name version ++ unwrap_or over []) l.variables
             (λ i has. has)
-        written store key value (Some x) (replies.Written name version) =
-            let held : Binding = Wrote (record { store = store; key = name; version = version }) in
-            more_good store (calls.Write key value l.carried) (replies.Written name version) (id_at store name version)
+        written store key value (Some x) (replies.Written name version over) =
+            let held : Binding = Wrote (record { store = store; key = name; version = version }) (unwrap_or over l.carried) in
+            more_good store (calls.Write key value l.carried) (replies.Written name version over) (id_at store name version ++ unwrap_or over [])
             (with_held x held l.variables) (λ i has. has)
         written store key value x reply = nothing_more store (calls.Write key value l.carried) reply (λ i has. cc)
 

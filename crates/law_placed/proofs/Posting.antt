@@ -1,5 +1,5 @@
 -- To whom the calls and sends of a process are posted: to handlers that lines of its body name.
-use Rattle.std.proofs.Common.{◌≡◌, ℕ, zero, suc, ◌+◌, ◌==◌, Bool, true, false, cond, List, [], ◌∷◌, ◌++◌, Option, Some, None, length, nat_lt, slice_get, if◌then◌else◌, refl, ap, ◌∙◌, subst, eq-eqb, arith}
+use Rattle.std.proofs.Common.{◌≡◌, ℕ, zero, suc, ◌+◌, ◌==◌, Bool, true, false, cond, List, [], ◌∷◌, ◌++◌, Option, Some, None, length, nat_lt, slice_get, unwrap_or, if◌then◌else◌, refl, ap, ◌∙◌, subst, eq-eqb, arith}
 use Rattle.std.specs.List.{list_any}
 use Rattle.std.specs.Option.{option_and_then, option_map_or}
 use Rattle.std.proofs.lemmas.Bool.{and_from, or_left, or_right}
@@ -169,10 +169,11 @@ module _ (s : Setting) where
 
   written : (store : ℕ) (variable : Option (List ℕ)) (untracked : Bool) (l : Local) (go : Go) → GoesOn go → (reply : Reply)
       → Posts (after_write store variable untracked l go reply)
-  written store variable untracked l go goes (replies.Written key version) =
-      let held : Binding = Wrote (record { store = store; key = key; version = version }) in
+  written store variable untracked l go goes (replies.Written key version over) =
+      let held : Binding = Wrote (record { store = store; key = key; version = version }) (unwrap_or over l.carried) in
       let next : Local = option_map_or (λ name. set name held l) variable l in
-      either untracked (go next) (carry (id_at store key version) next go) (goes next) (carried_on (id_at store key version) next go goes)
+      let ids : List WriteId = id_at store key version ++ unwrap_or over [] in
+      either untracked (go next) (carry ids next go) (goes next) (carried_on ids next go goes)
   written store variable untracked l go goes reply = goes l
 
   shown : (store : ℕ) (variable : List ℕ) (l : Local) (go : Go) → GoesOn go → (reply : Reply) → Posts (after_read store variable l go reply)

@@ -1,7 +1,7 @@
 -- Lists that are cut at an item, pairs of their items, and what a test keeps of places.
 use Rattle.std.proofs.Common.{◌≡◌, ℕ, zero, suc, ◌+◌, ◌<◌, ◌≤◌, ◌++◌, ◌⊎◌, ◌↔◌, Bool, true, List, [], ◌∷◌, get_or, All, AllPairs, Contains, take, refl, sym, ap, ◌∙◌, subst, inl, inr, arith}
 use Rattle.std.specs.List.{filter, range_with_len}
-use Rattle.std.proofs.lemmas.List.Elements.{All-append, Contains-get_or}
+use Rattle.std.proofs.lemmas.List.Elements.{All-append, Contains-append_right, Contains-get_or}
 use Rattle.std.proofs.lemmas.List.FromFn.{get_or-range_with_len, length-range_with_len}
 use Rattle.std.proofs.lemmas.List.Kept.{AllPairs-cons, AllPairs-filter}
 use Rattle.std.proofs.lemmas.Option.{get_or_from_slice_get}
@@ -65,6 +65,19 @@ module _ {X : Type 0} (R : X → X → Type 0) where
       let of_ys : All (R x) ys = λ k d short. across x (get_or ys k d) (in_front x xs) (Contains-get_or ys k d short) in
       AllPairs-cons R x (xs ++ ys) (All-append (R x) xs ys of_xs of_ys)
       (pairs_append xs ys (pairs_rest x xs one) other (λ z y in_xs in_ys. across z y (in_rest x xs z in_xs) in_ys))
+
+  pub pairs_later : (xs ys : List X) → AllPairs R (xs ++ ys) → AllPairs R ys
+  pairs_later [] ys pairs = pairs
+  pairs_later (x ∷ xs) ys pairs = pairs_later xs ys (pairs_rest x (xs ++ ys) pairs)
+
+  -- one of a list with one of a list behind it
+  pub pairs_across : (xs ys : List X) → AllPairs R (xs ++ ys) → (x y : X) → Contains xs x → Contains ys y → R x y
+  pairs_across [] ys pairs x y in_xs in_ys = in_none x in_xs
+  pairs_across (z ∷ zs) ys pairs x y in_xs in_ys =
+      elim (front_or_rest z zs x in_xs) [
+        | inl same ↦ subst (λ (k : X). R k y) same (pair_first z (zs ++ ys) pairs y (Contains-append_right zs ys y in_ys))
+        | inr later ↦ pairs_across zs ys (pairs_rest z (zs ++ ys) pairs) x y later in_ys
+      ]
 
 -- ---- places
 

@@ -5,5 +5,6 @@ mod Readings
 mod Missed
 pub mod Pasts
 pub mod Chains
+mod Last
 mod Serial
 pub mod Worked

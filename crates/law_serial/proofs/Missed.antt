@@ -1,5 +1,5 @@
 -- A settled read misses no write: what is carried into it is visible where it reads, and so is what comes with its rows.
-use Rattle.std.proofs.Common.{◌≡◌, ℕ, ◌+◌, ◌<◌, Bool, true, false, List, [], length, get_or, Contains, refl, sym, ap, ◌∙◌, subst, inl, inr, arith}
+use Rattle.std.proofs.Common.{◌≡◌, ℕ, ◌<◌, Bool, true, false, List, [], get_or, Contains, refl, sym, ap, ◌∙◌, subst, inl, inr, arith}
 use Rattle.std.specs.Prelude.{Some, slice_get, take}
 use Rattle.std.proofs.lemmas.Bool.{both_ways, le-leb, leb-true, true_from_ne_false}
 use Rattle.std.proofs.lemmas.List.Elements.{All-contains, Contains-get_or}
@@ -14,27 +14,26 @@ use Rattle.anti_kind.specs.declared.entry.Entry.{Entry}
 use Rattle.anti_kind.specs.declared.row.Row.{Row}
 use Rattle.anti_kind.specs.Laws.{IsTogether, OwnIdsWritten}
 use Rattle.anti_kind.specs.Replies.{named_missing, shown, speaks_of}
-use Rattle.anti_kind.specs.Objects.{Follows, due, store}
-use Rattle.anti_kind.specs.Store.{Store, is_visible, is_written, key_for, store_due}
-use Rattle.anti_kind.specs.Stored.{rows, stored}
+use Rattle.anti_kind.specs.Objects.{due, store}
+use Rattle.anti_kind.specs.Store.{Store, is_visible, is_written}
+use Rattle.anti_kind.specs.Stored.{stored}
 use Rattle.anti_kind.proofs.Lineages.{own_after}
 use Rattle.anti_app.specs.declared.app.App.{App}
 use Rattle.anti_app.specs.Objects.{is_store_here}
 use Rattle.anti_object.specs.Starts.{start_of}
 use Rattle.anti_trace.specs.Legal.{IsLegalTrace}
 use Rattle.anti_trace.specs.Traces.{entries_on}
-use Rattle.law_causal.specs.Words.{id_written, reads, rows_in}
+use Rattle.law_causal.specs.Words.{reads, rows_in}
 use Rattle.law_causal.specs.Pasts.{kept_with, InPast}
-use Rattle.law_causal.specs.inner.Taken.{taken, taken_in}
+use Rattle.law_causal.specs.inner.Taken.{taken, taken_in, told, told_in}
 use Rattle.law_causal.specs.Causal.{Earlier}
 use Rattle.law_causal.specs.Carried.{IsLossless, carried_at}
 use Rattle.law_causal.specs.Settled.{IsSettled, Looked, found_in, is_visible_after, region_named}
-use Rattle.law_causal.proofs.Brings.{Part, of_lineage, of_message, of_row, of_write, part_of, writes_only}
+use Rattle.law_causal.proofs.Brings.{Part, of_kept, of_lineage, of_message, of_row, of_write, part_of, writes_only}
 use Rattle.law_causal.proofs.Causes.{carried_is_causal}
 use Rattle.law_causal.proofs.Facts.{Facts}
-use Rattle.law_causal.proofs.Ids.{has_id_at, id_for, in_id_at, not_none}
+use Rattle.law_causal.proofs.Ids.{id_for, in_id_at, not_none}
 use Rattle.law_causal.proofs.Looks.{is_regional, one_region}
-use Rattle.law_causal.proofs.Objects.{follows_at}
 use Rattle.law_causal.proofs.Places.{seen_at}
 use Rattle.law_causal.proofs.Stores.{look_names, look_own, look_store, visible_after, visible_stays}
 use Rattle.law_causal.proofs.Written.{kept_is_written}
@@ -71,17 +70,12 @@ reads_take_none app (calls.Scan region prefix) y is = refl
 reads_take_none app (calls.Poll region key) y is = refl
 reads_take_none app c y is = absurd (cc)
 
--- what keeps a lineage writes
-its_write : (s : Store) (h : List Entry) (o : ℕ) (c : Call) (y : Reply) (w : WriteId) → y ≡ store_due s h c → has_id w (stored c y) ≡ true
-    → (v : WriteId) × (has_id v (id_written o c y) ≡ true)
-its_write s h o (calls.Write key value lineage) y w is has =
-    let name : List ℕ = key_for s.kind h key in
-    let id : WriteId = id_for o name (length (rows h) + 1) in (
-      id,
-      ap (λ (reply : Reply). has_id id (id_written o (calls.Write key value lineage) reply)) is
-          ∙ has_id_at o name (length (rows h) + 1) (omega arith),
-    )
-its_write s h o c y w is has = absurd (cc)
+-- and is told of nothing that is kept beside a write
+reads_tell_none : (c : Call) (y : Reply) → reads c ≡ true → told_in c y ≡ []
+reads_tell_none (calls.Read region key) y is = refl
+reads_tell_none (calls.Scan region prefix) y is = refl
+reads_tell_none (calls.Poll region key) y is = refl
+reads_tell_none c y is = absurd (cc)
 
 module _ (app : App) (trace : List Entry) (legal : IsLegalTrace app trace) where
   -- ---- what is carried into a settled read
@@ -127,12 +121,9 @@ module _ (app : App) (trace : List Entry) (legal : IsLegalTrace app trace) where
         let id : WriteId = get_or (stored e.call e.reply) k d in
         let has : has_id id (kept_with e) ≡ true =
         has_id-from_Contains id (kept_with e) (Contains-get_or (stored e.call e.reply) k d short) in
-        let follows : Follows (store s) (entries_on o (take i trace)) e =
-        follows_at app trace legal o (store s) start i e seen.2 seen.3 in
-        let write = its_write s (entries_on o (take i trace)) e.object e.call e.reply id follows.reply has in
         let front : before ≡ entries_on id.store (take i trace) =
         seen.4 ∙ ap (λ (n : ℕ). entries_on n (take i trace)) (sym (own ∙ number)) in
-        ap (λ (h : List Entry). is_written h id) front ∙ kept_is_written app trace facts i e seen.2 id write.0 write.1 has
+        ap (λ (h : List Entry). is_written h id) front ∙ kept_is_written app trace facts i e seen.2 id has
 
     module _ (j : ℕ) (b : Entry) (s : Store) (read : IsReadOf app trace j b s) (is_read : reads b.call ≡ true) where
       its_row : (r : Row) → Contains (rows_in b.call b.reply) r → Contains (shown b.reply) r
@@ -164,6 +155,7 @@ module _ (app : App) (trace : List Entry) (legal : IsLegalTrace app trace) where
 
         part_visible : Part app b w → is_visible_there trace j b s w ≡ true
         part_visible (of_write has) = absurd (both_ways (reads b.call) (writes_only app b w has).no_read is_read)
+        part_visible (of_kept has) = not_none w (told b) (reads_tell_none b.call b.reply is_read) has
         part_visible (of_row r in' has) = row_visible r w in' (in_id_at w b.object r.key r.version has).1
         part_visible (of_lineage r in' has) = lineage_visible r in' has
         part_visible (of_message has) = not_none w (taken app b) (reads_take_none app b.call b.reply is_read) has

@@ -26,8 +26,9 @@ use Rattle.law_causal.proofs.Known.{forward}
 use Rattle.law_causal.proofs.Lists.{same_at}
 use Rattle.law_serial.specs.Order.{is_in_past, order_of, writes_at}
 use Rattle.law_serial.specs.Chains.{IsChain}
-use Rattle.law_serial.specs.Serial.{IsGreatest, IsSerial, IsSettledRead, IsWrittenAmong, id_of, version_shown}
+use Rattle.law_serial.specs.Serial.{IsLast, IsSerial, IsSettledRead, IsWrittenAmong, id_of, version_shown}
 use Rattle.law_serial.proofs.Chains.{chain_pairs}
+use Rattle.law_serial.proofs.Last.{IsGreatest, last_of}
 use Rattle.law_serial.proofs.Listing.{is_listed, listed_is, listed_once}
 use Rattle.law_serial.proofs.Missed.{nothing_missed}
 use Rattle.law_serial.proofs.Pasts.{IsWriteAt, past_decides, there_writes, write_there}
@@ -81,11 +82,23 @@ module _ (app : App) (trace : List Entry) (legal : IsLegalTrace app trace) (fact
           let write : IsWriteAt trace x = write_there trace x writes in inl (slice_get_within trace x write.entry write.there, writes, refl)
       by_kind (inr read) = inr read
 
+  once : AllPairs (λ x y. x ≢ y) (order_of app trace rs)
+  once = listed_once (writes_at trace) (is_in_past app trace) (length trace) rs (λ i. false) distinct reads_write_none
+
   -- ---- what stands before a member
+
+  causes_before : (before : List ℕ) (x : ℕ) (after : List ℕ) → order_of app trace rs ≡ before ++ x ∷ after
+      → Placed (writes_at trace) (length trace) rs (Before trace) before x
+  causes_before before x after is =
+      placed_in (writes_at trace) (is_in_past app trace) (length trace) rs (Before trace) pasts linked before x after is
+
+  respects : (before : List ℕ) (x : ℕ) (after : List ℕ) → order_of app trace rs ≡ before ++ x ∷ after
+      → (y : ℕ) → Contains (order_of app trace rs) y → Before trace y x → Contains before y
+  respects before x after is y in' cause = (causes_before before x after is).causes y (write_or_read y in') cause
 
   module _ (before : List ℕ) (x : ℕ) (after : List ℕ) (is : order_of app trace rs ≡ before ++ x ∷ after) where
     place : Placed (writes_at trace) (length trace) rs (Before trace) before x
-    place = placed_in (writes_at trace) (is_in_past app trace) (length trace) rs (Before trace) pasts linked before x after is
+    place = causes_before before x after is
 
     module _ (in' : Contains rs x) (e : Entry) (at : slice_get trace x ≡ Some e) where
       settled_read : (reads e.call ≡ true) × IsSettled app trace x e
@@ -136,14 +149,20 @@ module _ (app : App) (trace : List Entry) (legal : IsLegalTrace app trace) (fact
                 inr (subst (λ (k : List ℕ). IsWrittenAmong trace before (id_of e.object k r.version)) same it)
           ]
 
-      explained : (key : List ℕ) → speaks_of key e.call ≡ true → IsGreatest trace before e.object key (version_shown e.reply key)
-      explained key spoken =
+      shows_greatest : (key : List ℕ) → speaks_of key e.call ≡ true → IsGreatest trace before e.object key (version_shown e.reply key)
+      shows_greatest key spoken =
           record { made = by_row key (find (λ r. bytes_eq r.key key) (shown e.reply)) refl; bound = no_less key spoken }
+
+      -- which is the last
+      shows_last : (key : List ℕ) → speaks_of key e.call ≡ true → IsLast trace before e.object key (version_shown e.reply key)
+      shows_last key spoken =
+          last_of app trace legal (order_of app trace rs) once respects e.object key (version_shown e.reply key) before x after is
+          (shows_greatest key spoken)
 
   pub serial : IsSerial trace rs (order_of app trace rs)
   serial = record {
     members = λ x. (λ in'. elim (write_or_read x in') [ inl write ↦ inl write.1 | inr read ↦ inr read ], member x);
-    once = listed_once (writes_at trace) (is_in_past app trace) (length trace) rs (λ i. false) distinct reads_write_none;
-    respects = λ before x after is y in' cause. (place before x after is).causes y (write_or_read y in') cause;
-    explains = λ before r after is in' e at key spoken. explained before r after is in' e at key spoken;
+    once = once;
+    respects = respects;
+    explains = λ before r after is in' e at key spoken. shows_last before r after is in' e at key spoken;
   }

@@ -1,6 +1,6 @@
--- Orders of a worked trace: two processes write, and a third reads the key `k`, the key `x`, a cell that was stored with the ids of `x` and of
--- another write to `k`, and `k` once more. Here is what the places of the trace hold.
-use Rattle.std.proofs.Common.{◌≡◌, ℕ, zero, suc, ◌≤◌, ◌++◌, true, false, List, [], ◌∷◌, Contains, Some, slice_get, refl, sym, ap, ◌∙◌, subst, inl, inr, arith}
+-- Orders of a worked trace: two processes write, and a third reads the key `k`, the key `x`, a cell that was stored with the ids of `x` and
+-- of a later write to `k`, and `k` once more. Here is what the places of the trace hold.
+use Rattle.std.proofs.Common.{◌≡◌, ℕ, zero, suc, ◌++◌, true, false, List, [], ◌∷◌, length, length-append, Contains, Some, slice_get, refl, sym, ap, ◌∙◌, subst, inl, inr, arith}
 use Rattle.std.specs.Prelude.{codes}
 use Rattle.std.specs.List.{list_any}
 use Rattle.anti_ids.specs.Ids.{has_id, is_id}
@@ -14,26 +14,27 @@ use Rattle.anti_app.specs.declared.app.App.{App}
 use Rattle.law_causal.specs.Causal.{program}
 use Rattle.law_causal.specs.Words.{brings, wrote}
 use Rattle.law_causal.specs.Reads.{is_at, places}
+use Rattle.law_causal.proofs.Stores.{IsWrite, write_parts}
 use Rattle.law_causal.proofs.WorkedConcurrent.{app, read, read_x, reader_body, trace, write_u as entry_u, write_v as entry_v, write_x as entry_x}
 use Rattle.law_causal.proofs.WorkedForms.{carried_with}
 use Rattle.law_serial.specs.Order.{listing, order_of, writes_at}
 use Rattle.law_serial.specs.Chains.{IsChain}
-use Rattle.law_serial.specs.Serial.{IsGreatest, IsSerial, IsWrittenAmong, id_of, version_shown}
+use Rattle.law_serial.specs.Serial.{IsLast, IsSerial, WritesNone, id_of, version_shown}
 
--- the writes: of `x`, of `k` twice, and of the cell
+-- the writes: of `k`, of `x`, of `k` once more, and of the cell
+abbrev write_v : ℕ
+write_v = 3
+
 abbrev write_x : ℕ
-write_x = 3
+write_x = 4
 
 abbrev write_u : ℕ
-write_u = 4
-
-abbrev write_v : ℕ
-write_v = 5
+write_u = 5
 
 abbrev write_cell : ℕ
-write_cell = 6
+write_cell = 7
 
--- the reads: of `k`, which shows the later write, of `x`, which shows none, of the cell, and of `k`, which shows the same
+-- the reads: of `k`, which shows the earlier write, of `x`, which shows none, of the cell, and of `k`, which shows the later write
 abbrev read_v : ℕ
 read_v = 8
 
@@ -44,7 +45,7 @@ abbrev read_cell : ℕ
 read_cell = 13
 
 abbrev read_again : ℕ
-read_again = 16
+read_again = 17
 
 abbrev all_reads : List ℕ
 all_reads = read_v ∷ read_none ∷ read_cell ∷ read_again ∷ []
@@ -59,7 +60,7 @@ order_with app trace reads body =
     (λ i. false)
 
 -- all writes, in the order of the trace
-of_none : order_of app trace [] ≡ write_x ∷ write_u ∷ write_v ∷ write_cell ∷ []
+of_none : order_of app trace [] ≡ write_v ∷ write_x ∷ write_u ∷ write_cell ∷ []
 of_none = refl
 
 -- first the write that the read shows, then the read, and then all other writes
@@ -73,8 +74,8 @@ of_all = ap (order_with app trace all_reads) (block_again reader_body)
 
 -- ---- what reads show
 
-shows_later : version_shown read.reply (codes "k") ≡ 3
-shows_later = refl
+shows_earlier : version_shown read.reply (codes "k") ≡ 1
+shows_earlier = refl
 
 -- a key without a write, and one that is not shown
 shows_none : version_shown read_x.reply (codes "x") ≡ 0
@@ -87,50 +88,106 @@ shows_no_other = refl
 chain : IsChain trace (read_v ∷ read_none ∷ [])
 chain = (program read read_x refl refl (record { before = omega arith; process = refl; actor = refl; span = refl }), tt)
 
--- ---- the greatest version
+-- ---- the last write
 
 abbrev both : List ℕ
-both = write_u ∷ write_v ∷ []
+both = write_v ∷ write_u ∷ []
 
-written_v : IsWrittenAmong trace both (id_of 0 (codes "k") 3)
-written_v = record { place = write_v; entry = entry_v; in_list = (1, omega arith, refl); there = refl; wrote = refl }
+-- of the two writes to `k` the later one is the last
+last : IsLast trace both 0 (codes "k") 3
+last = inr (record {
+  front = write_v ∷ [];
+  place = write_u;
+  rest = [];
+  cut = refl;
+  entry = entry_u;
+  there = refl;
+  wrote = refl;
+  none_later = λ v w. absurd (omega (arith, w.in_list.1));
+})
 
-each_of : (P : ℕ → Type 0) → P write_u → P write_v → (i : ℕ) → Contains both i → P i
-each_of P p q i (zero, short, is) = subst P is p
-each_of P p q i (suc zero, short, is) = subst P is q
-each_of P p q i (suc (suc k), short, is) = absurd (omega (arith, short))
+-- and the earlier one is not
+not_the_earlier : IsLast trace both 0 (codes "k") 1 → ⊥
+not_the_earlier (inl (never, none)) = omega (arith, never)
+not_the_earlier (inr l) = by_front l.front l.place l.rest l.cut l.entry l.there l.wrote l.none_later
+  where
+    by_front : (front : List ℕ) (place : ℕ) (rest : List ℕ) → both ≡ front ++ place ∷ rest → (e : Entry) → slice_get trace place ≡ Some e
+        → has_id (id_of 0 (codes "k") 1) (wrote e) ≡ true → WritesNone trace rest 0 (codes "k") → ⊥
+    by_front [] place rest cut e at has none =
+        let behind : write_u ∷ [] ≡ rest = cc in
+        none 3 (record {
+          place = write_u;
+          entry = entry_u;
+          in_list = subst (λ (xs : List ℕ). Contains xs write_u) behind (0, omega arith, refl);
+          there = refl;
+          wrote = refl;
+        })
+    by_front (f ∷ []) place rest cut e at has none =
+        let here : write_u ≡ place = cc in
+        let there : slice_get trace write_u ≡ Some e = ap (slice_get trace) here ∙ at in
+        let same : entry_u ≡ e = cc in
+        let its : has_id (id_of 0 (codes "k") 1) (wrote entry_u) ≡ true =
+        ap (λ (x : Entry). has_id (id_of 0 (codes "k") 1) (wrote x)) same ∙ has in
+        absurd (cc)
+    by_front (f ∷ g ∷ more) place rest cut e at has none =
+        let count : length both ≡ length (f ∷ g ∷ (more ++ place ∷ rest)) = ap length cut in
+        omega (arith, count, length-append more (place ∷ rest))
 
--- a write of one version has no other
-its_version : (v n : ℕ) (a e : Entry) → a ≡ e → wrote a ≡ id_of 0 (codes "k") n ∷ [] → has_id (id_of 0 (codes "k") v) (wrote e) ≡ true → v ≡ n
-its_version v n a e same is has =
-    let its : WriteId = id_of 0 (codes "k") v in
-    let own : WriteId = id_of 0 (codes "k") n in
-    let among : has_id its (own ∷ []) ≡ true = ap (has_id its) (sym is ∙ ap (λ (x : Entry). wrote x) same) ∙ has in
-    ap (λ (x : WriteId). x.version) (same_id its own (sym (or_false (is_id its own)) ∙ among))
+-- In another order the earlier write would be the last, though its version is not the greatest.
+last_of_others : IsLast trace (write_u ∷ write_v ∷ []) 0 (codes "k") 1
+last_of_others = inr (record {
+  front = write_u ∷ [];
+  place = write_v;
+  rest = [];
+  cut = refl;
+  entry = entry_v;
+  there = refl;
+  wrote = refl;
+  none_later = λ v w. absurd (omega (arith, w.in_list.1));
+})
 
--- of the two writes to `k` the later one has the greatest version
-greatest : IsGreatest trace both 0 (codes "k") 3
-greatest = record {
-  made = inr written_v;
-  bound = λ v w. each_of (λ i. (e : Entry) → slice_get trace i ≡ Some e → has_id (id_of 0 (codes "k") v) (wrote e) ≡ true → v ≤ 3)
-      (λ e at has. let same : entry_u ≡ e = cc in let is = its_version v 2 entry_u e same refl has in omega (arith, is))
-      (λ e at has. let same : entry_v ≡ e = cc in let is = its_version v 3 entry_v e same refl has in omega (arith, is))
-      w.place w.in_list w.entry w.there w.wrote;
-}
+-- where no write to a key stands, the version is 0
+none_to_x : IsLast trace both 0 (codes "x") 0
+none_to_x = inl (
+  refl,
+  λ v w. each_of (λ i. (e : Entry) → slice_get trace i ≡ Some e → has_id (id_of 0 (codes "x") v) (wrote e) ≡ true → ⊥)
+      (λ e at has. not_of_k v 1 entry_v e (let same : entry_v ≡ e = cc in same) refl has)
+      (λ e at has. not_of_k v 3 entry_u e (let same : entry_u ≡ e = cc in same) refl has)
+      w.place w.in_list w.entry w.there w.wrote,
+)
+  where
+    each_of : (P : ℕ → Type 0) → P write_v → P write_u → (i : ℕ) → Contains both i → P i
+    each_of P p q i (zero, short, is) = subst P is p
+    each_of P p q i (suc zero, short, is) = subst P is q
+    each_of P p q i (suc (suc k), short, is) = absurd (omega (arith, short))
 
-not_the_earlier : IsGreatest trace both 0 (codes "k") 2 → ⊥
-not_the_earlier g = let low = g.bound 3 written_v in omega (arith, low)
+    not_of_k : (v n : ℕ) (a e : Entry) → a ≡ e → wrote a ≡ id_of 0 (codes "k") n ∷ [] → has_id (id_of 0 (codes "x") v) (wrote e) ≡ true → ⊥
+    not_of_k v n a e same is has =
+        let its : WriteId = id_of 0 (codes "x") v in
+        let own : WriteId = id_of 0 (codes "k") n in
+        let among : has_id its (own ∷ []) ≡ true = ap (has_id its) (sym is ∙ ap (λ (x : Entry). wrote x) same) ∙ has in
+        let keys : codes "x" ≡ codes "k" = ap (λ (x : WriteId). x.key) (same_id its own (sym (or_false (is_id its own)) ∙ among)) in
+        absurd (cc)
 
 -- ---- what is no order
 
 -- all writes first: the read of `x` would show the write of it
 writes_first : IsSerial trace all_reads
-    (write_x ∷ write_u ∷ write_v ∷ write_cell ∷ read_v ∷ read_none ∷ read_cell ∷ read_again ∷ []) → ⊥
+    (write_v ∷ write_x ∷ write_u ∷ write_cell ∷ read_v ∷ read_none ∷ read_cell ∷ read_again ∷ []) → ⊥
 writes_first s =
-    let front : List ℕ = write_x ∷ write_u ∷ write_v ∷ write_cell ∷ read_v ∷ [] in
-    let g = s.explains front read_none (read_cell ∷ read_again ∷ []) refl (1, omega arith, refl) read_x refl (codes "x") refl in
-    let low = g.bound 1 (record { place = write_x; entry = entry_x; in_list = (0, omega arith, refl); there = refl; wrote = refl }) in
-    omega (arith, low)
+    let front : List ℕ = write_v ∷ write_x ∷ write_u ∷ write_cell ∷ read_v ∷ [] in
+    elim (s.explains front read_none (read_cell ∷ read_again ∷ []) refl (1, omega arith, refl) read_x refl (codes "x") refl) [
+      | inl none ↦ none.1 2 (record { place = write_x; entry = entry_x; in_list = (1, omega arith, refl); there = refl; wrote = refl })
+      | inr l ↦ no_version l.entry l.wrote
+    ]
+  where
+    -- no write has the version 0
+    no_version : (e : Entry) → has_id (id_of 0 (codes "x") 0) (wrote e) ≡ true → ⊥
+    no_version e has =
+        let it : IsWrite e.object e.call e.reply (id_of 0 (codes "x") 0) =
+        write_parts e.object e.call e.reply (id_of 0 (codes "x") 0) has in
+        let is : 0 ≡ it.version = ap (λ (w : WriteId). w.version) it.id in
+        omega (arith, is, it.some)
 
 -- a write is left out
 left_out : IsSerial trace (read_v ∷ []) (write_v ∷ read_v ∷ write_x ∷ write_u ∷ []) → ⊥

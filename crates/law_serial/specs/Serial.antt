@@ -1,5 +1,5 @@
 -- What an order of all writes and some reads is worth: it respects the causal order, and explains what the reads show.
-use Rattle.std.specs.Prelude.{ℕ, ◌≡◌, ◌≢◌, ◌≤◌, ◌↔◌, ◌⊎◌, true, List, ◌∷◌, ◌++◌, Some, slice_get, bytes_eq, Contains, AllPairs}
+use Rattle.std.specs.Prelude.{ℕ, ◌≡◌, ◌≢◌, ◌↔◌, ◌⊎◌, true, List, ◌∷◌, ◌++◌, Some, slice_get, bytes_eq, Contains, AllPairs}
 use Rattle.std.specs.List.{find}
 use Rattle.std.specs.Option.{option_map_or}
 use Rattle.anti_ids.specs.Ids.{has_id}
@@ -35,13 +35,27 @@ pub record IsWrittenAmong (trace : List Entry) (among : List ℕ) (w : WriteId) 
 abbrev pub id_of : ℕ → List ℕ → ℕ → WriteId
 id_of store key version = record { store = store; key = key; version = version }
 
--- Among the writes at these places to a key of a store, this version is the greatest; where there is none it is 0.
-pub record IsGreatest (trace : List Entry) (among : List ℕ) (store : ℕ) (key : List ℕ) (version : ℕ) : Type 0 where
-  pub made : (version ≡ 0) ⊎ IsWrittenAmong trace among (id_of store key version)
-  pub bound : (v : ℕ) → IsWrittenAmong trace among (id_of store key v) → v ≤ version
+-- none of these places has a write to a key of a store
+abbrev pub WritesNone : List Entry → List ℕ → ℕ → List ℕ → Type 0
+WritesNone trace among store key = (version : ℕ) → IsWrittenAmong trace among (id_of store key version) → ⊥
+
+-- one of these places has the write of this version of a key of a store, and none behind it has a write to this key
+pub record IsLastWrite (trace : List Entry) (among : List ℕ) (store : ℕ) (key : List ℕ) (version : ℕ) : Type 0 where
+  pub front : List ℕ
+  pub place : ℕ
+  pub rest : List ℕ
+  pub cut : among ≡ front ++ place ∷ rest
+  pub entry : Entry
+  pub there : slice_get trace place ≡ Some entry
+  pub wrote : has_id (id_of store key version) (wrote entry) ≡ true
+  pub none_later : WritesNone trace rest store key
+
+-- The last of the writes at these places to a key of a store has this version; where there is none it is 0.
+abbrev pub IsLast : List Entry → List ℕ → ℕ → List ℕ → ℕ → Type 0
+IsLast trace among store key version = ((version ≡ 0) × WritesNone trace among store key) ⊎ IsLastWrite trace among store key version
 
 -- The order has all writes of the trace and the reads, each once, and nothing else. What is causally before a member stands before it. Each
--- read shows, of each key that it speaks of, the greatest version among the writes to it that stand before the read.
+-- read shows, of each key that it speaks of, the version of the last of the writes to it that stand before the read.
 pub record IsSerial (trace : List Entry) (reads order : List ℕ) : Type 0 where
   pub members : (x : ℕ) → Contains order x ↔ ((writes_at trace x ≡ true) ⊎ Contains reads x)
   pub once : AllPairs (λ x y. x ≢ y) order
@@ -49,4 +63,4 @@ pub record IsSerial (trace : List Entry) (reads order : List ℕ) : Type 0 where
       → (y : ℕ) → Contains order y → Before trace y x → Contains before y
   pub explains : (before : List ℕ) (r : ℕ) (after : List ℕ) → order ≡ before ++ r ∷ after → Contains reads r
       → (e : Entry) → slice_get trace r ≡ Some e → (key : List ℕ) → speaks_of key e.call ≡ true
-      → IsGreatest trace before e.object key (version_shown e.reply key)
+      → IsLast trace before e.object key (version_shown e.reply key)

@@ -1,5 +1,7 @@
--- Two calls on a port, one after the other, and what a barrier has seen.
+-- Two calls on a port, one after the other, what a lineage has after a write, and what a barrier has seen.
 use Rattle.std.specs.Prelude.{◌≡◌, ℕ, true, List, All, Option}
+use Rattle.anti_ids.specs.Ids.{has_id}
+use Rattle.anti_ids.specs.declared.id.WriteId.{WriteId}
 use Rattle.anti_kind.specs.Objects.{Start}
 use Rattle.anti_kind.specs.Ports.{View}
 use Rattle.anti_shim.specs.declared.barrier_answer.BarrierAnswer.{BarrierAnswer}
@@ -18,6 +20,11 @@ pub record Then (step : Step) (First Second : Step → Type 0) : Type 0 where
   pub who : Caller
   pub first : First (record step { new = views; after = who })
   pub second : Second (record step { starts = starts; old = views; before = who })
+
+-- The lineage has the write now, and all that it had before.
+pub record Carries (id : WriteId) (old new : List WriteId) : Type 0 where
+  pub write : has_id id new ≡ true
+  pub before : (i : WriteId) → has_id i old ≡ true → has_id i new ≡ true
 
 -- Of each planned look there is a sight: it found nothing missing.
 pub record AllSeen (region : ℕ) (planned : List PlannedLook) (step : Step) : Type 0 where

@@ -1,13 +1,12 @@
 ghost use Rattle.std.specs.Prelude.{◌≡◌, ◌⊎◌, ℕ, is_some, true, List, Ok, Err, IfOk, IfErr, OnErr};
 ghost use Rattle.anti_ids.specs.declared.id.WriteId.{WriteId as Id};
-ghost use Rattle.anti_ids.specs.Ids.{with_id};
 ghost use Rattle.anti_shim.specs.Barriers.{BarrierGives};
 ghost use Rattle.anti_shim.specs.DryRuns.{DryRunGives};
 ghost use Rattle.anti_shim.specs.Plans.{plan};
 ghost use Rattle.anti_shim.specs.Shims.{Reads, Writes};
 ghost use Rattle.anti_shim.specs.Sights.{HasSights, IsHere, unseen};
 ghost use Rattle.anti_shim.specs.Steps.{between};
-ghost use Rattle.sample_callers.specs.Turns.{AllSeen, IsRefusal, Then};
+ghost use Rattle.sample_callers.specs.Turns.{AllSeen, Carries, IsRefusal, Then};
 
 use anti_ids::{Lineage, Name, Value, WriteId};
 use anti_kind::{Port, Row};
@@ -15,7 +14,7 @@ use anti_shim::{Barrier, BarrierAnswer, Caller, KvShim, ShimFault, TopicShim, ba
 use std::alloc::Global;
 
 /// Writes a post, and then a note of it, which is stored with the id of the post. The lineage, which goes on with the message, then has
-/// both ids.
+/// both ids, beside all that it had.
 pub fn post_and_note<P: Port>(
     alloc: Global,
     port: &mut P,
@@ -28,18 +27,18 @@ pub fn post_and_note<P: Port>(
 ) -> Result<(WriteId, WriteId), ShimFault>
     requires posts { is_some (P.start port.old posts.now.store) ≡ true }
     requires notes { is_some (P.start port.old notes.now.store) ≡ true }
-    ensures carried { IfOk result (λ ids. lineage.new ≡ with_id ids.1 (with_id ids.0 lineage.old)) }
+    ensures carried { IfOk result (λ ids. Carries ids.0 lineage.old lineage.new × Carries ids.1 lineage.old lineage.new) }
     ensures stored { let step = between P.Port port.old port.new who.old who.new in
-        IfOk result (λ ids. let kept = with_id ids.0 lineage.old in
-        Then step (λ s. Writes s posts.now.store post.0 post.1 lineage.old kept (Ok ids.0))
+        IfOk result (λ ids. (kept : List Id) × Carries ids.0 lineage.old kept
+        × Then step (λ s. Writes s posts.now.store post.0 post.1 lineage.old kept (Ok ids.0))
         (λ s. Writes s notes.now.store note.0 note.1 kept lineage.new (Ok ids.1))) }
     ensures cause { let step = between P.Port port.old port.new who.old who.new in
         IfErr result (λ fault. Writes step posts.now.store post.0 post.1 lineage.old lineage.new (Err fault)
-        ⊎ ((id : Id) × (let kept = with_id id lineage.old in
-        Then step (λ s. Writes s posts.now.store post.0 post.1 lineage.old kept (Ok id))
-        (λ s. Writes s notes.now.store note.0 note.1 kept lineage.new (Err fault))))) }
+        ⊎ ((id : Id) × (kept : List Id)
+        × Then step (λ s. Writes s posts.now.store post.0 post.1 lineage.old kept (Ok id))
+        (λ s. Writes s notes.now.store note.0 note.1 kept lineage.new (Err fault)))) }
     ensures err { OnErr result ((lineage.new ≡ lineage.old)
-        ⊎ ((id : Id) × (id.store ≡ posts.now.store) × (lineage.new ≡ with_id id lineage.old))) }
+        ⊎ ((id : Id) × (id.store ≡ posts.now.store) × Carries id lineage.old lineage.new)) }
     ensures fixed { (o : ℕ) → P.start port.new o ≡ P.start port.old o }
 {
     let (key, value) = post;

@@ -12,9 +12,9 @@ use anti_past::reads;
 use anti_trace::Mark;
 use std::alloc::Global;
 
-// Two writes of one key that know nothing of each other, and a reader who sees both: the stores are the objects 0 and 1, and the inboxes
-// of the services 2 to 4.
-const CONCURRENT: &str =
+// A write over another of which its process knows nothing, and a reader who sees it before what it keeps is there: the stores are the
+// objects 0 and 1, and the inboxes of the services 2 to 4.
+const REPLACED: &str =
     "choices = ['take a 1', 'go a.1', 'go a.1', 'go a.1', 'take b 1', 'go b.1', 'ship s eu 3', 'take r 1', 'go r.1', 'go r.1', 'go r.1', 'ship t eu 1', 'go r.1', 'go r.1', 'ship s eu 1', 'go r.1', 'go r.1', 'go r.1']
 regions = ['us', 'eu']
 store = [{name = 's', kind = 'kv', replicas = ['eu']}, {name = 't', kind = 'topic', replicas = ['eu']}]
@@ -38,38 +38,47 @@ region = 'eu'
 name = 'run'
 body = ['read s k as p', 'transfer p', 'barrier', 'read s x as q', 'transfer q', 'poll t n#1 as o', 'transfer o', 'barrier', 'read s k as z']";
 
-// What is answered of the run of `CONCURRENT`.
+// What is answered of the run of `REPLACED`.
 static ORDERS: [Wanted; 4] = [
     // of the reader
-    Wanted::Order(
-        4,
-        &[
-            (0, 3),
-            (0, 5),
-            (0, 7),
-            (0, 1),
-            (0, 2),
-            (1, 1),
-            (1, 3),
-            (0, 10),
-        ],
-    ),
+    Wanted::Order(4, &[(0, 1), (0, 2), (0, 3), (0, 5), (0, 8), (1, 1), (1, 3)]),
     // of the last read alone: what it needs, and then the read
-    Wanted::LastOrder(&[(0, 1), (0, 2), (0, 3), (1, 1), (0, 10)]),
+    Wanted::LastOrder(&[(0, 1), (0, 2), (0, 3), (1, 1), (1, 3)]),
     // no other span has a read
     Wanted::Orders(1),
     // a process that read nothing: all writes
     Wanted::Order(3, &[(0, 1), (0, 2), (0, 3), (1, 1)]),
 ];
 
-// The ends of the records of documents.
+// The ends of the records of documents, and the whole of the first.
 static ENDS: [(&str, &str); 4] = [
-    // the last read shows version 3 of a key, though version 2 stands behind version 3 in the order
+    // the first read shows version 3 of a key, behind version 2 that it replaces, and the barriers wait for what version 3 keeps
     (
-        CONCURRENT,
-        "process r.1 r run fine
-span r.1/1 order s.3 s.5 s.7 s.1 s.2 t.1 t.3 s.10
-end 17
+        REPLACED,
+        "record 1
+1 a.1 a.1/1 take 1 = got 1 request run 0 \"\" 1;
+1 b.1 b.1/1 take 1 = got 1 request run 0 \"\" 1;
+1 r.1 r.1/1 take 1 = got 1 request run 0 \"\" 1;
+2 s.1 a.1/1 write x \"1\" 1; = x@1
+3 s.2 a.1/1 write k \"u\" 1;s/x@1 = k@2
+4 s.3 b.1/1 write k \"v\" 1; = k@3 over 1;s/x@1,s/k@2
+4 t.1 a.1/1 write n \"note\" 1;s/x@1,s/k@2 = n#1@1
+5 s.4 ~0 ship eu 3 1 = moved
+6 s.5 r.1/1 read eu k = k@3 \"v\" 1;s/x@1,s/k@2
+6 t.2 ~0 ship eu 1 1 = moved
+7 s.6 ~0 ship eu 1 1 = moved
+8 s.7 r.1/1 look eu 1;s/x@1,s/k@2,s/k@3 = clear
+9 s.8 r.1/1 read eu x = x@1 \"1\" 1;
+10 t.3 r.1/1 poll eu n#1 = n#1@1 \"note\" 1;s/x@1,s/k@2
+wait 10 go r.1
+wait 11 go r.1
+wait 13 go r.1
+wait 14 go r.1
+process a.1 a run fine
+process b.1 b run fine
+process r.1 r run open
+span r.1/1 order s.1 s.2 s.3 s.5 s.8 t.1 t.3
+end 14
 ",
     ),
     // a span is guarded, and yet a loss of another process bars its order
@@ -98,7 +107,7 @@ span w.1/2 order s.3 s.1
 end 4
 ",
     ),
-    // a scan shows the greatest version of each key before it: it comes behind all writes that one of its rows depends on
+    // a scan shows the last write to each key before it: it comes behind all writes that one of its rows depends on
     (
         "regions = ['eu']
 choices = ['take w 1', 'go w.1', 'go w.1', 'go w.1', 'ship s eu 1', 'ship s eu 2', 'take w 1', 'go w.2']
@@ -221,7 +230,7 @@ fn records_end_with_their_orders(rt: HostRuntime) {
 
 #[test]
 fn spans_and_reads_have_their_orders(rt: HostRuntime) {
-    assert_run(&rt, rt.alloc(), CONCURRENT, &ORDERS);
+    assert_run(&rt, rt.alloc(), REPLACED, &ORDERS);
 }
 
 #[test]

@@ -5,7 +5,7 @@ use anti_ids::Bytes;
 use std::alloc::Global;
 
 // Documents with one service, and the record of each.
-static RECORDS: [(&str, &str); 7] = [
+static RECORDS: [(&str, &str); 9] = [
     // a dry run before the shipment and after it, and repeats of a shipment: one too early, and one that is made
     (
         served!(
@@ -82,6 +82,46 @@ span w.2/1 order s.1 s.3 s.4
 end 6
 ",
     ),
+    // a write over another of which its process knows nothing: it keeps the id of that one
+    (
+        served!(
+            "'take w 1', 'go w.1', 'take w 1', 'go w.2'",
+            "'write s k a'",
+            "'write s k b'"
+        ),
+        "record 1
+1 w.1 w.1/1 take 1 = got 1 request one 0 \"\" 1;
+2 s.1 w.1/1 write k \"a\" 1; = k@1
+2 w.2 w.2/1 take 1 = got 2 request two 0 \"\" 1;
+3 s.2 w.2/1 write k \"b\" 1; = k@2 over 1;s/k@1
+process w.1 w one fine
+process w.2 w two fine
+end 4
+",
+    ),
+    // the same untracked: appended it brings its id and what it keeps, and taken out its id alone; then a write over one that is carried, and in
+    // a span of its own one over two that are not, and what that brings
+    (
+        served!(
+            "'take w 1', 'go w.1', 'take w 1', 'go w.2', 'go w.2', 'go w.2', 'go w.2', 'go w.2', 'go w.2'",
+            "'write s k a'",
+            "'write s k b as x untracked', 'write s j c', 'append x', 'write s i d', 'remove x', 'write s j e', 'root', 'write s k f', 'write s h g'"
+        ),
+        "record 1
+1 w.1 w.1/1 take 1 = got 1 request one 0 \"\" 1;
+2 s.1 w.1/1 write k \"a\" 1; = k@1
+2 w.2 w.2/1 take 1 = got 2 request two 0 \"\" 1;
+3 s.2 w.2/1 write k \"b\" 1; = k@2 over 1;s/k@1
+4 s.3 w.2/1 write j \"c\" 1; = j@3
+5 s.4 w.2/1 write i \"d\" 1;s/k@1,s/k@2,s/j@3 = i@4
+6 s.5 w.2/1 write j \"e\" 1;s/k@1,s/j@3,s/i@4 = j@5
+7 s.6 w.2/2 write k \"f\" 1; = k@6 over 1;s/k@1,s/k@2
+8 s.7 w.2/2 write h \"g\" 1;s/k@1,s/k@2,s/k@6 = h@7
+process w.1 w one fine
+process w.2 w two fine
+end 9
+",
+    ),
     // writes that are untracked, appended and taken out, and what each later write carries; then two spans, and a read whose block runs
     (
         served!(
@@ -134,6 +174,15 @@ const MANY_WRITES: &str = served!(
 );
 
 const ONE_ID_TOO_MANY: &str = "process w.1 w one lineage\nprocess w.2 w two fine\nend 516\n";
+
+// The same where the other process, which carries nothing, writes to that key: its write would keep the ids of all 257.
+const WRITE_OVER_MANY: &str = served!(
+    "'finish'",
+    "'repeat 16', 'repeat 16', 'write s k v', 'end', 'end', 'write s k v'",
+    "'write s k v'"
+);
+
+const NO_WRITE_OVER_MANY: &str = "process w.1 w one lineage\nprocess w.2 w two store s\nend 516\n";
 
 // Nine requests, each of whose processes writes 256 times.
 const NINE_PROCESSES: &str = served!(
@@ -221,9 +270,9 @@ const TRIES: Texts = &[
     ("\"go w.8\",\n", 1),
 ];
 
-// What stands behind the choices: a store with eight replicas, which is full after 454 writes and two reads. Each of the eight processes then
-// has a write still to make. The writes behind the reads are untracked, so that no order is printed.
-static PARTS: [(&str, u32); 8] = [
+// What stands behind the choices: a store with eight replicas, which is full after 454 writes and two reads. Each of the eight processes has
+// a key of its own, and then a write still to make. The writes behind the reads are untracked, so that no order is printed.
+static PARTS: [(&str, u32); 9] = [
     (
         "]
 regions = [\"r0\", \"r1\", \"r2\", \"r3\", \"r4\", \"r5\", \"r6\", \"r7\"]
@@ -231,8 +280,18 @@ store = [{name = \"s\", kind = \"kv\", replicas = [\"r0\", \"r1\", \"r2\", \"r3\
 request = [",
         1,
     ),
-    ("{service = \"w\", handler = \"a\"}, ", 2),
-    ("{service = \"w\", handler = \"b\"}, ", 6),
+    (
+        "{service = \"w\", handler = \"a\", value = \"k1\"}, {service = \"w\", handler = \"a\", value = \"k2\"}, ",
+        1,
+    ),
+    (
+        "{service = \"w\", handler = \"b\", value = \"k3\"}, {service = \"w\", handler = \"b\", value = \"k4\"}, {service = \"w\", handler = \"b\", value = \"k5\"}, ",
+        1,
+    ),
+    (
+        "{service = \"w\", handler = \"b\", value = \"k6\"}, {service = \"w\", handler = \"b\", value = \"k7\"}, {service = \"w\", handler = \"b\", value = \"k8\"}, ",
+        1,
+    ),
     (
         "]
 [[service]]
@@ -240,10 +299,10 @@ name = \"w\"
 region = \"r0\"
 [[service.handler]]
 name = \"a\"
-body = [\"read s k as x\", \"write s k v as w untracked\", ",
+body = [\"read s $in as x\", \"write s $in v as w untracked\", ",
         1,
     ),
-    ("\"write s k v\", ", 56),
+    ("\"write s $in v\", ", 56),
     (
         "]
 [[service.handler]]
@@ -251,7 +310,7 @@ name = \"b\"
 body = [",
         1,
     ),
-    ("\"write s k v\", ", 58),
+    ("\"write s $in v\", ", 58),
     ("]\n", 1),
 ];
 
@@ -344,8 +403,9 @@ fn statements_and_choices_are_played(rt: HostRuntime) {
 }
 
 // Documents with long records, and the end of each.
-static ENDS: [(&str, &str); 2] = [
+static ENDS: [(&str, &str); 3] = [
     (MANY_WRITES, ONE_ID_TOO_MANY),
+    (WRITE_OVER_MANY, NO_WRITE_OVER_MANY),
     (NINE_PROCESSES, NINTH_FINDS_NO_ROOM),
 ];
 

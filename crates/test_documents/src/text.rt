@@ -24,15 +24,15 @@ name = 'd'
 region = 'eu'
 handler = [{name = 'tell', body = ['barrier', 'read s k as x', 'reply $in']}, {name = 'deep', body = ['call d deep x as y']}]";
 
-// Handlers that write until no unit of their store is left, and a read of a key that no name can be.
+// Handlers that write until no unit of their store is left, where no write replaces another, and a poll of a key that no name can be.
 const FULL: &str = "regions = ['us']
 choices = ['finish']
-store = [{name = 's', kind = 'kv', replicas = ['us']}]
+store = [{name = 's', kind = 'topic', replicas = ['us']}]
 request = [{service = 'w', handler = 'fill'}, {service = 'w', handler = 'fill'}, {service = 'w', handler = 'fill'}, {service = 'w', handler = 'fill'}, {service = 'w', handler = 'fill'}, {service = 'w', handler = 'fill'}, {service = 'w', handler = 'fill'}, {service = 'w', handler = 'fill'}, {service = 'w', handler = 'fill'}, {service = 'w', handler = 'look', value = ' '}]
 [[service]]
 name = 'w'
 region = 'us'
-handler = [{name = 'fill', body = ['repeat 16', 'repeat 16', 'write s k v as w untracked', 'end', 'end']}, {name = 'look', body = ['read s $in as x']}]";
+handler = [{name = 'fill', body = ['repeat 16', 'repeat 16', 'write s k v as w untracked', 'end', 'end']}, {name = 'look', body = ['poll s $in as x']}]";
 
 // Documents whose two records are one, and longer than this.
 static RECORDS: [(&str, Wanted); 2] = [(CALLS, Wanted::Record(300)), (FULL, Wanted::Record(300))];

@@ -6,7 +6,7 @@ ghost use Rattle.anti_shim.specs.Sights.{IsHere};
 use crate::made::{Version, id, lineage, name, value};
 use crate::steps::{Asked, call_of};
 use anti_ids::{Lineage, WriteId};
-use anti_kind::{Actor, Answer, Port};
+use anti_kind::{Actor, Answer, Port, Reply};
 use anti_shim::{Barrier, BarrierAnswer, Caller, ShimFault, StoreShim, barrier, dry_run};
 use std::alloc::Global;
 
@@ -40,7 +40,7 @@ pub enum Told<'a> {
     MadeAt(u32),
     /// That there is no such object.
     Absent,
-    /// How many there are; of a barrier, the sights; of a dry run, the ids that are missing.
+    /// How many there are; of a barrier, the sights; of a dry run, the ids that are missing; of a write, those that are kept beside it.
     Count(usize),
     /// The id of what was written, which the lineage then has.
     Wrote(&'a [u8], u64),
@@ -98,6 +98,23 @@ pub fn is_answered(answer: &Answer, told: &Told) -> bool {
     match (answer, told) {
         (Answer::Made { .. }, Told::Done) => true,
         (Answer::Made { place, .. }, Told::MadeAt(wanted)) => place == wanted,
+        (
+            Answer::Made {
+                reply: Reply::Written {
+                    over: Some(kept),
+                    ..
+                },
+                ..
+            },
+            _,
+        ) => is_count(kept.get().len() as usize, told),
+        (
+            Answer::Made {
+                reply: Reply::Written { .. },
+                ..
+            },
+            _,
+        ) => is_count(0, told),
         (Answer::NotYet, Told::NotYet) => true,
         (Answer::Full { held, owed, need }, Told::Full(full)) => (*held, *owed, *need) == *full,
         (Answer::Spent { clock }, Told::Spent(last)) => clock == last,

@@ -26,12 +26,18 @@ pub fn queue(alloc: Global) -> Result<Queue, NoMemory>
     Queue::new(alloc, 0, &[0], &[first, second], 2)
 }
 
-// Two messages on the channel and one on another: each goes out once, to the one subscription or the other.
+// Two messages on the channel, of which neither replaces the other, and one on another: each goes out once, to the one subscription or the
+// other.
 static SHARED: [Step; 18] = [
     Step::Call(Asked::Pull(0), Told::Needs(2), 0, 0),
     Step::Call(Asked::Write(b"n", b"a", &[]), Told::Wrote(b"n#1", 1), 1, 1),
     Step::Call(Asked::Write(b"m", b"x", &[]), Told::Wrote(b"m#1", 2), 2, 2),
-    Step::Call(Asked::Write(b"n", b"b", &[]), Told::Wrote(b"n#2", 3), 3, 3),
+    Step::Call(
+        Asked::Write(b"n", b"b", &[]),
+        Told::Kept(b"n#2", 3, &[]),
+        3,
+        3,
+    ),
     Step::Call(Asked::Pull(0), Told::NotNow, 3, 3),
     Step::Call(Asked::Ship(2, 1), Told::Moved, 4, 2),
     Step::Call(Asked::Pull(0), Told::NotNow, 4, 2),

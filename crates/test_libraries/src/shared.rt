@@ -16,10 +16,11 @@ use std::alloc::Global;
 use std::sync::Wait;
 use std::thread::{Threads, join};
 
-// The call that is asked; where it brings a version, this one.
-fn call_at(alloc: Global, asked: Asked, version: u64) -> Option<Call> {
+// The call that is asked; where it brings a version or writes to the key of a number, this one.
+fn call_at(alloc: Global, asked: Asked, number: u64) -> Option<Call> {
     match asked {
-        Asked::Ship(_, part) => call_of(alloc, 0, Asked::Ship(version, part)),
+        Asked::Ship(_, part) => call_of(alloc, 0, Asked::Ship(number, part)),
+        Asked::WriteNth(_) => call_of(alloc, 0, Asked::WriteNth(number)),
         _ => call_of(alloc, 0, asked),
     }
 }
@@ -133,7 +134,8 @@ fn a_pass_is_alone_but_while_a_second_is_out(rt: HostRuntime) {
     assert_so(&rt, is_alone_but_while_a_second_is_out(rt.alloc()));
 }
 
-// What is asked, how often, and what is told each time. The nth call brings the version n, where it brings one.
+// What is asked, how often, and what is told each time. The nth call brings the version n or writes to the key of the number n, where it
+// does either.
 struct Row(Asked<'static>, u64, Told<'static>);
 
 // Whether what a row asks is told so.
@@ -219,7 +221,8 @@ fn make<M: Machine, R: Wait>(
     written(&shared.call(rt, pass, who, span, 0, call), last)
 }
 
-// Whether the calls of a plan are made. The version that was written last is brought, and else the first.
+// Whether the calls of a plan are made. The version that was written last, and else the first, is the one that is brought, and the number
+// of the key that is written to.
 fn are_made<M: Machine, R: Wait + AllocGlobal>(
     rt: &R,
     shared: &Shared<M>,
@@ -531,6 +534,9 @@ fn a_write_without_memory_leaves_the_object(rt: HostRuntime) {
     assert_so(&rt, keeps_what_is_made(&rt, 8));
 }
 
+// To write to a key of its own.
+const WRITE_NTH: Asked = Asked::WriteNth(1);
+
 const READS: Job = Job::Plan(Plan {
     carrier: 0,
     calls: 100,
@@ -555,7 +561,7 @@ const ONE_WRITE: Job = Job::Plan(Plan {
 const WRITES: Job = Job::Plan(Plan {
     carrier: 0,
     calls: 1000,
-    asked: WRITE,
+    asked: WRITE_NTH,
     other: SHIP,
 });
 
@@ -594,9 +600,9 @@ fn a_call_waits_until_it_is_ready(rt: HostRuntime) {
     assert_so(&rt, is_well(&rt, &BROUGHT, Wanted::Two(2, 1)));
 }
 
-// A store is filled by writes, each of which owes a shipment, which is then made.
+// A store is filled by writes, each to a key of its own, which owe a shipment each, which is then made.
 static FILLED: [Stage; 1] = [Stage::Alone(Job::Rows(&[
-    Row(WRITE, 2048, Told::Done),
+    Row(WRITE_NTH, 2048, Told::Done),
     Row(WRITE, 1, Told::Full((2048, 2048, 2))),
     Row(SHIP, 2048, Told::Done),
 ]))];
@@ -624,7 +630,7 @@ fn a_port_over_a_shared_store_refuses_with_the_cause(rt: HostRuntime) {
 
 // A store that is filled, of which a call that may wait asks for more, and for what is owed.
 static WAITED_FULL: [Stage; 2] = [
-    Stage::Alone(Job::Rows(&[Row(WRITE, 2048, Told::Done)])),
+    Stage::Alone(Job::Rows(&[Row(WRITE_NTH, 2048, Told::Done)])),
     Stage::Alone(Job::Steps(&[
         Step(OfWaitPort::CallWait(WRITE, 0), Told::Full((2048, 2048, 2))),
         Step(OfWaitPort::CallWait(SHIP, 0), Told::Done),
@@ -666,7 +672,10 @@ fn a_barrier_at_a_shared_store_waits_for_the_shipment(rt: HostRuntime) {
 
 // A barrier that may wait, for what is there, at a store that has no room for its look.
 static HELD_FULL: [Stage; 2] = [
-    Stage::Alone(Job::Rows(&[Row(WRITE, 2048, Told::Done), Row(SHIP, 2048, Told::Done)])),
+    Stage::Alone(Job::Rows(&[
+        Row(WRITE_NTH, 2048, Told::Done),
+        Row(SHIP, 2048, Told::Done),
+    ])),
     Stage::Alone(Job::Steps(&[Step(OfWaitPort::BarrierWait(1, 0), Told::Full((4096, 0, 1)))])),
 ];
 

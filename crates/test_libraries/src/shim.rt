@@ -6,7 +6,9 @@ ghost use Rattle.anti_kind.specs.Store.{Store, is_replica};
 ghost use Rattle.anti_shim.specs.Sights.{IsHere};
 
 use crate::made::{Version, assert_right, lineage, name, versions};
-use crate::ports::{SHIP, Shown, Told, caller, calls, holds, is_count, is_fault, names, writes};
+use crate::ports::{
+    SHIP, Shown, Told, WRITE, caller, calls, holds, is_count, is_fault, names, writes,
+};
 use crate::queue::queue;
 use crate::steps::Asked as Call;
 use crate::topic::topic;
@@ -51,6 +53,10 @@ enum Asked<'a> {
     Write(&'a [u8], &'a [u8]),
     // To write the value `v` to a key, as a caller that has made no call, with the empty lineage.
     Put(&'a [u8]),
+    // To write the value `v` to the key `k`, with the empty lineage and by no shim.
+    Over,
+    // The same to the key of the number 0; the next time it is the next number.
+    Fill,
     // To bring a part of a version to the region; the next time it is the next version.
     Ship(u64, u32),
     // To bring the first version of an object of another number.
@@ -283,6 +289,8 @@ fn goes_once<K, M: Machine>(
             writes::<K, Lone<M>>(alloc, port, who, lineage, key, text, told)
         }
         Asked::Put(key) => puts::<K, M>(alloc, port, key, told),
+        Asked::Over => calls(alloc, port, 0, WRITE, 0, told),
+        Asked::Fill => calls(alloc, port, 0, Call::WriteNth(turn), 0, told),
         Asked::Ship(version, part) => {
             let ship = Call::Ship(version.saturating_add(turn), *part);
             calls(alloc, port, 0, ship, 0, told)
@@ -349,7 +357,7 @@ static REFUSED: [Step; 18] = [
     Step(Asked::Stamp(u64::MAX), Told::Done, 1),
     Step(Asked::Read(By::Kv, b"k"), Told::Spent(u64::MAX), 1),
     Step(Asked::Ship(1, 1), Told::NotYet, 1),
-    Step(Asked::Put(b"k"), Told::Done, 2048),
+    Step(Asked::Fill, Told::Done, 2048),
     Step(Asked::Put(b"k"), Told::Full((2048, 2048, 2)), 1),
     Step(Asked::Ship(1, 1), Told::Done, 2048),
     Step(Asked::Put(b"k"), Told::Full((4096, 0, 2)), 1),
@@ -415,23 +423,59 @@ fn a_barrier_waits_for_the_shipment(rt: HostRuntime) {
     assert_right(&rt, wrong_step_of_kv(rt.alloc(), &HELD));
 }
 
-// A write with a full lineage, and one with the empty lineage.
+// A write with a full lineage, and one with the empty lineage to another key.
 static CARRIED: [Step; 10] = [
     Step(Asked::Carry(256), Told::Done, 1),
     Step(Asked::Write(b"k", b"a"), Told::LineageFull(b"k", 1), 1),
     Step(Asked::Lineage, Told::Count(256), 1),
     Step(Asked::Carry(0), Told::Done, 1),
-    Step(Asked::Write(b"k", b"b"), Told::Wrote(b"k", 2), 1),
+    Step(Asked::Write(b"j", b"b"), Told::Wrote(b"j", 2), 1),
     Step(Asked::Wait, Told::NotYet, 1),
     Step(Asked::Ship(2, 1), Told::Done, 1),
     Step(Asked::Wait, Told::Done, 1),
-    Step(Asked::Read(By::Kv, b"k"), Told::Row((2, b"b", 0)), 1),
+    Step(Asked::Read(By::Kv, b"j"), Told::Row((2, b"b", 0)), 1),
     Step(Asked::History, Told::Count(5), 1),
 ];
 
 #[test]
 fn a_write_carries_and_stores_the_lineage(rt: HostRuntime) {
     assert_right(&rt, wrong_step_of_kv(rt.alloc(), &CARRIED));
+}
+
+// A write over another, with the empty lineage, which brings what is kept beside it, and one that keeps 256 ids, behind which none comes.
+static OVERWRITTEN: [Step; 14] = [
+    Step(Asked::Put(b"j"), Told::Done, 2),
+    Step(Asked::Write(b"j", b"c"), Told::Wrote(b"j", 3), 1),
+    Step(Asked::Lineage, Told::Count(3), 1),
+    Step(Asked::Ship(1, 1), Told::Done, 3),
+    Step(Asked::Wait, Told::Done, 1),
+    Step(Asked::Read(By::Kv, b"j"), Told::Row((3, b"c", 2)), 1),
+    Step(Asked::Carry(255), Told::Done, 1),
+    Step(Asked::Write(b"k", b"a"), Told::Wrote(b"k", 4), 1),
+    Step(Asked::Lineage, Told::Count(256), 1),
+    Step(Asked::Carry(0), Told::Done, 1),
+    Step(Asked::Write(b"k", b"b"), Told::LineageFull(b"k", 5), 1),
+    Step(Asked::Lineage, Told::Count(0), 1),
+    Step(Asked::Put(b"k"), Told::Full((10, 2, 4097)), 1),
+    Step(Asked::History, Told::Count(10), 1),
+];
+
+#[test]
+fn a_write_brings_what_it_replaces(rt: HostRuntime) {
+    assert_right(&rt, wrong_step_of_kv(rt.alloc(), &OVERWRITTEN));
+}
+
+// Writes over one another, each with the empty lineage, until the next one would keep too many ids.
+static TOO_MANY: [Step; 4] = [
+    Step(Asked::Over, Told::Count(0), 1),
+    Step(Asked::Over, Told::Done, 255),
+    Step(Asked::Over, Told::Count(256), 1),
+    Step(Asked::Over, Told::Full((257, 257, 4097)), 1),
+];
+
+#[test]
+fn a_port_refuses_what_would_keep_too_many_ids(rt: HostRuntime) {
+    assert_right(&rt, wrong_step_of_kv(rt.alloc(), &TOO_MANY));
 }
 
 // The first wrong step at a port over a table.
@@ -465,16 +509,17 @@ fn a_scan_shows_the_rows_of_a_prefix(rt: HostRuntime) {
     assert_right(&rt, wrong_step_of_table(rt.alloc(), &SCANNED));
 }
 
-// A scan in a region without a replica, without a stamp and without room.
-static SCAN_REFUSED: [Step; 8] = [
+// A scan in a region without a replica, without a stamp, and without room for its rows or for the unit that it needs without any.
+static SCAN_REFUSED: [Step; 9] = [
     Step(Asked::Region(1), Told::Done, 1),
     Step(Asked::Scan(b"k"), Told::NotYet, 1),
     Step(Asked::Region(0), Told::Done, 1),
     Step(Asked::Stamp(u64::MAX), Told::Done, 1),
     Step(Asked::Scan(b"k"), Told::Spent(u64::MAX), 1),
-    Step(Asked::Put(b"k"), Told::Done, 2048),
+    Step(Asked::Fill, Told::Done, 2048),
     Step(Asked::Ship(1, 1), Told::Done, 2048),
-    Step(Asked::Scan(b"k"), Told::Full((4096, 0, 1)), 1),
+    Step(Asked::Scan(b"k"), Told::Full((4096, 0, 2048)), 1),
+    Step(Asked::Scan(b"j"), Told::Full((4096, 0, 1)), 1),
 ];
 
 #[test]

@@ -4,7 +4,7 @@ ghost use Rattle.std.specs.Prelude.{[], IfOk};
 ghost use Rattle.anti_kind.specs.Machines.{StandsFor};
 
 use crate::made::{Version, lineage, message};
-use anti_ids::{Name, NoMemory, Value};
+use anti_ids::{Lineage, Name, NoMemory, Value};
 use anti_kind::{
     Actor, Answer, Asking, Brought, Call, Handle, Machine, MessageKind, Recorded, Reply, Row,
 };
@@ -16,6 +16,8 @@ use std::process::Abort;
 pub enum Asked<'a> {
     /// To write a value to a key, with these versions of the store 0 as its lineage.
     Write(&'a [u8], &'a [u8], &'a [Version<'a>]),
+    /// To write the value `v` to the key of this number, with the empty lineage.
+    WriteNth(u64),
     /// To read a key.
     Read(&'a [u8]),
     /// To read the keys that begin with a prefix.
@@ -57,6 +59,8 @@ pub enum Told<'a> {
     Brings(Brought),
     /// The key and the version that was written.
     Wrote(&'a [u8], u64),
+    /// The same, with the versions that it tells to be kept beside it: none, where that is what was handed in.
+    Kept(&'a [u8], u64, &'a [Version<'a>]),
     /// The rows: of each its key, its version and its value.
     Rows(&'a [(&'a [u8], u64, &'a [u8])]),
     /// How many ids are missing.
@@ -78,6 +82,8 @@ pub enum Told<'a> {
 pub enum Step<'a> {
     /// What is asked, what is told, and the units that are then held and owed.
     Call(Asked<'a>, Told<'a>, u32, u32),
+    /// To write the value `v` to a key so many times, each time with the empty lineage.
+    Writes(&'a [u8], u32),
     /// The versions up to this one are whole in region 0, and this version and part is to be shipped there next.
     Whole(u64, Option<(u64, u32)>),
 }
@@ -106,6 +112,14 @@ pub fn write(alloc: Global, key: &[u8], text: &[u8], ids: &[Version]) -> Option<
     })
 }
 
+// A write of the value `v` to the key of a number, with the empty lineage. `None` where memory runs out.
+fn write_nth(alloc: Global, number: u64) -> Option<Call> {
+    let Ok(key) = format!(in alloc; "k{number}") else {
+        return None;
+    };
+    write(alloc, key.as_bytes(), b"v", &[])
+}
+
 // A look for some versions in a region. `None` where memory runs out.
 fn look(alloc: Global, region: u32, ids: &[Version]) -> Option<Call> {
     let Ok(ids) = lineage(alloc, &[0], ids) else {
@@ -125,6 +139,7 @@ fn look(alloc: Global, region: u32, ids: &[Version]) -> Option<Call> {
 pub fn call_of(alloc: Global, region: u32, asked: Asked) -> Option<Call> {
     match asked {
         Asked::Write(key, text, ids) => write(alloc, key, text, ids),
+        Asked::WriteNth(number) => write_nth(alloc, number),
         Asked::Read(key) => match Name::new(key) {
             Ok(key) => Some(Call::Read { region, key }),
             Err(_) => None,
@@ -180,11 +195,37 @@ fn are_rows(rows: &[Row], wanted: &[(&[u8], u64, &[u8])]) -> bool {
     true
 }
 
+// Whether a lineage has just these versions, which ascend, of the store 0.
+fn are_versions(lineage: &Lineage, wanted: &[Version]) -> bool {
+    if lineage.len() as usize != wanted.len() {
+        return false;
+    }
+    let mut ids = lineage.iter();
+    for (key, version) in wanted {
+        match ids.next() {
+            Some(id) if id.key.bytes() == *key && id.version == *version => {}
+            _ => return false,
+        }
+    }
+    true
+}
+
+// Whether a write tells that just these versions are kept beside it, or nothing, where these are none.
+fn are_kept(over: &Option<Handle<Lineage>>, wanted: &[Version]) -> bool {
+    match over {
+        Some(kept) => !wanted.is_empty() && are_versions(kept.get(), wanted),
+        None => wanted.is_empty(),
+    }
+}
+
 // Whether a reply is what is to be told.
 fn is_told(reply: &Reply, told: Told) -> bool {
     match (reply, told) {
-        (Reply::Written { key, version }, Told::Wrote(named, wanted)) => {
+        (Reply::Written { key, version, .. }, Told::Wrote(named, wanted)) => {
             key.get().bytes() == named && *version == wanted
+        }
+        (Reply::Written { key, version, over }, Told::Kept(named, wanted, ids)) => {
+            key.get().bytes() == named && *version == wanted && are_kept(over, ids)
         }
         (Reply::Shown(rows), Told::Rows(wanted)) => are_rows(rows.as_slice(), wanted),
         (Reply::Missing { missing, .. }, Told::Missing(count)) => missing.get().len() == count,
@@ -210,13 +251,8 @@ pub fn is_answered(answer: &Answer, told: Told) -> bool {
     }
 }
 
-// Whether an object answers so to a call of the carrier 0.
-fn answers<M: Machine>(object: &mut Recorded<M>, call: Call, told: Told) -> bool {
-    match told {
-        Told::Needs(units) => return object.machine().need(&call) == units,
-        Told::Brings(wanted) => return call.brought() == wanted,
-        _ => {}
-    }
+// What an object answers to a call of the carrier 0.
+fn answer<M: Machine>(object: &mut Recorded<M>, call: Call) -> Answer {
     let asking = Asking {
         object: 0,
         actor: Actor::Carrier(0),
@@ -224,7 +260,34 @@ fn answers<M: Machine>(object: &mut Recorded<M>, call: Call, told: Told) -> bool
         clock: 0,
         call,
     };
-    is_answered(&object.ask(0, asking), told)
+    object.ask(0, asking)
+}
+
+// Whether an object answers so to a call of the carrier 0.
+fn answers<M: Machine>(object: &mut Recorded<M>, call: Call, told: Told) -> bool {
+    match told {
+        Told::Needs(units) => object.machine().need(&call) == units,
+        Told::Brings(wanted) => call.brought() == wanted,
+        _ => is_answered(&answer(object, call), told),
+    }
+}
+
+// Whether so many writes of the value `v` to a key are made, each with the empty lineage.
+fn are_written<M: Machine>(
+    alloc: Global,
+    object: &mut Recorded<M>,
+    key: &[u8],
+    times: u32,
+) -> bool {
+    for _ in 0..times {
+        let Some(call) = write(alloc, key, b"v", &[]) else {
+            return false;
+        };
+        if !matches!(answer(object, call), Answer::Made { .. }) {
+            return false;
+        }
+    }
+    true
 }
 
 // Whether a step goes as it says.
@@ -238,6 +301,7 @@ fn goes<M: Machine>(alloc: Global, object: &mut Recorded<M>, step: Step) -> bool
             let machine = object.machine();
             is_told && machine.held() == held && machine.owed() == owed
         }
+        Step::Writes(key, times) => are_written(alloc, object, key, times),
         Step::Whole(version, next) => {
             let machine = object.machine();
             machine.upto(0) == version && machine.next_ship(0) == next

@@ -11,7 +11,7 @@ static NAMED: [Step; 11] = [
     ),
     Step::Call(
         Asked::Write(b"row-b", b"2", &[(b"row-b", 1)]),
-        Told::Wrote(b"row-b", 2),
+        Told::Kept(b"row-b", 2, &[]),
         2,
         2,
     ),

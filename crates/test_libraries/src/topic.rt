@@ -25,10 +25,15 @@ pub fn topic(alloc: Global) -> Result<Topic, NoMemory>
     Topic::new(alloc, 0, &[0], &[first, second])
 }
 
-// Two cells, of which the later is shipped first.
+// Two cells, of which neither replaces the other. The later is shipped first.
 static IN_ORDER: [Step; 16] = [
     Step::Call(Asked::Write(b"n", b"a", &[]), Told::Wrote(b"n#1", 1), 1, 1),
-    Step::Call(Asked::Write(b"n", b"b", &[]), Told::Wrote(b"n#2", 2), 2, 2),
+    Step::Call(
+        Asked::Write(b"n", b"b", &[]),
+        Told::Kept(b"n#2", 2, &[]),
+        2,
+        2,
+    ),
     Step::Call(Asked::Write(b"n#1", b"x", &[]), Told::NotNow, 2, 2),
     Step::Call(Asked::Ship(2, 1), Told::Moved, 3, 1),
     Step::Call(Asked::Pull(0), Told::NotNow, 3, 1),

@@ -7,6 +7,8 @@ use Rattle.anti_ids.specs.Ids.{has_id}
 use Rattle.anti_ids.specs.declared.id.WriteId.{WriteId}
 use Rattle.anti_kind.specs.declared.call.Call.{Call}
 use Rattle.anti_kind.specs.declared.call.Call.TheVariants as calls
+use Rattle.anti_kind.specs.declared.call.Reply.{Reply}
+use Rattle.anti_kind.specs.declared.call.Reply.TheVariants as replies
 use Rattle.anti_kind.specs.declared.entry.Entry.{Entry}
 use Rattle.anti_app.specs.declared.app.App.{App}
 use Rattle.law_causal.specs.Words.{brings}
@@ -35,21 +37,22 @@ brought_at app trace i = option_map_or (brings app) (slice_get trace i) []
 abbrev pub ids_since : App → List Entry → List ℕ → List WriteId
 ids_since app trace since = flat_map (brought_at app trace) since
 
--- how many ids a call brings at most, where the call alone tells that
-abbrev pub most_of : Call → Option ℕ
-most_of (calls.Write key value lineage) = Some 1
-most_of (calls.Read region key) = None
-most_of (calls.Scan region prefix) = None
-most_of (calls.Poll region key) = None
-most_of (calls.Pull sub) = None
-most_of (calls.Repull sub version) = None
-most_of (calls.Take nth) = None
-most_of (calls.TakeReply number) = None
-most_of call = Some 0
+-- how many ids an answered call brings at most, where that is known without a look at them
+abbrev pub most_of : Call → Reply → Option ℕ
+most_of (calls.Write key value lineage) (replies.Written name version (Some kept)) = None
+most_of (calls.Write key value lineage) reply = Some 1
+most_of (calls.Read region key) reply = None
+most_of (calls.Scan region prefix) reply = None
+most_of (calls.Poll region key) reply = None
+most_of (calls.Pull sub) reply = None
+most_of (calls.Repull sub version) reply = None
+most_of (calls.Take nth) reply = None
+most_of (calls.TakeReply number) reply = None
+most_of call reply = Some 0
 
 -- the same of the entry at an index
 abbrev pub most_at : List Entry → ℕ → Option ℕ
-most_at trace i = option_and_then (λ e. most_of e.call) (slice_get trace i)
+most_at trace i = option_and_then (λ e. most_of e.call e.reply) (slice_get trace i)
 
 -- what is known to have come to a span: what was carried, and what some entries brought
 abbrev pub came_ids : App → List Entry → Came → List WriteId

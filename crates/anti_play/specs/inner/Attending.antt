@@ -6,7 +6,7 @@ use Rattle.anti_kind.specs.declared.asking.Asking.{Asking}
 use Rattle.anti_kind.specs.declared.awaited.Awaited.{Awaited}
 use Rattle.anti_kind.specs.declared.awaited.Awaited.TheVariants.{Writing}
 use Rattle.anti_kind.specs.declared.entry.Entry.{Entry}
-use Rattle.anti_kind.specs.Objects.{Start, fits}
+use Rattle.anti_kind.specs.Objects.{Start}
 use Rattle.anti_kind.specs.Shipments.{next_ship}
 use Rattle.anti_kind.specs.Waiting.{waits}
 use Rattle.anti_app.specs.declared.app.App.{App}
@@ -15,6 +15,7 @@ use Rattle.anti_app.specs.Objects.{object_count}
 use Rattle.anti_object.specs.Starts.{start_of}
 use Rattle.anti_proc.specs.Births.{birth_at, births}
 use Rattle.anti_trace.specs.Traces.{entries_on, put}
+use Rattle.anti_trace.specs.inner.Living.{WasFull}
 use Rattle.anti_agenda.specs.Agendas.{IsAsleep, IsAwake, IsIdle, SameRest}
 use Rattle.anti_agenda.specs.declared.agenda.Agenda.{Agenda}
 use Rattle.anti_agenda.specs.declared.offer.Offer.{Offer}
@@ -75,15 +76,10 @@ OfferWaits app trace object awaited (Ship store replica) = RouteWaits app trace 
 OfferWaits app trace object awaited offer =
     (q : Asking) × (asked_by_offer app trace offer ≡ Some q) × CallWaits app trace object awaited q
 
--- it asks for no call, as who has ended, or for one that does not fit: so it never makes an entry
-pub record DoesNotFit (app : App) (trace : List Entry) (q : Asking) : Type 0 where
-  pub start : Start
-  pub there : start_of app q.object ≡ Some start
-  pub full : fits start (entries_on q.object trace) q.call ≡ false
-
+-- it asks for no call, as who has ended, or for one that was ready and did not fit: so it never makes an entry
 abbrev pub IsPast : App → List Entry → Offer → Type 0
 IsPast app trace (Ship store replica) = ⊥
-IsPast app trace offer = (q : Asking) → asked_by_offer app trace offer ≡ Some q → DoesNotFit app trace q
+IsPast app trace offer = (q : Asking) → asked_by_offer app trace offer ≡ Some q → WasFull app trace q.object q.call
 
 -- ---- the agenda
 

@@ -1,11 +1,11 @@
 -- What the base keeps of the history that it stands for, and what its two changes do to it.
-use Rattle.std.specs.Prelude.{◌≡◌, ℕ, ◌+◌, ◌-◌, ◌*◌, ◌/◌, ◌<◌, ◌≤◌, Bool, true, false, ◌&&◌, List, ◌∷◌, [], ◌++◌, length, map, replicate, Some, unwrap_or, slice_index_or, slice_set}
+use Rattle.std.specs.Prelude.{◌≡◌, ℕ, ◌+◌, ◌-◌, ◌*◌, ◌/◌, ◌<◌, ◌≤◌, max, Bool, true, false, ◌&&◌, All, List, ◌∷◌, [], ◌++◌, length, map, replicate, Some, unwrap_or, slice_index_or, slice_set}
 use Rattle.std.specs.List.{prefix_len}
 use Rattle.anti_flight.specs.Queued.{Queued}
 use Rattle.anti_kind.specs.declared.entry.Entry.{Entry}
 use Rattle.anti_ids.specs.declared.limits.TheConstants.{MOST_REGIONS, MOST_UNITS}
 use Rattle.anti_kind.specs.declared.row.Row.{Row}
-use Rattle.anti_kind.specs.Stored.{rows, is_shipped, parts_of, shows_of}
+use Rattle.anti_kind.specs.Stored.{rows, is_shipped, parts_of, greatest, shows_of}
 use Rattle.anti_kind.specs.Store.{Store, owed_shipments}
 use Rattle.anti_kind.specs.Objects.{held}
 use Rattle.anti_replicas.specs.declared.backlog.TheConstants.{IN_GROUP}
@@ -13,9 +13,10 @@ use Rattle.anti_replicas.specs.declared.replicas.Replicas.{Replicas}
 use Rattle.anti_replicas.specs.declared.kept_write.KeptWrite.{KeptWrite}
 use Rattle.anti_replicas.specs.declared.kept_write.TheConstants.{MOST_PARTS}
 use Rattle.anti_replicas.specs.declared.newest.Newest.{Newest}
+use Rattle.anti_replicas.specs.declared.newest.TheConstants.{WRITTEN}
 use Rattle.anti_replicas.specs.inner.Backlogs.{AreBehind, HaveNext, AreBelow, group_whole, without, passed}
 use Rattle.anti_replicas.specs.inner.Marks.{came, has_all, marked}
-use Rattle.anti_replicas.specs.inner.Newest.{key_number, newest_at, AreNumbered, MakesPlace, Brings}
+use Rattle.anti_replicas.specs.inner.Newest.{key_number, newest_at, last_at, AreNumbered, MakesPlace, Brings}
 
 -- what is kept of the write of version v: its parts, with a mark for each shipment of one, and the number of its key
 pub record IsKept (s : Store) (h : List Entry) (newest : Newest) (v : ℕ) (k : KeptWrite) : Type 0 where
@@ -29,8 +30,12 @@ pub record IsKept (s : Store) (h : List Entry) (newest : Newest) (v : ℕ) (k : 
 abbrev pub AreKept : Store → List Entry → Newest → List KeptWrite → Type 0
 AreKept s h newest ks = (i : ℕ) (d : KeptWrite) → i < length ks → IsKept s h newest (i + 1) (slice_index_or ks i d)
 
--- the rows of the history's writes with the marks of its shipments, what each region therefore waits for, has and shows, and the units
--- that the history holds and owes
+-- so many ids at most are kept beside a write
+abbrev pub HasFew : ℕ → Row → Type 0
+HasFew most r = length r.lineage ≤ most
+
+-- the rows of the history's writes with the marks of its shipments, what each region therefore waits for, has and shows, what was written
+-- last, and the units that the history holds and owes
 pub record Stands (m : Replicas) (s : Store) (h : List Entry) : Type 0 where
   pub kind_is : m.kind ≡ s.kind
   pub number_is : m.store ≡ s.number
@@ -43,6 +48,8 @@ pub record Stands (m : Replicas) (s : Store) (h : List Entry) : Type 0 where
   pub upto_is : (g : ℕ) → g < MOST_REGIONS → slice_index_or m.upto g 0 ≡ prefix_len (has_all g) m.kept.items
   pub numbered : AreNumbered m.newest
   pub shows : (g : ℕ) (k : List ℕ) → g < MOST_REGIONS → newest_at m.newest g k ≡ shows_of s.kind h g k
+  pub last_is : (k : List ℕ) → last_at m.newest k ≡ greatest (λ r. true) k (rows h)
+  pub longest_is : All (HasFew m.longest) (rows h)
   pub held_is : m.held ≡ held h
   pub owed_is : m.owed ≡ owed_shipments s h
 
@@ -58,20 +65,23 @@ pub record Writable (m : Replicas) (parts : ℕ) : Type 0 where
 abbrev pub its_number : Newest → List ℕ → ℕ
 its_number n k = unwrap_or (key_number n k) 0
 
--- n is m with one more write, which came to no region yet
+-- n is m with one more write, which came to no region yet: its key has a place, where the write is the last
 pub record Keeps (m n : Replicas) (row : Row) : Type 0 where
   pub kind_is : n.kind ≡ m.kind
   pub store_is : n.store ≡ m.store
   pub regions_are : n.regions ≡ m.regions
   pub replicas_are : n.replicas ≡ m.replicas
-  pub kept_is : n.kept.items ≡ m.kept.items ++ record { row = row; marks = replicate MOST_REGIONS 0; parts = parts_of m.kind row.value; number = its_number n.newest row.key } ∷ []
+  pub placed : Newest
+  pub makes : MakesPlace m.newest placed
+  pub number : key_number placed row.key ≡ Some (its_number placed row.key)
+  pub brings : Brings placed n.newest WRITTEN (its_number placed row.key) row.version
+  pub kept_is : n.kept.items ≡ m.kept.items ++ record { row = row; marks = replicate MOST_REGIONS 0; parts = parts_of m.kind row.value; number = its_number placed row.key } ∷ []
   pub some : 1 ≤ parts_of m.kind row.value
   pub few : parts_of m.kind row.value ≤ MOST_PARTS
   pub upto_is : n.upto ≡ m.upto
   pub behind : AreBehind m.regions.items m.kept.items n.backlogs.items
   pub have_next : HaveNext m.regions.items m.kept.items n.backlogs.items
-  pub makes : MakesPlace m.newest n.newest
-  pub number : key_number n.newest row.key ≡ Some (its_number n.newest row.key)
+  pub longest_is : n.longest ≡ max m.longest (length row.lineage)
   pub held_is : n.held ≡ m.held + 1
   pub owed_is : n.owed ≡ m.owed + m.replicas * parts_of m.kind row.value
 
@@ -119,6 +129,7 @@ pub record Marks (m n : Replicas) (g v p : ℕ) : Type 0 where
   pub brings : (d : KeptWrite) → BringsIf (has_all g (marked g p (slice_index_or m.kept.items (v - 1) d))) m.newest n.newest g (slice_index_or m.kept.items (v - 1) d).number v
   pub leaves : (d : KeptWrite) → LeavesIf (has_all g (marked g p (slice_index_or m.kept.items (v - 1) d)) && group_whole (map (has_all g) n.kept.items) (group_at v)) m.backlogs.items n.backlogs.items g (group_at v)
   pub reaches : (d : KeptWrite) → ReachesIf (has_all g (marked g p (slice_index_or m.kept.items (v - 1) d))) m.upto n.upto n.kept.items n.backlogs.items g v
+  pub longest_is : n.longest ≡ m.longest
   pub held_is : n.held ≡ m.held + 1
   pub owed_is : n.owed + 1 ≡ m.owed
 

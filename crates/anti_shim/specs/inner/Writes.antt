@@ -5,14 +5,16 @@ use Rattle.anti_kind.specs.declared.call.Call.TheVariants.{Write}
 use Rattle.anti_kind.specs.declared.call.Reply.{Reply}
 use Rattle.anti_kind.specs.declared.call.Reply.TheVariants.{Written}
 use Rattle.anti_shim.specs.declared.fault.ShimFault.{ShimFault}
+use Rattle.anti_shim.specs.declared.store_shim.MadeWrite.{MadeWrite}
 use Rattle.anti_shim.specs.Steps.{Step}
 use Rattle.anti_shim.specs.Shims.{OneCall}
 
--- a write that stores these ids gives the id of what was written
-abbrev pub IsWritten : ℕ → Reply → WriteId → Type 0
-IsWritten store reply id =
-    (reply ≡ Written id.key id.version) × (id.store ≡ store) × (1 ≤ id.version)
+-- a write that hands in these ids gives the id of what was written, and what its reply tells
+abbrev pub IsWritten : ℕ → Reply → MadeWrite → Type 0
+IsWritten store reply made =
+    (reply ≡ Written made.id.key made.id.version made.over) × (made.id.store ≡ store)
+    × (1 ≤ made.id.version)
 
-abbrev pub Puts : Step → ℕ → List ℕ → List ℕ → List WriteId → Result WriteId ShimFault → Type 0
+abbrev pub Puts : Step → ℕ → List ℕ → List ℕ → List WriteId → Result MadeWrite ShimFault → Type 0
 Puts step store key value stored result =
     OneCall step store (Write key value stored) (IsWritten store) result

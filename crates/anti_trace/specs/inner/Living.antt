@@ -6,6 +6,7 @@ use Rattle.anti_kind.specs.declared.actor.Birth.{Birth}
 use Rattle.anti_kind.specs.declared.call.Call.{Call}
 use Rattle.anti_kind.specs.declared.entry.Entry.{Entry}
 use Rattle.anti_kind.specs.Objects.{Start, Follows, last_stamp}
+use Rattle.anti_kind.specs.Fulls.{HasAscending}
 use Rattle.anti_kind.specs.Ports.{IsFull}
 use Rattle.anti_app.specs.declared.app.App.{App}
 use Rattle.anti_app.specs.Objects.{object_count}
@@ -42,6 +43,7 @@ pub record WasFull (app : App) (trace : List Entry) (object : ℕ) (call : Call)
   pub owed_units : ℕ
   pub need_units : ℕ
   pub was_full : IsFull start before call held_units owed_units need_units
+  pub ascends : HasAscending call
 
 -- what a process wants is such a call at the object of this number
 abbrev pub IsEnded : App → List Entry → Want → ℕ → Type 0

@@ -1,7 +1,14 @@
-use Rattle.std.proofs.Common.{arith}
-use Rattle.anti_ids.proofs.IdLemmas.{length-with_id-le}
+use Rattle.std.proofs.Common.{Option, sym, subst}
+use Rattle.std.specs.Prelude.{List, unwrap_or}
+use Rattle.anti_ids.specs.declared.id.WriteId.{WriteId}
+use Rattle.anti_shim.specs.Shims.{Appends}
+use Rattle.anti_shim.proofs.Carried.{appends_alone}
 use Rattle.anti_shim.proofs.store_shim.append_written.Goals as goal
 
--- there is room for one id
-pub append-added-requires-clause-room : goal.append-added-requires-clause-room
-append-added-requires-clause-room c = omega (arith, length-with_id-le c.args.id c.args.taken.ids)
+-- what is kept is carried already
+pub returns-in-None : goal.returns-in-None
+returns-in-None c =
+    let id : WriteId = c.args.made.now.id in
+    let old : List WriteId = c.args.carried.ids in
+    subst (λ (over : Option (List WriteId)). Appends id (unwrap_or over old) old c.append_id.new.lineage c.append_id.result) (sym c.in-None.is)
+    (appends_alone id old c.append_id.new.lineage c.requires.ascending c.append_id.result c.append_id.ensures)

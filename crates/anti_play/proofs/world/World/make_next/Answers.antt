@@ -63,7 +63,7 @@ pub returns-in-Err-Full-clause-chose : goal.returns-in-Err-Full-clause-chose
 returns-in-Err-Full-clause-chose c = λ trace s.
     let g = is_next_found c.args.self.now c.args.birth c.args.at c.args.asking c.requires.found c.requires.next in
     go_ended c.args.app.now c.args.self.now trace c.args.birth c.args.at c.requires.next.process s g
-    c.args.asking.object c.args.asking.span c.args.asking.call c.requires.next.going (c.requires.next.asks c.args.app.now)
+    c.args.asking.object c.args.asking.span c.args.asking.call c.requires.next.going (c.requires.next.asks c.args.app.now) c.requires.sound
     _ (came ((goal.at.returns-in-Err-Full-clause-chose c).In_ok-entry) trace s (Err (Full c.in-Err-Full.field-0-0 c.in-Err-Full.field-0-1 c.in-Err-Full.field-0-2)) (c.in-Err-Full.is ∙ ap Err c.in-Err-Full.field-0-is))
     refl c.end.ensures s.trail refl
 

@@ -5,4 +5,4 @@ use Rattle.anti_proc.proofs.changes.Changes.add_write.Goals as goal
 
 pub returns-clause-goes : goal.returns-clause-goes
 returns-clause-goes c =
-    IfOk-weaker c.add.result _ _ (λ stage goes. λ before s go. goes s (local_by c.args.self.now before) go refl) c.add.ensures
+    IfOk-weaker c.add_write.result _ _ (λ stage goes. λ before s go. goes s (local_by c.args.self.now before) go refl) c.add_write.ensures

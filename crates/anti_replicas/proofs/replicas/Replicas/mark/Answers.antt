@@ -42,6 +42,7 @@ returns c =
             reaches = λ d.
                 subst (λ (b : Bool). ReachesIf b m.upto n.upto n.kept.items n.backlogs.items g v) (on d)
                 (subst (λ (l : Replicas). ReachesIf true m.upto l.upto l.kept.items l.backlogs.items g v) (sym w.self-is) w.settle.ensures.reaches);
+            longest_is = ap (λ (l : Replicas). l.longest) only;
             held_is = ap (λ (l : Replicas). l.held + 1) only;
             owed_is = omega (arith, ap (λ (l : Replicas). l.owed) only, c.requires.owed);
           }

@@ -7,6 +7,9 @@ use Rattle.anti_replicas.specs.Stores.{showing_whole}
 use Rattle.anti_replicas.proofs.Reading.{found_one, length_with}
 use Rattle.anti_replicas.proofs.replicas.Replicas.some_missing.Goals as goal
 
+pub add-requires-clause-room : goal.add-requires-clause-room
+add-requires-clause-room c = omega (arith, c.loop-id.invariant.few, length_with c.in-Some.id.now c.loop-id.found, ap length c.in-Some.ensures.steps)
+
 pub loop-id-preserved-in-Continue-1 : goal.loop-id-preserved-in-Continue-1
 loop-id-preserved-in-Continue-1 c =
     let id = c.in-Some.id.now in
