@@ -15,15 +15,16 @@ def quoted(texts):
     return "[" + ", ".join(f'"{text}"' for text in texts) + "]"
 
 
-# What a handler does: it writes, each time with all that it wrote before in its lineage, and reads or looks.
+# What a handler does: it writes to the key of its request, each time with all that it wrote before in its lineage, and reads or looks.
 BODIES = {
-    "writes": [f"write s k{i % 8} v{i}" for i in range(62)] + ["barrier", "read s k0 as x"],
-    "looks": [line for i in range(32) for line in (f"write s k{i % 8} v{i}", "dryrun")],
+    "writes": [f"write s $in v{i}" for i in range(62)] + ["barrier", "read s $in as x"],
+    "looks": [line for i in range(32) for line in (f"write s $in v{i}", "dryrun")],
 }
 
 
 def document(choices, body):
-    """One store with a replica, requests with this body, and a schedule of so many choices that ships each write at once."""
+    """One store with a replica, requests with this body, each with a key of its own as its value, and a schedule of so many choices that ships each
+    write at once."""
     lines, request, version = [], 0, 0
     while len(lines) < choices:
         request += 1
@@ -39,7 +40,7 @@ def document(choices, body):
             'regions = ["eu"]',
             f"choices = {quoted(lines)}",
             'store = [{ name = "s", kind = "kv", replicas = ["eu"] }]',
-            "request = [" + ", ".join(['{ service = "w", handler = "h" }'] * max(request, 1)) + "]",
+            "request = [" + ", ".join(f'{{ service = "w", handler = "h", value = "k{i}" }}' for i in range(max(request, 1))) + "]",
             "[[service]]",
             'name = "w"',
             'region = "eu"',
@@ -49,9 +50,10 @@ def document(choices, body):
 
 
 def finished(requests, names, lines, services=1):
-    """So many requests in turn to so many services, each a handler with these lines, on stores of these names with a replica each, and `finish`."""
+    """So many requests in turn to so many services, each with a key of its own as its value and a handler with these lines, on stores of these
+    names with a replica each, and `finish`."""
     stores = ", ".join(f'{{ name = "{name}", kind = "kv", replicas = ["eu"] }}' for name in names)
-    asked = ", ".join(f'{{ service = "w{i % services or ""}", handler = "h", value = "k" }}' for i in range(requests))
+    asked = ", ".join(f'{{ service = "w{i % services or ""}", handler = "h", value = "k{i}" }}' for i in range(requests))
     served = [
         line
         for i in range(services)
@@ -82,15 +84,15 @@ def called(requests, deep):
 
 
 def carrying(ids):
-    """Seven requests, each of which sends 256 messages with so many ids, a multiple of 16, as their baggage."""
-    lines = ["repeat 16", f"repeat {ids // 16}", "write s k v", "end", "end"] if ids > 0 else []
+    """Seven requests, each of which writes to a key of its own, and sends 256 messages with so many ids, a multiple of 16, as their baggage."""
+    lines = ["repeat 16", f"repeat {ids // 16}", "write s $in v", "end", "end"] if ids > 0 else []
     lines += ["repeat 16", "repeat 16", "send d h x", "end", "end"]
     return "\n".join(
         [
             'regions = ["eu"]',
             'choices = ["finish"]',
             'store = [{ name = "s", kind = "kv", replicas = ["eu"] }]',
-            "request = [" + ", ".join(['{ service = "c", handler = "h" }'] * 7) + "]",
+            "request = [" + ", ".join(f'{{ service = "c", handler = "h", value = "k{i}" }}' for i in range(7)) + "]",
             f'[[service]]\nname = "c"\nregion = "eu"\nhandler = [{{ name = "h", body = {quoted(lines)} }}]',
             '[[service]]\nname = "d"\nregion = "eu"\nhandler = [{ name = "h", body = [] }]',
         ]
@@ -104,13 +106,13 @@ LONG_KEY = "a-key-of-a-longer-name"
 
 
 def sending(services, times, ids, name="s{}", key="k", then=()):
-    """A request for each of so many services: it writes so many ids, a multiple of 16, and sends `times` times 256 messages to the
+    """A request for each of so many services: it writes so many ids of a key of its own, a multiple of 16, and sends `times` times 256 messages to the
     service's one handler, which does what it is told. Of two stores each has units for eight such requests of 256 ids, an inbox for
     2,048 sends."""
     bodies = []
     stores = ", ".join(f'{{ name = "{name.format(i)}", kind = "kv", replicas = ["eu"] }}' for i in range(2))
     for i in range(services):
-        lines = ["repeat 16", f"repeat {ids // 16}", f"write {name.format(i % 2)} {key} v", "end", "end"] if ids > 0 else []
+        lines = ["repeat 16", f"repeat {ids // 16}", f"write {name.format(i % 2)} {key}{i} v", "end", "end"] if ids > 0 else []
         lines += ["repeat 16", f"repeat {SENDS // 16}", f"send d{i} h x", "end", "end"] * times
         bodies.append(f'{{ name = "h{i}", body = {quoted(lines)} }}')
     targets = "".join(
@@ -154,8 +156,10 @@ IDLE_LINES, IDLE_TURNS = 58, ["repeat 16", "repeat 16"]
 
 def idle(lines, first=(), then=()):
     """A request writes 255 ids to eight stores without a replica where it runs, does what it is told then, and sends 256 messages. The
-    handler that they start does what it is told first, and then 58 times 256 of these lines in turn, which make no entry."""
-    stores = ", ".join(f'{{ name = "s{i}", kind = "kv", replicas = ["{("eu", "us")[i % 2]}"] }}' for i in range(16))
+    handler that they start does what it is told first, and then 58 times 256 of these lines in turn, which make no entry. Beside 15 stores there
+    is a topic without a replica there, where what a handler writes replaces nothing."""
+    stores = ", ".join(f'{{ name = "s{i}", kind = "kv", replicas = ["{("eu", "us")[i % 2]}"] }}' for i in range(16) if i != 14)
+    stores += ', { name = "n", kind = "topic", replicas = ["us"] }'
     writes = ["repeat 15"] + [f"write s{2 * (i % 8) + 1} k v" for i in range(17)] + ["end"]
     sends = IDLE_TURNS + ["send d h x", "end", "end"]
     body = [*first, *IDLE_TURNS, *(lines[i % len(lines)] for i in range(IDLE_LINES)), "end", "end"]
@@ -310,10 +314,10 @@ def short_spans(requests, writes):
     front = ["send w work $in"] * 5 + ["read s0 $in as x", "transfer x"]
     work = ["read s0 $in as x", "transfer x", "root", "read s1 $in as y", "transfer y", "barrier"]
     work += ["root", "read s5 $in as u", "root", "read s0 $in as w"]
-    put = ["repeat 16", *(f"write s{i} k v" for i in range(4)), "end"]
+    put = ["repeat 16", *(f"write s{i} $in v" for i in range(4)), "end"]
     stores = [(f"s{i}", "kv", REGIONS[:2]) for i in range(8)]
     services = [("w", "us", {"front": front, "work": work}), ("z", "us", {"put": put})]
-    asked = [("z", "put", "z")] * (writes // 64) + [("w", "front", f"k{i}") for i in range(requests)]
+    asked = [("z", "put", f"z{i}") for i in range(writes // 64)] + [("w", "front", f"k{i}") for i in range(requests)]
     return application(REGIONS[:2], stores, services, asked)
 
 
