@@ -205,10 +205,10 @@ def scanned(stores):
 
 
 def replicated(stores):
-    """Values of 256 bytes, in four parts, on so many blobs with eight replicas, each value read back where it was written: 33 units
-    for a write, 1 for a look and 1 for a read, as often as a store has units."""
-    body = [f"write s{i} k $in" for i in range(stores)] + ["barrier"] + [f"read s{i} k as x{i}" for i in range(stores)]
-    return on_stores("blob", 8, stores, [("put", "v" * 256)] * (MOST_UNITS // 35), {"put": body})
+    """Values of 256 bytes, in four parts, on so many blobs with eight replicas, each under a key of its own and read back where it was written:
+    33 units for a write, 1 for a look and 1 for a read, as often as a store has units."""
+    body = [f"write s{i} $in {'v' * 256}" for i in range(stores)] + ["barrier"] + [f"read s{i} $in as x{i}" for i in range(stores)]
+    return on_stores("blob", 8, stores, [("put", f"k{i}") for i in range(MOST_UNITS // 35)], {"put": body})
 
 
 def filled(kind):
@@ -243,10 +243,18 @@ def pulled(kind, units, subs, body):
     )
 
 
+# What stands in the example of a whole application, and how each post gets a key of its own, and its picture.
+OWN_KEYS = [("write posts p1 $in", "write posts $in text"), ("write jobs j p1", "write jobs j $in"), ("media m1", "media $in"), ("reply m1", "reply $in")]
+
+
 def whole(requests):
-    """The example of a whole application, with a store of each kind, but so many requests in place of its own: two users, and posts."""
+    """The example of a whole application, with a store of each kind, but so many requests in place of its own: two users, and posts, each
+    with a key of its own."""
     with open(os.path.join(HERE, "../examples/whole_application.toml"), encoding="utf-8") as example:
         front, rest = example.read().split("request = [\n")
+    for one, own in OWN_KEYS:
+        assert one in rest, one
+        rest = rest.replace(one, own)
     asked = ['{ service = "admin", handler = "join" }'] * 2
     asked += [f'{{ service = "front", handler = "post", value = "v{i}" }}' for i in range(requests - 2)]
     return front + "request = [\n" + ",\n".join(asked) + "\n" + rest[rest.index("]\n") :]

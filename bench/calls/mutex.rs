@@ -91,8 +91,16 @@ impl Store {
     }
 }
 
-fn work(store: &Mutex<Store>, seat: u32, key: Name, turns: u32) {
+// The key of a turn: no other of some thousands has it.
+fn key_of(turn: u32) -> Name {
+    let mut key = [0; 32];
+    key[..3].copy_from_slice(&[turn / 676 % 26, turn / 26 % 26, turn % 26].map(|letter| b'a' + letter as u8));
+    key
+}
+
+fn work(store: &Mutex<Store>, seat: u32, turns: u32) {
     for turn in 0..turns {
+        let key = key_of(turn);
         let write = Call::Write { key: Arc::new(key), value: Arc::from(&b"v"[..]), lineage: Arc::new(Vec::new()) };
         let version = store.lock().unwrap().call(seat, turn, write).unwrap_or(0);
         let _ = store.lock().unwrap().call(seat, turn, Call::Ship { region: 0, version, part: 1 });
@@ -102,14 +110,14 @@ fn work(store: &Mutex<Store>, seat: u32, key: Name, turns: u32) {
     }
 }
 
-fn round(threads: u32, key: Name) -> usize {
+fn round(threads: u32) -> usize {
     let store = Mutex::new(Store::default());
     thread::scope(|scope| {
         for seat in 2..=threads {
             let store = &store;
-            scope.spawn(move || work(store, seat, key, CALLS / 4 / threads));
+            scope.spawn(move || work(store, seat, CALLS / 4 / threads));
         }
-        work(&store, 1, key, CALLS / 4 / threads);
+        work(&store, 1, CALLS / 4 / threads);
     });
     store.into_inner().unwrap().history.len()
 }
@@ -117,8 +125,6 @@ fn round(threads: u32, key: Name) -> usize {
 fn main() {
     let words: Vec<u32> = std::env::args().skip(1).filter_map(|word| word.parse().ok()).collect();
     let (threads, rounds) = (words.first().copied().unwrap_or(1), words.get(1).copied().unwrap_or(1));
-    let mut key = [0; 32];
-    key[0] = b'k';
-    let made: usize = (0..rounds).map(|_| round(threads, key)).sum();
+    let made: usize = (0..rounds).map(|_| round(threads)).sum();
     println!("{made}");
 }
