@@ -3,11 +3,11 @@
 
     .ci/check_orders.py NAME.out ..
 
-What a process carried is not in the record, so this goes another way than the program: it finds which entries are causally before which (by
-the order of a process within a span, by messages, by the rows that are shown, by the lineages that are stored beside them, and by the writes
-that others replace), and takes as the past of a read the writes before it. Each line `span .. order ..` has to be just the order that results,
-and this order has to explain the reads: each shows, of each key that it speaks of, the last version that stands before it. The status is 0
-where that holds.
+What a process carried is not in the record, so this goes another way than the program: it finds which entries are causally before which
+(by the order of a process within a span, by messages, by the rows that are shown, by the lineages that are stored beside them, and by the
+writes that others replace), and takes as the past of a read the writes before it. Each line `span .. order ..` has to be just the order
+that results, and this order has to explain the reads: each shows, of each key that it speaks of, the last version that stands before it.
+The status is 0 where that holds.
 """
 import re
 import sys

@@ -23,8 +23,8 @@ BODIES = {
 
 
 def document(choices, body):
-    """One store with a replica, requests with this body, each with a key of its own as its value, and a schedule of so many choices that ships each
-    write at once."""
+    """One store with a replica, requests with this body, each with a key of its own as its value, and a schedule of so many choices that
+    ships each write at once."""
     lines, request, version = [], 0, 0
     while len(lines) < choices:
         request += 1
@@ -50,8 +50,8 @@ def document(choices, body):
 
 
 def finished(requests, names, lines, services=1):
-    """So many requests in turn to so many services, each with a key of its own as its value and a handler with these lines, on stores of these
-    names with a replica each, and `finish`."""
+    """So many requests in turn to so many services, each with a key of its own as its value and a handler with these lines, on stores of
+    these names with a replica each, and `finish`."""
     stores = ", ".join(f'{{ name = "{name}", kind = "kv", replicas = ["eu"] }}' for name in names)
     asked = ", ".join(f'{{ service = "w{i % services or ""}", handler = "h", value = "k{i}" }}' for i in range(requests))
     served = [
@@ -84,7 +84,8 @@ def called(requests, deep):
 
 
 def carrying(ids):
-    """Seven requests, each of which writes to a key of its own, and sends 256 messages with so many ids, a multiple of 16, as their baggage."""
+    """Seven requests, each of which writes to a key of its own, and sends 256 messages with so many ids, a multiple of 16, as their
+    baggage."""
     lines = ["repeat 16", f"repeat {ids // 16}", "write s $in v", "end", "end"] if ids > 0 else []
     lines += ["repeat 16", "repeat 16", "send d h x", "end", "end"]
     return "\n".join(
@@ -106,9 +107,9 @@ LONG_KEY = "a-key-of-a-longer-name"
 
 
 def sending(services, times, ids, name="s{}", key="k", then=()):
-    """A request for each of so many services: it writes so many ids of a key of its own, a multiple of 16, and sends `times` times 256 messages to the
-    service's one handler, which does what it is told. Of two stores each has units for eight such requests of 256 ids, an inbox for
-    2,048 sends."""
+    """A request for each of so many services: it writes so many ids of a key of its own, a multiple of 16, and sends `times` times 256
+    messages to the service's one handler, which does what it is told. Of two stores each has units for eight such requests of 256 ids, an
+    inbox for 2,048 sends."""
     bodies = []
     stores = ", ".join(f'{{ name = "{name.format(i)}", kind = "kv", replicas = ["eu"] }}' for i in range(2))
     for i in range(services):
@@ -156,8 +157,8 @@ IDLE_LINES, IDLE_TURNS = 58, ["repeat 16", "repeat 16"]
 
 def idle(lines, first=(), then=()):
     """A request writes 255 ids to eight stores without a replica where it runs, does what it is told then, and sends 256 messages. The
-    handler that they start does what it is told first, and then 58 times 256 of these lines in turn, which make no entry. Beside 15 stores there
-    is a topic without a replica there, where what a handler writes replaces nothing."""
+    handler that they start does what it is told first, and then 58 times 256 of these lines in turn, which make no entry. Beside 15
+    stores there is a topic without a replica there, where what a handler writes replaces nothing."""
     stores = ", ".join(f'{{ name = "s{i}", kind = "kv", replicas = ["{("eu", "us")[i % 2]}"] }}' for i in range(16) if i != 14)
     stores += ', { name = "n", kind = "topic", replicas = ["us"] }'
     writes = ["repeat 15"] + [f"write s{2 * (i % 8) + 1} k v" for i in range(17)] + ["end"]
@@ -205,8 +206,8 @@ def scanned(stores):
 
 
 def replicated(stores):
-    """Values of 256 bytes, in four parts, on so many blobs with eight replicas, each under a key of its own and read back where it was written:
-    33 units for a write, 1 for a look and 1 for a read, as often as a store has units."""
+    """Values of 256 bytes, in four parts, on so many blobs with eight replicas, each under a key of its own and read back where it was
+    written: 33 units for a write, 1 for a look and 1 for a read, as often as a store has units."""
     body = [f"write s{i} $in {'v' * 256}" for i in range(stores)] + ["barrier"] + [f"read s{i} $in as x{i}" for i in range(stores)]
     return on_stores("blob", 8, stores, [("put", f"k{i}") for i in range(MOST_UNITS // 35)], {"put": body})
 
@@ -244,7 +245,12 @@ def pulled(kind, units, subs, body):
 
 
 # What stands in the example of a whole application, and how each post gets a key of its own, and its picture.
-OWN_KEYS = [("write posts p1 $in", "write posts $in text"), ("write jobs j p1", "write jobs j $in"), ("media m1", "media $in"), ("reply m1", "reply $in")]
+OWN_KEYS = [
+    ("write posts p1 $in", "write posts $in text"),
+    ("write jobs j p1", "write jobs j $in"),
+    ("media m1", "media $in"),
+    ("reply m1", "reply $in"),
+]
 
 
 def whole(requests):
