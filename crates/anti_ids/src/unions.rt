@@ -61,11 +61,11 @@ fn comes(ids: &mut Ids, id: &WriteId) -> bool
     ensures rest { (i : WriteId) → has_id i ids.new ≡ true → has_id i ids.old ≡ true }
 {
     while let Some(next) = ids.next() {
-        if is_behind(next, id) {
-            return false;
-        }
         if next.version == id.version && next == id {
             return true;
+        }
+        if is_behind(next, id) {
+            return false;
         }
     }
     false
