@@ -1,11 +1,12 @@
 -- Words of bits that say what is gone, and one bit that changes.
-use Rattle.std.proofs.Common.{◌≡◌, ℕ, ◌*◌, ◌/◌, ◌%◌, ◌^◌, ◌<◌, List, true, false, length, get_or, set, bit_and, bit_or, sym, ap, ◌∙◌, inl, inr, arith, w64}
+use Rattle.std.proofs.Common.{◌≡◌, ℕ, zero, suc, ◌+◌, ◌-◌, ◌*◌, ◌/◌, ◌%◌, ◌^◌, ◌<◌, ◌≤◌, ◌⊎◌, List, Bool, true, false, length, get_or, set, min, bit_and, bit_or, count_ones, if◌then◌else◌, sym, ap, ◌∙◌, inl, inr, arith, w64}
 use Rattle.std.specs.Prelude.{◌≢◌, ◌==◌}
 use Rattle.std.specs.Int.{bit_at, bit_not}
-use Rattle.std.proofs.lemmas.Bool.{cases_eq}
+use Rattle.std.proofs.lemmas.Bool.{cases_eq, cases_lt}
 use Rattle.std.proofs.lemmas.List.{get_or-set_same, get_or-set_other}
+use Rattle.std.proofs.lemmas.Nat.{mod-pow-add, ones_cat, ones_le_self, shr-shr, zero_from_ones}
 use Rattle.std.proofs.lemmas.Nat.Bits.{bit_at_set_same, bit_at_set_other, bit_at_clear_same, bit_at_clear_other}
-use Rattle.anti_ids.specs.inner.Left.{is_gone}
+use Rattle.anti_ids.specs.inner.Left.{gone_in, is_gone}
 
 -- a word with one more bit, and with one less
 abbrev pub with_bit : ℕ → ℕ → ℕ
@@ -47,3 +48,69 @@ module _ (words : List ℕ) (at : ℕ) (within : at / 64 < length words) where
 
   pub others_beside : (other : ℕ) → other ≢ at → is_gone (set words (at / 64) (without_bit word (at % 64))) other ≡ is_gone words other
   others_beside = bit_there words at (without_bit word (at % 64)) within (λ bit small apart. bit_at_clear_other w64 word (at % 64) (omega arith) bit small apart)
+
+-- Ones of a word, and how many are gone.
+one_bit : (z : ℕ) → z < 2 → count_ones z ≡ (if z == 1 then 1 else 0)
+one_bit zero small = omega (arith, ones_le_self 0)
+one_bit (suc zero) small = go (cases_eq (count_ones 1) 0)
+  where
+    go : (count_ones 1 ≡ 0) ⊎ (count_ones 1 ≢ 0) → count_ones 1 ≡ 1
+    go (inl none) = absurd (omega (arith, zero_from_ones 1 none))
+    go (inr some) = omega (arith, ones_le_self 1, some)
+one_bit (suc (suc z)) small = absurd (omega arith)
+
+-- within a word, as many are gone as bits are set
+pub gone_in-word : (words : List ℕ) (number bit n : ℕ) → bit + n ≤ 64 → gone_in words (number * 64 + bit) n ≡ count_ones (get_or words number 0 / 2 ^ bit % 2 ^ n)
+gone_in-word words number bit zero within =
+    let none : get_or words number 0 / 2 ^ bit % 2 ^ 0 ≡ 0 = omega arith in sym (ap count_ones none ∙ one_bit 0 (omega arith))
+gone_in-word words number bit (suc n) within =
+    let at = number * 64 + bit in
+    let word = get_or words number 0 in
+    let rest = word / 2 ^ bit in
+    let row : at / 64 ≡ number = omega (arith, within) in
+    let column : at % 64 ≡ bit = omega (arith, within) in
+    let here : is_gone words at ≡ (rest % 2 == 1) = ap (λ (q : ℕ). bit_at (get_or words q 0) (at % 64) == 1) row ∙ ap (λ (b : ℕ). bit_at word b == 1) column in
+    let low : rest % 2 ^ 1 < 2 ^ 1 = omega arith in
+    let first : (if is_gone words at then 1 else 0) ≡ count_ones (rest % 2 ^ 1) = ap (λ (b : Bool). if b then 1 else 0) here ∙ sym (one_bit (rest % 2) low) in
+    let place : at + 1 ≡ number * 64 + (bit + 1) = omega arith in
+    let next : gone_in words (at + 1) n ≡ count_ones (word / 2 ^ (bit + 1) % 2 ^ n) =
+    ap (λ (k : ℕ). gone_in words k n) place ∙ gone_in-word words number (bit + 1) n (omega (arith, within)) in
+    let further : count_ones (word / 2 ^ (bit + 1) % 2 ^ n) ≡ count_ones (rest / 2 ^ 1 % 2 ^ n) = ap (λ (x : ℕ). count_ones (x % 2 ^ n)) (sym (shr-shr word bit 1)) in
+    let length_up : n + 1 ≡ suc n = omega arith in
+    let whole : count_ones (rest % 2 ^ suc n) ≡ count_ones (rest / 2 ^ 1 % 2 ^ n) + count_ones (rest % 2 ^ 1) =
+    ap (λ (m : ℕ). count_ones (rest % 2 ^ m)) (sym length_up) ∙ ap count_ones (mod-pow-add rest n 1) ∙ ones_cat 1 (rest / 2 ^ 1 % 2 ^ n) (rest % 2 ^ 1) low in
+    omega (arith, first, next, further, whole)
+
+-- those of two ranges, one behind the other
+pub gone_in-add : (words : List ℕ) (at m n : ℕ) → gone_in words at (m + n) ≡ gone_in words at m + gone_in words (at + m) n
+gone_in-add words at zero n =
+    let all : zero + n ≡ n = omega arith in
+    let here : at + zero ≡ at = omega arith in
+    omega (arith, ap (λ (k : ℕ). gone_in words at k) all, ap (λ (k : ℕ). gone_in words k n) here)
+gone_in-add words at (suc m) n =
+    let longer : suc m + n ≡ suc (m + n) = omega arith in
+    let first : gone_in words at (suc m + n) ≡ (if is_gone words at then 1 else 0) + gone_in words (at + 1) (m + n) = ap (λ (k : ℕ). gone_in words at k) longer in
+    let place : at + 1 + m ≡ at + suc m = omega arith in
+    let further : gone_in words (at + 1 + m) n ≡ gone_in words (at + suc m) n = ap (λ (k : ℕ). gone_in words k n) place in
+    omega (arith, first, gone_in-add words (at + 1) m n, further)
+
+-- a word more
+pub gone_in-step : (words : List ℕ) (number len bits : ℕ) → number * 64 < len → bits ≡ min (len - number * 64) 64
+    → gone_in words (number * 64) (len - number * 64) ≡ count_ones (get_or words number 0 % 2 ^ bits) + gone_in words ((number + 1) * 64) (len - (number + 1) * 64)
+gone_in-step words number len bits more is =
+    let rest = len - (number + 1) * 64 in
+    let sum : len - number * 64 ≡ bits + rest = omega (arith, more, is) in
+    let start : number * 64 ≡ number * 64 + 0 = omega arith in
+    let unmoved : get_or words number 0 / 2 ^ 0 ≡ get_or words number 0 = omega arith in
+    let low : gone_in words (number * 64) bits ≡ count_ones (get_or words number 0 % 2 ^ bits) =
+    ap (λ (k : ℕ). gone_in words k bits) start ∙ gone_in-word words number 0 bits (omega (arith, is)) ∙ ap (λ (x : ℕ). count_ones (x % 2 ^ bits)) unmoved in
+    let high : gone_in words (number * 64 + bits) rest ≡ gone_in words ((number + 1) * 64) rest = behind (cases_lt bits 64) in
+    ap (λ (n : ℕ). gone_in words (number * 64) n) sum ∙ gone_in-add words (number * 64) bits rest ∙ omega (arith, low, high)
+  where
+    behind : (bits < 64) ⊎ (64 ≤ bits) → gone_in words (number * 64 + bits) (len - (number + 1) * 64) ≡ gone_in words ((number + 1) * 64) (len - (number + 1) * 64)
+    behind (inl short) =
+        let none : len - (number + 1) * 64 ≡ 0 = omega (arith, more, is, short) in
+        ap (λ (n : ℕ). gone_in words (number * 64 + bits) n) none ∙ sym (ap (λ (n : ℕ). gone_in words ((number + 1) * 64) n) none)
+    behind (inr full) =
+        let there : number * 64 + bits ≡ (number + 1) * 64 = omega (arith, is, full) in
+        ap (λ (k : ℕ). gone_in words k (len - (number + 1) * 64)) there

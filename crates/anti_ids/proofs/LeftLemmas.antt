@@ -1,5 +1,5 @@
 -- What is left of the ids of a block, as some of them are gone.
-use Rattle.std.proofs.Common.{◌≡◌, ℕ, zero, suc, ◌+◌, ◌<◌, ◌≤◌, List, [], ◌∷◌, Bool, true, false, not, ◌||◌, ◌&&◌, length, get_or, refl, sym, ap, ◌∙◌, subst, inl, inr, arith}
+use Rattle.std.proofs.Common.{◌≡◌, ℕ, zero, suc, ◌+◌, ◌<◌, ◌≤◌, List, [], ◌∷◌, Bool, true, false, not, ◌||◌, ◌&&◌, length, get_or, if◌then◌else◌, refl, sym, ap, ◌∙◌, subst, inl, inr, arith}
 use Rattle.std.specs.Prelude.{◌≢◌}
 use Rattle.std.specs.declared.cmp.Ordering.TheVariants.{Less}
 use Rattle.std.proofs.lemmas.Bool.{cond_both, cond-true, cond-false, cases_Bool, or_parts, or_from, or_left}
@@ -11,7 +11,7 @@ use Rattle.anti_ids.specs.Invariants.{IsAscending, IsLineage}
 use Rattle.anti_ids.specs.declared.held_ids.HeldIds.{HeldIds}
 use Rattle.anti_ids.specs.declared.held_ids.HeldIds.TheVariants.{Own, Whole, Less as Shared}
 use Rattle.anti_ids.specs.inner.Places.{StandsAt}
-use Rattle.anti_ids.specs.inner.Left.{is_gone, left_of}
+use Rattle.anti_ids.specs.inner.Left.{gone_in, is_gone, left_of}
 use Rattle.anti_ids.specs.inner.Held.{base_ids, held_ids}
 use Rattle.anti_ids.proofs.IdLemmas.{ascending_with, has_id-with_id, has_id-without_id, is_id-itself, not_after, not_among, same_id, same_ids}
 use Rattle.anti_ids.proofs.Places.{each_at}
@@ -48,6 +48,15 @@ length-left-le words k [] = omega arith
 length-left-le words k (i ∷ is) =
     let more : length (left_of words (k + 1) is) ≤ length is = length-left-le words (k + 1) is in
     cond_both (is_gone words k) (left_of words (k + 1) is) (i ∷ left_of words (k + 1) is) (λ x. length x ≤ suc (length is)) (λ _. omega arith) (λ _. omega arith)
+
+one_more : (b : Bool) (i : WriteId) (rest : List WriteId) (gone all : ℕ) → length rest + gone ≡ all → length (if b then rest else (i ∷ rest)) + ((if b then 1 else 0) + gone) ≡ suc all
+one_more true i rest gone all more = omega (arith, more)
+one_more false i rest gone all more = omega (arith, more)
+
+-- those that are left and those that are gone are all
+pub length-left : (words : List ℕ) (k : ℕ) (ids : List WriteId) → length (left_of words k ids) + gone_in words k (length ids) ≡ length ids
+length-left words k [] = omega arith
+length-left words k (i ∷ is) = one_more (is_gone words k) i (left_of words (k + 1) is) (gone_in words (k + 1) (length is)) (length is) (length-left words (k + 1) is)
 
 pub lineage_left : (words : List ℕ) (ids : List WriteId) → IsLineage ids → IsLineage (left_of words 0 ids)
 lineage_left words ids l =

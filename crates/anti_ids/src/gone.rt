@@ -1,5 +1,5 @@
-ghost use Rattle.std.specs.Prelude.{◌≡◌, ◌≢◌, ℕ, ◌<◌, true, false};
-ghost use Rattle.anti_ids.specs.inner.Left.{is_gone};
+ghost use Rattle.std.specs.Prelude.{◌≡◌, ◌≢◌, ℕ, ◌<◌, ◌≤◌, ◌%◌, ◌^◌, true, false, count_ones};
+ghost use Rattle.anti_ids.specs.inner.Left.{gone_in, is_gone};
 
 use crate::limits::MOST_IDS;
 
@@ -10,6 +10,18 @@ const WORDS: usize = MOST_IDS / 64;
 #[derive(Clone, Copy)]
 pub(crate) struct Gone {
     pub(crate) words: [u64; WORDS],
+}
+
+// How many of the lowest bits of a word are set, of so many.
+fn ones_among(word: u64, bits: usize) -> usize
+    requires { bits ≤ 64 }
+    ensures ones { result ≡ count_ones (word % 2 ^ bits) }
+    ensures few { result ≤ 64 }
+{
+    if bits == 64 {
+        return word.count_ones() as usize;
+    }
+    (word % (1 << bits)).count_ones() as usize
 }
 
 impl Gone {
@@ -28,6 +40,20 @@ impl Gone {
         (self.words[at / 64] >> (at % 64)) & 1 == 1
     }
 
+    // How many of the first ids are gone, of so many. It counts a word at once.
+    pub(crate) fn count(&self, len: usize) -> usize
+        requires { len ≤ MOST_IDS }
+        ensures { result ≡ gone_in self.now.words 0 len }
+    {
+        let mut count = 0;
+        let mut number = 0;
+        while number * 64 < len {
+            count += ones_among(self.words[number], (len - number * 64).min(64));
+            number += 1;
+        }
+        count
+    }
+
     // The same, and the id at an index too.
     pub(crate) fn with(self, at: usize) -> Gone
         requires { at < MOST_IDS }
@@ -38,6 +64,7 @@ impl Gone {
         words[at / 64] |= 1 << (at % 64);
         Gone { words }
     }
+
     // The same, and the id at an index is not gone.
     pub(crate) fn without(self, at: usize) -> Gone
         requires { at < MOST_IDS }

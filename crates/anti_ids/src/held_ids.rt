@@ -105,7 +105,7 @@ impl HeldIds {
         match self {
             HeldIds::Own(ids) => ids.len(),
             HeldIds::Whole(block) => block.len(),
-            HeldIds::Less(_, _) => self.ids().count(),
+            HeldIds::Less(block, gone) => block.len() - gone.count(block.len()),
         }
     }
 

@@ -1,5 +1,5 @@
 -- Which ids of a block are left for one of its owners.
-use Rattle.std.specs.Prelude.{ℕ, ◌+◌, ◌/◌, ◌%◌, List, [], ◌∷◌, ◌==◌, Bool, get_or, Option, None, Some, if◌then◌else◌}
+use Rattle.std.specs.Prelude.{ℕ, zero, suc, ◌+◌, ◌/◌, ◌%◌, List, [], ◌∷◌, ◌==◌, Bool, get_or, Option, None, Some, if◌then◌else◌}
 use Rattle.std.specs.Borrow.{Bor}
 use Rattle.std.specs.Int.{bit_at}
 use Rattle.anti_ids.specs.declared.gone.Gone.{Gone}
@@ -13,6 +13,11 @@ is_gone words at = bit_at (get_or words (at / 64) 0) (at % 64) == 1
 abbrev pub left_of : List ℕ → ℕ → List WriteId → List WriteId
 left_of words at [] = []
 left_of words at (i ∷ is) = if is_gone words at then left_of words (at + 1) is else (i ∷ left_of words (at + 1) is)
+
+-- how many are gone, of so many that stand from an index on
+abbrev pub gone_in : List ℕ → ℕ → ℕ → ℕ
+gone_in words at zero = 0
+gone_in words at (suc n) = (if is_gone words at then 1 else 0) + gone_in words (at + 1) n
 
 -- the same, where some may be gone; else all are left
 abbrev pub left_for : Option (Bor Gone) → ℕ → List WriteId → List WriteId

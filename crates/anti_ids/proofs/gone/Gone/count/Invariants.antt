@@ -1,0 +1,14 @@
+use Rattle.std.proofs.Common.{◌≡◌, ◌+◌, ◌-◌, ◌*◌, ◌≤◌}
+use Rattle.anti_ids.specs.inner.Left.{gone_in}
+use Rattle.anti_ids.proofs.gone.Gone.count.Given as goal
+
+-- those so far, and those that the words behind tell of
+abbrev pub invariant-loop-number : goal.invariant-loop-number
+invariant-loop-number l = record {
+  sum : l.count + gone_in l.self.words (l.number * 64) (l.len - l.number * 64) ≡ gone_in l.self.words 0 l.len;
+  few : l.count ≤ l.number * 64;
+  among : l.number ≤ 4;
+}
+
+abbrev pub decreases-loop-number : goal.decreases-loop-number
+decreases-loop-number l = 4 - l.number
