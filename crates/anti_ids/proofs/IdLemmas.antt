@@ -399,6 +399,26 @@ length-with_ids-new i is js asc new =
 pub with_ids-nil : (is : List WriteId) → IsAscending is → with_ids is [] ≡ is
 with_ids-nil is asc = with_ids-comm is [] asc tt
 
+-- ids in front of others are among all, and so are those behind them
+pub has_id-front : (k : WriteId) (front rest : List WriteId) → has_id k front ≡ true → has_id k (front ++ rest) ≡ true
+has_id-front k [] rest has = absurd (cc)
+has_id-front k (i ∷ is) rest has =
+    elim (or_cases (is_id k i) (has_id k is) has) [
+      | inl here ↦ or_left (is_id k i) (has_id k (is ++ rest)) here
+      | inr further ↦ or_right (is_id k i) (has_id k (is ++ rest)) (has_id-front k is rest further)
+    ]
+
+pub has_id-behind : (k : WriteId) (front rest : List WriteId) → has_id k rest ≡ true → has_id k (front ++ rest) ≡ true
+has_id-behind k [] rest has = has
+has_id-behind k (i ∷ is) rest has = or_right (is_id k i) (has_id k (is ++ rest)) (has_id-behind k is rest has)
+
+-- ids that are all there add nothing
+pub with_ids-past : (front rest js : List WriteId) → IsAscending js → ((i : WriteId) → has_id i front ≡ true → has_id i js ≡ true) → with_ids (front ++ rest) js ≡ with_ids rest js
+with_ids-past [] rest js asc there = refl
+with_ids-past (i ∷ is) rest js asc there =
+    ap (λ (x : List WriteId). with_ids (is ++ rest) x) (with_id-there i js asc (there i (or_left (is_id i i) (has_id i is) (is_id-itself i))))
+    ∙ with_ids-past is rest js asc (λ k has. there k (or_right (is_id k i) (has_id k is) has))
+
 -- Lineages made of others.
 pub lineage_with : (i : WriteId) (ids changed : List WriteId) → IsLineage ids → 1 ≤ i.version → changed ≡ with_id i ids → length changed ≤ MOST_IDS → IsLineage changed
 lineage_with i ids changed l v e short =

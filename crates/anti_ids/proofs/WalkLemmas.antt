@@ -3,7 +3,7 @@ use Rattle.std.proofs.Common.{◌≡◌, ℕ, zero, suc, ◌+◌, ◌-◌, ◌<�
 use Rattle.std.specs.Prelude.{Ok, Err, Some, slice_get, nat_lt, ◌==◌, IsTrue, ◌↔◌}
 use Rattle.std.proofs.Math.Seq.{drop-append-add}
 use Rattle.std.proofs.lemmas.Bool.{ltb-true, lt-ltb, eqb-true, eq-eqb}
-use Rattle.std.proofs.lemmas.List.{append-nil, append_assoc, drop_at, drop_more, get_or_at, length-append, take_at, take_min, take_rest}
+use Rattle.std.proofs.lemmas.List.{append-nil, append_assoc, drop_at, drop_more, get_or_at, length-append, take_at, take_min, take_more, take_rest}
 use Rattle.std.proofs.lemmas.Option.{get_or_from_slice_get}
 use Rattle.anti_ids.specs.Each.{Each}
 use Rattle.anti_ids.specs.declared.id.WriteId.{WriteId}
@@ -150,3 +150,13 @@ stands_between i y ids rest at asc passed tie =
     let within = passed_within (λ j. id_cmp j i ≡ Less) ids (y ∷ rest) at passed in
     let here : get_or ids at i ≡ y = ap (λ (x : List WriteId). get_or x at i) passed.is ∙ get_or_at front y rest i at passed.size in
     stands_at i ids at i asc (omega (arith, within)) (here ∙ same_from_tie y i tie)
+
+-- two lists with the same front and the same id behind it
+pub same_longer : (xs ys : List WriteId) (at : ℕ) (x y : WriteId) → at < length xs → at < length ys → get_or xs at x ≡ x → get_or ys at y ≡ y → x ≡ y
+    → take at xs ≡ take at ys → take (at + 1) xs ≡ take (at + 1) ys
+same_longer xs ys at x y within_xs within_ys is_x is_y same front =
+    let here : get_or xs at x ≡ get_or ys at y = is_x ∙ same ∙ sym is_y in
+    take_more xs at x within_xs
+    ∙ ap (λ (z : List WriteId). z ++ get_or xs at x ∷ []) front
+    ∙ ap (λ (z : WriteId). take at ys ++ z ∷ []) here
+    ∙ sym (take_more ys at y within_ys)

@@ -1,6 +1,7 @@
 ghost use Rattle.std.specs.Prelude.{◌≡◌, ◌+◌, ◌≤◌, length};
 ghost use Rattle.std.specs.Iterator.{YieldsFirstRef, item_count};
 ghost use Rattle.anti_ids.specs.inner.Left.{left_for};
+ghost use Rattle.anti_ids.specs.inner.Stores.{PassedSame};
 
 use crate::gone::Gone;
 use crate::id::WriteId;
@@ -38,6 +39,15 @@ impl<'a> Ids<'a> {
         ensures { result ≡ left_for gone.entry at walk.entry }
     {
         Ids { walk, at, gone }
+    }
+
+    // Goes past ids that both have at their fronts, as far as they stand side by side in memory, where none may be gone.
+    pub(crate) fn pass_same(&mut self, other: &mut Ids)
+        ensures { PassedSame self.old self.new other.old other.new }
+    {
+        if self.gone.is_none() && other.gone.is_none() {
+            self.walk.pass_same(&mut other.walk);
+        }
     }
 }
 

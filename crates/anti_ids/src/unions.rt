@@ -78,10 +78,12 @@ impl HeldIds {
         ensures { IsTrue result → with_ids ids.entry (held_ids self.now) ≡ held_ids self.now }
     {
         let mut held = self.ids();
-        for id in ids {
+        let mut rest = ids;
+        while let Some(id) = rest.next() {
             if !comes(&mut held, id) {
                 return false;
             }
+            held.pass_same(&mut rest);
         }
         true
     }

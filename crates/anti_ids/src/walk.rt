@@ -4,7 +4,7 @@ ghost use Rattle.anti_ids.specs.Each.{Each};
 ghost use Rattle.anti_ids.specs.Invariants.{IsAscending, IsLineage};
 ghost use Rattle.anti_ids.specs.inner.Parts.{joined};
 ghost use Rattle.anti_ids.specs.inner.Places.{IsPlace};
-ghost use Rattle.anti_ids.specs.inner.Stores.{Passed, StandFrom};
+ghost use Rattle.anti_ids.specs.inner.Stores.{Passed, PassedSame, StandFrom};
 
 use crate::id::WriteId;
 use crate::id_part::IdPart;
@@ -74,6 +74,22 @@ fn not_below(ids: &[WriteId], bound: u64) -> &[WriteId]
     rest
 }
 
+// How many ids two lists have in common at their fronts.
+fn same_front(one: &[WriteId], other: &[WriteId]) -> usize
+    ensures same { take result one.now ≡ take result other.now }
+    ensures within { (result ≤ length one.now) × (result ≤ length other.now) }
+{
+    let len = one.len().min(other.len());
+    let mut at = 0;
+    while at < len {
+        if one[at] != other[at] {
+            return at;
+        }
+        at += 1;
+    }
+    at
+}
+
 impl<'a> Walk<'a> {
     // Over ids that stand side by side.
     pub(crate) fn over(ids: &'a [WriteId]) -> Walk<'a>
@@ -136,6 +152,15 @@ impl<'a> Walk<'a> {
         count += self.part.len() - rest.len();
         self.part = rest;
         count
+    }
+
+    // Goes past ids that both have at their fronts, as far as the parts go that they stand in.
+    pub(crate) fn pass_same(&mut self, other: &mut Walk)
+        ensures { PassedSame self.old self.new other.old other.new }
+    {
+        let count = same_front(self.part, other.part);
+        self.part = self.part.split_at(count).1;
+        other.part = other.part.split_at(count).1;
     }
 
     // From which index on how many of the ids are of a store.

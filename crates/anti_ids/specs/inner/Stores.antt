@@ -10,6 +10,12 @@ pub record Passed (P : WriteId → Type 0) (ids rest : List WriteId) (count : �
   pub size : length front ≡ count
   pub low : Each P front
 
+-- the same ids at the front of two lists, and the rest of each behind them
+pub record PassedSame (ids rest others others_rest : List WriteId) : Type 0 where
+  pub front : List WriteId
+  pub is : ids ≡ front ++ rest
+  pub others_are : others ≡ front ++ others_rest
+
 -- from an index on so many ids of a store, and none of it before and behind them
 pub record StandFrom (store : ℕ) (ids : List WriteId) (from len : ℕ) : Type 0 where
   pub front : List WriteId
