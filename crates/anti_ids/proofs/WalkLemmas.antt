@@ -12,7 +12,7 @@ use Rattle.std.specs.declared.cmp.Ordering.TheVariants.{Less, Equal, Greater}
 use Rattle.anti_ids.specs.Invariants.{IsAscending, IsLineage}
 use Rattle.anti_ids.specs.inner.Parts.{joined}
 use Rattle.anti_ids.specs.inner.Places.{IsPlace}
-use Rattle.anti_ids.specs.inner.Stores.{Passed, StandFrom}
+use Rattle.anti_ids.specs.inner.Stores.{Passed, PassedSame, StandFrom}
 use Rattle.anti_ids.proofs.IdLemmas.{each_weaker, same_from_tie}
 use Rattle.anti_ids.proofs.Places.{each_at, goes_to, stands_at}
 use Rattle.anti_ids.proofs.PartLemmas.{joined_behind, each_append, ascending_back}
@@ -160,3 +160,13 @@ same_longer xs ys at x y within_xs within_ys is_x is_y same front =
     ∙ ap (λ (z : List WriteId). z ++ get_or xs at x ∷ []) front
     ∙ ap (λ (z : WriteId). take at ys ++ z ∷ []) here
     ∙ sym (take_more ys at y within_ys)
+
+-- so many ids more at the front of both
+pub passed_on : (ids rest more others others_rest others_more : List WriteId) → PassedSame ids rest others others_rest → PassedSame rest more others_rest others_more
+    → PassedSame ids more others others_more
+passed_on ids rest more others others_rest others_more so_far further =
+    record {
+      front = so_far.front ++ further.front;
+      is = so_far.is ∙ ap (λ (x : List WriteId). so_far.front ++ x) further.is ∙ sym (append_assoc so_far.front further.front more);
+      others_are = so_far.others_are ∙ ap (λ (x : List WriteId). so_far.front ++ x) further.others_are ∙ sym (append_assoc so_far.front further.front others_more);
+    }

@@ -154,13 +154,39 @@ impl<'a> Walk<'a> {
         count
     }
 
-    // Goes past ids that both have at their fronts, as far as the parts go that they stand in.
-    pub(crate) fn pass_same(&mut self, other: &mut Walk)
-        ensures { PassedSame self.old self.new other.old other.new }
+    // Takes up the next part that has ids, where none is left of this one.
+    fn take_up(&mut self)
+        ensures { self.new ≡ self.old }
+    {
+        while self.part.is_empty() {
+            let Some((part, behind)) = first_part(self.parts, self.left) else {
+                return;
+            };
+            self.part = part;
+            self.parts = behind;
+            self.left -= part.len();
+        }
+    }
+
+    // Goes past ids that both have at their fronts, as far as the parts go that they stand in, and tells how many they are.
+    fn pass_in_parts(&mut self, other: &mut Walk) -> usize
+        ensures same { PassedSame self.old self.new other.old other.new }
+        ensures count { length self.new + result ≡ length self.old }
     {
         let count = same_front(self.part, other.part);
         self.part = self.part.split_at(count).1;
         other.part = other.part.split_at(count).1;
+        count
+    }
+
+    // Goes past the ids that both have at their fronts, over the parts that they stand in.
+    pub(crate) fn pass_same(&mut self, other: &mut Walk)
+        ensures { PassedSame self.old self.new other.old other.new }
+    {
+        while self.pass_in_parts(other) > 0 {
+            self.take_up();
+            other.take_up();
+        }
     }
 
     // From which index on how many of the ids are of a store.

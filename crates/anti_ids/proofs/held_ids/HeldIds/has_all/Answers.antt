@@ -1,5 +1,4 @@
-use Rattle.std.proofs.Common.{◌≡◌, ◌∷◌, ◌<◌, ◌++◌, List, true, length, sym, ap, ◌∙◌, arith, rules}
-use Rattle.std.proofs.lemmas.List.{length-append}
+use Rattle.std.proofs.Common.{◌≡◌, ◌∷◌, ◌++◌, List, true, sym, ap, ◌∙◌, rules}
 use Rattle.anti_ids.specs.declared.id.WriteId.{WriteId}
 use Rattle.anti_ids.specs.Ids.{has_id, with_ids}
 use Rattle.anti_ids.specs.Invariants.{IsAscending}
