@@ -59,6 +59,9 @@ one_bit (suc zero) small = go (cases_eq (count_ones 1) 0)
     go (inr some) = omega (arith, ones_le_self 1, some)
 one_bit (suc (suc z)) small = absurd (omega arith)
 
+bit_of : (gone : Bool) (z : ℕ) → gone ≡ (z == 1) → z < 2 → (if gone then 1 else 0) ≡ count_ones z
+bit_of gone z is small = ap (λ (b : Bool). if b then 1 else 0) is ∙ sym (one_bit z small)
+
 -- within a word, as many are gone as bits are set
 pub gone_in-word : (words : List ℕ) (number bit n : ℕ) → bit + n ≤ 64 → gone_in words (number * 64 + bit) n ≡ count_ones (get_or words number 0 / 2 ^ bit % 2 ^ n)
 gone_in-word words number bit zero within =
@@ -71,7 +74,7 @@ gone_in-word words number bit (suc n) within =
     let column : at % 64 ≡ bit = omega (arith, within) in
     let here : is_gone words at ≡ (rest % 2 == 1) = ap (λ (q : ℕ). bit_at (get_or words q 0) (at % 64) == 1) row ∙ ap (λ (b : ℕ). bit_at word b == 1) column in
     let low : rest % 2 ^ 1 < 2 ^ 1 = omega arith in
-    let first : (if is_gone words at then 1 else 0) ≡ count_ones (rest % 2 ^ 1) = ap (λ (b : Bool). if b then 1 else 0) here ∙ sym (one_bit (rest % 2) low) in
+    let first : (if is_gone words at then 1 else 0) ≡ count_ones (rest % 2 ^ 1) = bit_of (is_gone words at) (rest % 2) here low in
     let place : at + 1 ≡ number * 64 + (bit + 1) = omega arith in
     let next : gone_in words (at + 1) n ≡ count_ones (word / 2 ^ (bit + 1) % 2 ^ n) =
     ap (λ (k : ℕ). gone_in words k n) place ∙ gone_in-word words number (bit + 1) n (omega (arith, within)) in
