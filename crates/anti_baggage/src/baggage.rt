@@ -13,8 +13,8 @@ use anti_ids::{Bytes, Copies, Lineage, Name, NoMemory};
 use std::alloc::Global;
 use std::marker::Model;
 
-/// The text that goes with a message. A text that was made here of the empty lineage or of a long one keeps this lineage beside it, so that it need
-/// not be read again; one from outside has none. Contracts see the text alone.
+/// The text that goes with a message. A text that was made here of the empty lineage or of a long one keeps this lineage beside it, so that it
+/// need not be read again; one from outside has none. Contracts see the text alone.
 pub struct Baggage {
     pub(crate) held: Held,
 }

@@ -13,8 +13,8 @@ use std::alloc::Global;
 use std::marker::Model;
 use std::sync::Arc;
 
-/// The lineage that a process carries. Its text stands beside it from when it was made or read until the lineage changes, so that it is not made for
-/// each message again. Contracts see the lineage alone.
+/// The lineage that a process carries. Its text stands beside it from when it was made or read until the lineage changes, so that it is not
+/// made for each message again. Contracts see the lineage alone.
 pub struct Carried {
     lineage: Lineage,
     told: Option<Arc<Stated>>,

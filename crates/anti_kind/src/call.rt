@@ -174,8 +174,8 @@ impl Reply {
     ghost use Rattle.std.specs.Prelude.{◌≡◌, ◌-◌, ◌^◌, min};
     ghost use Rattle.anti_kind.specs.Objects.{weight};
 
-    /// The units of an entry with this reply, one for each row that it shows and one where it shows none, or `u32::MAX` where they are more.
-    /// It takes no memory.
+    /// The units of an entry with this reply, one for each row that it shows and one where it shows none, or `u32::MAX` where they are
+    /// more. It takes no memory.
     pub fn weight(&self) -> u32
         ensures { result ≡ min (weight self.now) (2 ^ 32 - 1) }
     {

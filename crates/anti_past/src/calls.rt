@@ -29,8 +29,8 @@ pub fn hands_all(call: &Call) -> bool
     }
 }
 
-/// How many ids an answered call brings at most, where that is known without a look at them: a write that tells nothing of what it keeps its
-/// own, and a call that brings no row and no message none.
+/// How many ids an answered call brings at most, where that is known without a look at them: a write that tells nothing of what it keeps
+/// its own, and a call that brings no row and no message none.
 pub fn most_of(call: &Call, reply: &Reply) -> Option<u32>
     ensures { result ≡ most_of call.now reply.now }
 {

@@ -24,8 +24,8 @@ impl Queue {
         self.subscribers.make_room(channel, messages)
     }
 
-    // Writes a message to the channel, which is handed in with this lineage, by what the reply says. It is free for no subscription before it
-    // came to the subscription's region.
+    // Writes a message to the channel, which is handed in with this lineage, by what the reply says. It is free for no subscription before
+    // it came to the subscription's region.
     pub(crate) fn write(
         &mut self,
         channel: &Name,

@@ -99,8 +99,8 @@ process w.2 w two fine
 end 4
 ",
     ),
-    // the same untracked: appended it brings its id and what it keeps, and taken out its id alone; then a write over one that is carried, and in
-    // a span of its own one over two that are not, and what that brings
+    // the same untracked: appended it brings its id and what it keeps, and taken out its id alone; then a write over one that is carried, and
+    // in a span of its own one over two that are not, and what that brings
     (
         served!(
             "'take w 1', 'go w.1', 'take w 1', 'go w.2', 'go w.2', 'go w.2', 'go w.2', 'go w.2', 'go w.2'",
@@ -270,8 +270,8 @@ const TRIES: Texts = &[
     ("\"go w.8\",\n", 1),
 ];
 
-// What stands behind the choices: a store with eight replicas, which is full after 454 writes and two reads. Each of the eight processes has
-// a key of its own, and then a write still to make. The writes behind the reads are untracked, so that no order is printed.
+// What stands behind the choices: a store with eight replicas, which is full after 454 writes and two reads. Each of the eight processes
+// has a key of its own, and then a write still to make. The writes behind the reads are untracked, so that no order is printed.
 static PARTS: [(&str, u32); 9] = [
     (
         "]
