@@ -1,4 +1,5 @@
 pub mod NameLemmas
+mod NameOrder
 pub mod ValueLemmas
 pub mod IdLemmas
 pub mod Places

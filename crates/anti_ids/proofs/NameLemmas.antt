@@ -2,7 +2,7 @@
 use Rattle.std.proofs.Common.{◌≡◌, ℕ, zero, suc, ◌+◌, ◌-◌, ◌<◌, ◌≤◌, ◌++◌, List, [], ◌∷◌, Bool, true, false, not, cond, ◌&&◌, Option, None, Some, nat_eq, nat_lt, nat_le, length, take, drop, get_or, refl, sym, ap, ◌∙◌, subst, arith}
 use Rattle.std.specs.Prelude.{replicate, position}
 use Rattle.std.specs.List.{list_all, position_from}
-use Rattle.std.proofs.lemmas.List.{drop-replicate, drop-take, get_or-drop, length-replicate, length-append, take-append-drop, take-take}
+use Rattle.std.proofs.lemmas.List.{drop-replicate, get_or-drop, length-replicate, length-append}
 use Rattle.std.proofs.lemmas.Iterator.Adapters.{position_from-zero}
 use Rattle.std.proofs.Math.Seq.{take-append_seam}
 use Rattle.std.proofs.lemmas.Bool.Decides.{nat_tests}
@@ -53,17 +53,6 @@ both_and a b c p q r = rw (p, q, r) refl
 pub named : (bytes : List ℕ) → false ≡ nat_eq (length bytes) 0 → length bytes ≤ 32 → list_all is_name_byte bytes ≡ true → is_name bytes ≡ true
 named bytes some short all =
     both_and (nat_lt 0 (length bytes)) (nat_le (length bytes) 32) (list_all is_name_byte bytes) (grind (arith, nat_tests)) (grind (arith, nat_tests)) all
-
--- eight bytes more are the same
-take_more_eight : (xs : List ℕ) (at : ℕ) → take (at + 8) xs ≡ take at xs ++ take 8 (drop at xs)
-take_more_eight xs at =
-    sym (take-append-drop at (take (at + 8) xs))
-    ∙ ap (λ (x : List ℕ). x ++ drop at (take (at + 8) xs)) (take-take at (at + 8) xs (omega arith))
-    ∙ ap (λ (x : List ℕ). take at xs ++ x) (drop-take at 8 xs)
-
-pub take_eight : (xs ys : List ℕ) (at : ℕ) → take at xs ≡ take at ys → take 8 (drop at xs) ≡ take 8 (drop at ys) → take (at + 8) xs ≡ take (at + 8) ys
-take_eight xs ys at same eight =
-    take_more_eight xs at ∙ ap (λ (x : List ℕ). x ++ take 8 (drop at xs)) same ∙ ap (λ (x : List ℕ). take at ys ++ x) eight ∙ sym (take_more_eight ys at)
 
 fit_in_front : (n : ℕ) (xs : List ℕ) → ((i : ℕ) → get_or xs i 0 < 256) → (i : ℕ) → get_or (take n xs) i 0 < 256
 fit_in_front zero xs fit i = omega arith

@@ -1,10 +1,10 @@
-ghost use Rattle.std.specs.Prelude.{◌≡◌, ◌↔◌, ◌+◌, ◌<◌, ◌≤◌, not, length, position, take, drop, true, IsTrue};
+ghost use Rattle.std.specs.Prelude.{◌≡◌, ◌+◌, ◌<◌, ◌≤◌, not, length, position, take, drop, true};
 ghost use Rattle.std.proofs.Common.{rules};
 ghost use Rattle.std.specs.Cmp.{partial_order_from_own_ties};
 ghost use Rattle.std.specs.Cmp.Rules.{comparing};
 ghost use Rattle.std.specs.Ordering.{nat_cmp, as_partial_cmp};
 ghost use Rattle.std.specs.Cmp.Lexicographic.{slice_cmp};
-ghost use Rattle.std.specs.Int.{from_le_bytes, to_le_bytes, w64};
+ghost use Rattle.std.specs.Int.{from_be_bytes, w64};
 ghost use Rattle.std.specs.List.{list_all};
 ghost use Rattle.std.specs.Str.{bytes_eq};
 ghost use Rattle.anti_ids.specs.Names.{name_of, is_name, is_name_byte, is_plain, is_plain_byte};
@@ -92,21 +92,20 @@ fn padded(bytes: &[u8]) -> [u8; LONGEST_NAME]
     text
 }
 
-// Eight bytes of a text, as one number.
+// Eight bytes of a text, as one number with the big end first, so that numbers are ordered as their bytes.
 fn word(text: &[u8; LONGEST_NAME], at: usize) -> u64
     requires { at + 8 ≤ LONGEST_NAME }
-    ensures from { result ≡ from_le_bytes w64 (take 8 (drop at text.now)) }
-    ensures back { to_le_bytes w64 result ≡ take 8 (drop at text.now) }
+    ensures { result ≡ from_be_bytes w64 (take 8 (drop at text.now)) }
 {
     match text.split_at(at).1.first_chunk::<8>() {
-        Some(bytes) => u64::from_le_bytes(*bytes),
+        Some(bytes) => u64::from_be_bytes(*bytes),
         None => unreachable!(), // there are as many
     }
 }
 
 // Whether two texts are the same. Eight bytes are compared at once.
 fn are_same(one: &[u8; LONGEST_NAME], other: &[u8; LONGEST_NAME]) -> bool
-    ensures { IsTrue result ↔ (one.now ≡ other.now) }
+    ensures { result ≡ bytes_eq one.now other.now }
 {
     let mut at = 0;
     while at < LONGEST_NAME {
@@ -116,6 +115,22 @@ fn are_same(one: &[u8; LONGEST_NAME], other: &[u8; LONGEST_NAME]) -> bool
         at += 8;
     }
     true
+}
+
+// The order of two texts. Eight bytes are compared at once.
+fn order(one: &[u8; LONGEST_NAME], other: &[u8; LONGEST_NAME]) -> Ordering
+    ensures { result ≡ slice_cmp nat_cmp one.now other.now }
+{
+    let mut at = 0;
+    while at < LONGEST_NAME {
+        let this = word(one, at);
+        let that = word(other, at);
+        if this != that {
+            return this.cmp(&that);
+        }
+        at += 8;
+    }
+    Ordering::Equal
 }
 
 impl Name {
@@ -169,8 +184,9 @@ impl PartialEq for Name {
 
     ghost laws = { Prim.search (comparing, rules) };
 
+    // Zeros stand behind a name's bytes and none among them, so that names are the same where their texts are.
     fn eq(&self, other: &Name) -> bool {
-        self.len == other.len && are_same(&self.text, &other.text)
+        are_same(&self.text, &other.text)
     }
 }
 
@@ -187,12 +203,9 @@ impl Ord for Name {
 
     ghost matches_eq = { Prim.search (comparing, rules) };
 
-    // Whether they are the same is found by far fewer steps than their order.
+    // Zeros stand behind a name's bytes and none among them, so that names are ordered as their texts.
     fn cmp(&self, other: &Name) -> Ordering {
-        if self == other {
-            return Ordering::Equal;
-        }
-        self.bytes().cmp(other.bytes())
+        order(&self.text, &other.text)
     }
 }
 

@@ -1,12 +1,8 @@
-use Rattle.std.proofs.Common.{◌≡◌, ℕ, List, sym, ap, ◌∙◌, rules}
-use Rattle.std.specs.Cmp.Lexicographic.{slice_cmp}
-use Rattle.std.specs.Ordering.{nat_cmp}
-use Rattle.std.proofs.lemmas.Cmp.{nat_list_cmp_total, tied_itself}
+use Rattle.std.proofs.Common.{◌∙◌}
+use Rattle.anti_ids.proofs.NameOrder.{texts_order}
 use Rattle.anti_ids.proofs.name.NameOrd.cmp.Goals as goal
 
-pub returns-then-eq : goal.returns-then-eq
-returns-then-eq c =
-    let name = c.args.self.now in
-    let equal = sym c.eq.ensures ∙ c.if-eq.true in
-    let same : name ≡ c.args.other.now = search rules in
-    sym (ap (λ (x : List ℕ). slice_cmp nat_cmp name x) (sym same) ∙ tied_itself nat_list_cmp_total name)
+pub returns : goal.returns
+returns c =
+    c.order.ensures
+    ∙ texts_order c.self.inside.text c.other.inside.text c.self.inside.len c.other.inside.len c.args.self.now c.args.other.now c.self.invariant c.other.invariant c.self.view_is c.other.view_is
