@@ -74,7 +74,8 @@ fn not_below(ids: &[WriteId], bound: u64) -> &[WriteId]
     rest
 }
 
-// How many ids two lists have in common at their fronts.
+// How many ids two lists have in common at their fronts. Not inlined, since its loop then has all registers.
+#[inline(never)]
 fn same_front(one: &[WriteId], other: &[WriteId]) -> usize
     ensures same { take result one.now ≡ take result other.now }
     ensures within { (result ≤ length one.now) × (result ≤ length other.now) }
