@@ -106,9 +106,9 @@ impl<M: Machine> Recorded<M> {
         (self.machine, self.history)
     }
 
-    // The units that are owed and that what is asked needs, which is as many entries as the history wants room for. Or why it can't be
-    // done now.
-    fn weigh(&self, asking: &Asking) -> Result<u32, Refusal>
+    /// Whether what is asked can be done now, or why it can't. Where it can, the history wants room for so many entries: the units that are
+    /// owed and those that it needs. It takes no memory.
+    pub fn judge(&self, asking: &Asking) -> Result<u32, Refusal>
         ensures goes { OnOk result (Goes (M.start self.now.machine) self.now.history asking.now) }
         ensures room { IfOk result (λ room. room
             ≡ owed (M.start self.now.machine) self.now.history + need (M.start self.now.machine) self.now.history asking.now.call) }
@@ -129,18 +129,6 @@ impl<M: Machine> Recorded<M> {
             return Err(Refusal::Spent { clock });
         }
         Ok(owed + need)
-    }
-
-    /// Whether what is asked can be done now, or why it can't. It takes no memory.
-    pub fn judge(&self, asking: &Asking) -> Result<(), Refusal>
-        ensures goes { OnOk result (Goes (M.start self.now.machine) self.now.history asking.now) }
-        ensures refused { IfErr result (λ refusal. IsRefusal (M.start self.now.machine) self.now.history asking.now refusal) }
-        ensures legal { IsLegal (M.start self.now.machine) self.now.history }
-    {
-        match self.weigh(asking) {
-            Ok(_) => Ok(()),
-            Err(refusal) => Err(refusal),
-        }
     }
 
     /// The reply that a call is due, which is ready and fits. Of a `Ship` it takes no memory.
@@ -176,22 +164,9 @@ impl<M: Machine> Recorded<M> {
         }
     }
 
-    /// Makes the call of an entry that may come next. Without memory nothing was made. A `Ship` takes no memory.
-    pub fn make(&mut self, entry: Entry) -> Result<(), NoMemory>
-        requires { Follows (M.start self.old.machine) self.old.history entry }
-        ensures made { OnOk result (self.new.history ≡ self.old.history ++ entry ∷ []) }
-        ensures err { OnErr result (self.new.history ≡ self.old.history) }
-        ensures legal { IsLegal (M.start self.old.machine) self.new.history }
-        ensures start { M.start self.new.machine ≡ M.start self.old.machine }
-        ensures ship { IsShip entry.call → IsOk result }
-    {
-        let room = self.machine.owed() + self.machine.need(&entry.call);
-        self.add(room, entry)
-    }
-
-    // Makes the call of an entry that may come next, with so much room for entries as `weigh` says. Without memory nothing was made.
-    // A `Ship` takes no memory.
-    fn add(&mut self, room: u32, entry: Entry) -> Result<(), NoMemory>
+    /// Makes the call of an entry that may come next, with room for so many entries as `judge` tells. Without memory nothing was made. A
+    /// `Ship` takes no memory.
+    pub fn make(&mut self, room: u32, entry: Entry) -> Result<(), NoMemory>
         requires follows { Follows (M.start self.old.machine) self.old.history entry }
         requires room { room
             ≡ owed (M.start self.old.machine) self.old.history + need (M.start self.old.machine) self.old.history entry.call }
@@ -208,7 +183,7 @@ impl<M: Machine> Recorded<M> {
         Ok(())
     }
 
-    // Makes what is asked and goes, with so much room for entries as `weigh` says, or finds no memory.
+    // Makes what is asked and goes, with so much room for entries as `judge` tells, or finds no memory.
     fn go(&mut self, seat: u32, asking: Asking, room: u32) -> Answer
         requires goes { Goes (M.start self.old.machine) self.old.history asking }
         requires room { room
@@ -230,7 +205,7 @@ impl<M: Machine> Recorded<M> {
         let entry = self.entry(seat, asking, due);
         let place = entry.place;
         let stamp = entry.stamp;
-        let Ok(()) = self.add(room, entry) else {
+        let Ok(()) = self.make(room, entry) else {
             return Answer::NoMemory;
         };
         Answer::Made {
@@ -253,7 +228,7 @@ impl<M: Machine> Recorded<M> {
         ensures after { IsLegal (M.start self.old.machine) self.new.history }
         ensures ship { IsShip asking.call → IfOk result (λ answer. answer ≡ Answer.NoMemory → ⊥) }
     {
-        match self.weigh(&asking) {
+        match self.judge(&asking) {
             Ok(room) => Ok(self.go(seat, asking, room)),
             Err(Refusal::NotYet) => Err(asking),
             Err(Refusal::Full { held, owed, need }) => Ok(Answer::Full { held, owed, need }),

@@ -2,12 +2,13 @@
 use Rattle.std.proofs.Common.{◌≡◌, ℕ, ◌+◌, ◌-◌, ◌*◌, ◌<◌, ◌≤◌, ◌^◌, max, List, true, false, length, get_or, sym, ap, ◌∙◌, subst, arith}
 use Rattle.std.specs.Prelude.{None, Some, option_and_then, Result, Err, IsTrue}
 use Rattle.std.proofs.Math.Nat.{le_trans, mul-le-mul_right}
+use Rattle.std.proofs.lemmas.List.{get_or_default}
 use Rattle.anti_ids.specs.declared.limits.TheConstants.{MOST_UNITS}
 use Rattle.anti_kind.specs.declared.asking.Asking.{Asking}
 use Rattle.anti_kind.specs.declared.recorded.Refusal.{Refusal}
 use Rattle.anti_kind.specs.declared.recorded.Refusal.TheVariants.{NotYet, Full, Spent}
 use Rattle.anti_kind.specs.declared.entry.Entry.{Entry}
-use Rattle.anti_kind.specs.Objects.{Start, ready, last_stamp}
+use Rattle.anti_kind.specs.Objects.{Start, ready, last_stamp, need, owed}
 use Rattle.anti_kind.specs.Records.{Record, IsRefusal}
 use Rattle.anti_app.specs.declared.app.App.{App}
 use Rattle.anti_app.specs.Sound.{is_sound}
@@ -20,7 +21,8 @@ use Rattle.anti_trace.specs.Traces.{entries_on}
 use Rattle.anti_app.specs.Objects.{object_count}
 use Rattle.anti_play.specs.Schedule.{clock_of, made, made_at}
 use Rattle.anti_trace.specs.Legal.{IsLegalTrace}
-use Rattle.anti_play.specs.inner.Standing.{AllStand, IsObject, IsOutcome, asked_in}
+use Rattle.anti_play.specs.declared.world.DueEntry.{DueEntry}
+use Rattle.anti_play.specs.inner.Standing.{AllStand, IsObject, IsOutcome, WantsRoom, asked_in, outcome_entry}
 use Rattle.anti_play.proofs.MadeAt.{unready, none_fits}
 use Rattle.anti_trace.proofs.FullStays.{unfit}
 use Rattle.anti_trace.proofs.OfLegal.{history_stamps, legal_short}
@@ -36,8 +38,18 @@ few_entries app trace sound run =
     le_trans whole (mul-le-mul_right (MOST_UNITS + 1) (few_objects app sound))
 
 -- what came of it, in other words
-pub outcome_is : (app : App) (trace : List Entry) (q : Asking) (found then : Result Entry Refusal) → found ≡ then → IsOutcome app trace q found → IsOutcome app trace q then
-outcome_is app trace q found then is outcome = subst (IsOutcome app trace q) is outcome
+pub outcome_is : (app : App) (trace : List Entry) (q : Asking) (found then : Result DueEntry Refusal) → found ≡ then
+    → IsOutcome app trace q (outcome_entry found) → IsOutcome app trace q (outcome_entry then)
+outcome_is app trace q found then is outcome = subst (λ (x : Result DueEntry Refusal). IsOutcome app trace q (outcome_entry x)) is outcome
+
+-- the room that is told of the object which is found there
+pub wants_room : (objects : List (Record Object)) (o : ℕ) (recorded : Record Object) → recorded ≡ get_or objects o recorded → o < length objects
+    → (due : DueEntry) → due.entry.object ≡ o
+    → due.room ≡ owed (object_start recorded.machine) recorded.history + need (object_start recorded.machine) recorded.history due.entry.call → WantsRoom objects due
+wants_room objects o recorded at inside due here room = λ r is.
+    let there : r ≡ get_or objects o r = subst (λ (n : ℕ). r ≡ get_or objects n r) here is in
+    let same : recorded ≡ r = at ∙ get_or_default objects o recorded r inside ∙ sym there in
+    subst (λ (x : Record Object). due.room ≡ owed (object_start x.machine) x.history + need (object_start x.machine) x.history due.entry.call) same room
 
 -- what is refused makes no entry
 pub refused_none : (app : App) (trace : List Entry) (q : Asking) (refusal : Refusal) → IsOutcome app trace q (Err refusal) → made_at app trace q ≡ None

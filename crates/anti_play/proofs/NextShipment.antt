@@ -9,7 +9,7 @@ use Rattle.anti_kind.specs.declared.call.Call.TheVariants.{Ship}
 use Rattle.anti_kind.specs.declared.call.Reply.TheVariants.{Moved}
 use Rattle.anti_kind.specs.declared.entry.Entry.{Entry}
 use Rattle.anti_kind.specs.Entries.{entry_of}
-use Rattle.anti_kind.specs.Objects.{Start, inbox, last_stamp, store}
+use Rattle.anti_kind.specs.Objects.{Start, inbox, last_stamp, need, owed, store}
 use Rattle.anti_kind.specs.Records.{Record}
 use Rattle.anti_kind.specs.Shipments.{next_ship}
 use Rattle.anti_kind.proofs.NextShipments.{next_is_ready}
@@ -35,6 +35,12 @@ pub found_next : (objects : List (Record Object)) (o region version part : ℕ) 
 found_next objects o region version part n r at inside =
     let same : n.recorded ≡ r = n.at ∙ get_or_default objects o n.recorded r inside ∙ sym at in
     subst (λ (x : Record Object). next_ship (object_start x.machine) x.history region ≡ Some (version, part)) same n.next
+
+-- it needs no units, so its history wants room for what it owes
+pub room_owed : (start : Start) (h : List Entry) (region version part room : ℕ) → next_ship start h region ≡ Some (version, part) → room ≡ owed start h
+    → room ≡ owed start h + need start h (Ship region version part)
+room_owed (store st) h region version part room next is = omega (arith, is)
+room_owed (inbox requests) h region version part room next is = absurd (none-some _ next)
 
 module _ (app : App) (sound : IsTrue (is_sound app)) (w : World) (trace : List Entry) (s : WorldStands app w trace) (o region version part : ℕ)
     (next : IsNextShipment w.objects.items o region version part) (r : Record Object) (at : r ≡ get_or w.objects.items o r)

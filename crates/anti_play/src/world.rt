@@ -7,7 +7,7 @@ ghost use Rattle.anti_play.specs.Schedule.{bearing, carrying, chosen, clock_of, 
 ghost use Rattle.anti_trace.specs.Histories.{Entries};
 ghost use Rattle.anti_trace.specs.inner.Living.{Grows, born_at, is_named, lists};
 ghost use Rattle.anti_play.specs.inner.Choosing.{IsNextEntry, IsNextOf, IsNextShipment, MakesNext, StopsUnfit};
-ghost use Rattle.anti_play.specs.inner.Standing.{AllStand, Chose, IsOutcome, IsSoundWorld, IsWorldOf, MayGrow, StopsBy, WorldStands, asked_in};
+ghost use Rattle.anti_play.specs.inner.Standing.{AllStand, Chose, IsOutcome, IsSoundWorld, IsWorldOf, MayGrow, StopsBy, WantsRoom, WorldStands, asked_in, outcome_entry};
 
 use crate::choice_call::ChoiceCall;
 use anti_app::{App, Choice};
@@ -28,18 +28,26 @@ pub struct World {
     pub(crate) alloc: Global,
 }
 
+// An entry that may come next at its object, and for how many entries the history there wants room.
+#[derive(Drop)]
+struct DueEntry {
+    entry: Entry,
+    room: u32,
+}
+
 // Makes the call of an entry at its object.
-fn make_entry(objects: &mut Vec<Recorded<Object>>, entry: Entry) -> Result<(), NoMemory>
-    requires { MayGrow objects.old.items entry }
+fn make_entry(objects: &mut Vec<Recorded<Object>>, due: DueEntry) -> Result<(), NoMemory>
+    requires grow { MayGrow objects.old.items due.entry }
+    requires room { WantsRoom objects.old.items due }
     ensures stand { (app : App) (before after : Entries)
-        → AllStand app objects.old.items before → Grows app before after entry
+        → AllStand app objects.old.items before → Grows app before after due.entry
         → OnOk result (AllStand app objects.new.items after) }
     ensures err { (app : App) (before : Entries)
         → AllStand app objects.old.items before
         → OnErr result (AllStand app objects.new.items before) }
 {
-    let at = entry.object as usize;
-    objects[at].make(entry)
+    let at = due.entry.object as usize;
+    objects[at].make(due.room, due.entry)
 }
 
 // Gives up what there is no memory for.
@@ -52,19 +60,22 @@ fn give_up<T: Drop>(_value: T) -> Result<bool, NoMemory>
 impl World {
     // The entry that what is asked makes, or why it makes none. An object that is not there is not ready. Stamps are never spent, since
     // none is above the number of the entries.
-    fn next_entry(&self, asking: Asking) -> Result<Result<Entry, Refusal>, NoMemory>
-        ensures { (app : App) (trace : Entries) → IsTrue (is_sound app)
+    fn next_entry(&self, asking: Asking) -> Result<Result<DueEntry, Refusal>, NoMemory>
+        ensures outcome { (app : App) (trace : Entries) → IsTrue (is_sound app)
             → WorldStands app self.now trace → asking.clock ≡ clock_of asking.actor trace
-            → IfOk result (IsOutcome app trace (asked_in trace asking)) }
+            → IfOk result (λ asked. IsOutcome app trace (asked_in trace asking) (outcome_entry asked)) }
+        ensures room { IfOk result (λ asked. IfOk asked (WantsRoom self.now.objects.items)) }
     {
         let Some(recorded) = self.objects.get(asking.object as usize) else {
             return Ok(Err(Refusal::NotYet));
         };
-        if let Err(refusal) = recorded.judge(&asking) {
-            return Ok(Err(refusal));
-        }
+        let room = match recorded.judge(&asking) {
+            Ok(room) => room,
+            Err(refusal) => return Ok(Err(refusal)),
+        };
         let reply = recorded.due(&asking.call)?;
-        Ok(Ok(recorded.entry(0, asking, reply)))
+        let entry = recorded.entry(0, asking, reply);
+        Ok(Ok(DueEntry { entry, room }))
     }
 
     // Makes a call by which a process is born at an object.
@@ -83,13 +94,13 @@ impl World {
             clock: 0,
             call,
         };
-        let Ok(entry) = self.next_entry(asking)? else {
+        let Ok(due) = self.next_entry(asking)? else {
             return Ok(false);
         };
-        let object = entry.object;
+        let object = due.entry.object;
         self.processes.reserve(object)?;
-        let process = born(self.alloc, app, &entry)?;
-        match make_entry(&mut self.objects, entry) {
+        let process = born(self.alloc, app, &due.entry)?;
+        match make_entry(&mut self.objects, due) {
             Ok(()) => {
                 self.processes.put(object, process);
                 Ok(true)
@@ -113,11 +124,11 @@ impl World {
             clock: self.carrier,
             call,
         };
-        let Ok(entry) = self.next_entry(asking)? else {
+        let Ok(due) = self.next_entry(asking)? else {
             return Ok(false);
         };
-        let stamp = entry.stamp;
-        make_entry(&mut self.objects, entry)?;
+        let stamp = due.entry.stamp;
+        make_entry(&mut self.objects, due)?;
         self.carrier = stamp;
         Ok(true)
     }
@@ -150,9 +161,11 @@ impl World {
                 part,
             },
         };
-        let entry = self.objects[store as usize].entry(0, asking, Reply::Moved);
+        let recorded = &self.objects[store as usize];
+        let room = recorded.machine().owed(); // it needs no units of its own
+        let entry = recorded.entry(0, asking, Reply::Moved);
         let stamp = entry.stamp;
-        make_entry(&mut self.objects, entry)?;
+        make_entry(&mut self.objects, DueEntry { entry, room })?;
         self.carrier = stamp;
         Ok(())
     }
@@ -201,7 +214,7 @@ impl World {
     {
         let object = asking.object;
         match self.next_entry(asking)? {
-            Ok(entry) => self.go_past(app, birth, at, entry),
+            Ok(due) => self.go_past(app, birth, at, due),
             Err(Refusal::NotYet) => Ok(false),
             Err(Refusal::Full { .. }) => {
                 self.processes.end(birth.object, at, object);
@@ -218,24 +231,25 @@ impl World {
         app: &App,
         birth: Birth,
         at: usize,
-        entry: Entry,
+        due: DueEntry,
     ) -> Result<bool, NoMemory>
         requires sound { IsTrue (is_sound app.now) }
         requires world { IsWorldOf app.now self.old }
         requires object { birth.object < length (lists self.old.processes) }
         requires found { position (is_named birth) (born_at (lists self.old.processes) birth.object)
             ≡ Some at }
-        requires entry { IsNextEntry app.now self.old birth at entry }
+        requires entry { IsNextEntry app.now self.old birth at due.entry }
+        requires room { WantsRoom self.old.objects.items due }
         ensures chose { MakesNext app.now self.old birth result self.new }
         ensures ended { StopsUnfit app.now self.old birth result self.new }
     {
         let process = self.processes.get(birth.object, at);
-        let advance = advance(app, process, &entry)?;
-        let carried = self.trail.prepare(self.alloc, entry.object, process)?;
+        let advance = advance(app, process, &due.entry)?;
+        let carried = self.trail.prepare(self.alloc, due.entry.object, process)?;
         self.processes.make_room(birth.object, at)?;
-        let object = entry.object;
-        let stamp = entry.stamp;
-        make_entry(&mut self.objects, entry)?;
+        let object = due.entry.object;
+        let stamp = due.entry.stamp;
+        make_entry(&mut self.objects, due)?;
         self.processes.take_over(birth.object, at, stamp, advance);
         self.trail.put(object, carried);
         Ok(true)

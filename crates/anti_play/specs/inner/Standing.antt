@@ -1,5 +1,5 @@
 -- How the objects and the processes of a world stand for a trace.
-use Rattle.std.specs.Prelude.{◌≡◌, ℕ, ◌<◌, Bool, true, false, List, length, slice_index_or, Option, None, Some, IsTrue, position, Result, Ok, Err, MatchResult}
+use Rattle.std.specs.Prelude.{◌≡◌, ℕ, ◌+◌, ◌<◌, Bool, true, false, List, length, slice_index_or, Option, None, Some, IsTrue, position, Result, Ok, Err, MatchResult}
 use Rattle.anti_kind.specs.declared.asking.Asking.{Asking}
 use Rattle.anti_kind.specs.declared.actor.Actor.{Actor}
 use Rattle.anti_kind.specs.declared.actor.Actor.TheVariants.{Carrier, Process as Acting, Newborn}
@@ -8,7 +8,7 @@ use Rattle.anti_kind.specs.declared.call.Call.{Call}
 use Rattle.anti_kind.specs.declared.entry.Entry.{Entry}
 use Rattle.anti_kind.specs.declared.recorded.Refusal.{Refusal}
 use Rattle.anti_kind.specs.declared.recorded.Refusal.TheVariants.{NotYet, Full, Spent}
-use Rattle.anti_kind.specs.Objects.{Start, last_stamp}
+use Rattle.anti_kind.specs.Objects.{Start, last_stamp, need, owed}
 use Rattle.anti_kind.specs.Ports.{IsFull}
 use Rattle.anti_kind.specs.Records.{Record}
 use Rattle.anti_app.specs.declared.app.App.{App}
@@ -28,6 +28,7 @@ use Rattle.anti_trace.specs.declared.processes.AtObject.{AtObject}
 use Rattle.anti_trace.specs.inner.Living.{AreProcessesOf, Grows, born_at, is_named, lists}
 use Rattle.anti_trace.specs.inner.Trails.{IsTrailIfKept}
 use Rattle.anti_play.specs.declared.world.World.{World}
+use Rattle.anti_play.specs.declared.world.DueEntry.{DueEntry}
 use Rattle.anti_play.specs.Schedule.{asking_at, made_at, next_call}
 use Rattle.anti_app.specs.Objects.{object_count}
 use Rattle.anti_trace.specs.Legal.{IsLegalTrace, bears, carries}
@@ -63,6 +64,16 @@ IsOutcome app trace q (Ok e) = made_at app trace q ≡ Some e
 IsOutcome app trace q (Err NotYet) = (made_at app trace q ≡ None) × (IsFullAt app trace q → ⊥)
 IsOutcome app trace q (Err (Full a b n)) = (made_at app trace q ≡ None) × IsFullAt app trace q
 IsOutcome app trace q (Err (Spent clock)) = ⊥
+
+-- the entry that is due
+abbrev pub outcome_entry : Result DueEntry Refusal → Result Entry Refusal
+outcome_entry (Ok due) = Ok due.entry
+outcome_entry (Err refusal) = Err refusal
+
+-- the room that the history of its object wants, where the call of the entry is made
+abbrev pub WantsRoom : List (Record Object) → DueEntry → Type 0
+WantsRoom objects due = (r : Record Object) → r ≡ slice_index_or objects due.entry.object r
+    → due.room ≡ owed (object_start r.machine) r.history + need (object_start r.machine) r.history due.entry.call
 
 -- ---- worlds
 

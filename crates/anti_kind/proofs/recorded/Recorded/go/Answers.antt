@@ -16,9 +16,9 @@ follows g c =
     made_follows (g.M.Machine.start c.args.self.now.machine) c.args.self.now.history c.args.asking c.args.seat
     (length c.args.self.now.history + 1) (max c.args.asking.clock (last_stamp c.args.self.now.history) + 1) c.in-Ok-copy.due c.requires.goes refl refl (c.in-Ok-copy.ensures.is ∙ c.in-Ok.ensures.due)
 
-pub add-requires-clause-follows : goal.add-requires-clause-follows
-add-requires-clause-follows g c =
-    let d = (goal.at.add-requires-clause-follows g c).After-entry-entry in
+pub make-requires-clause-follows : goal.make-requires-clause-follows
+make-requires-clause-follows g c =
+    let d = (goal.at.make-requires-clause-follows g c).After-entry-entry in
     subst (Follows (g.M.Machine.start c.args.self.now.machine) c.args.self.now.history) (sym c.entry-entry.ensures) (follows g d)
 
 pub returns-clause-gives : goal.returns-clause-gives
@@ -29,5 +29,5 @@ returns-clause-gives g c =
     let place = ap (λ (e : Entry). e.place) is in
     let stamp = ap (λ (e : Entry). e.stamp) is in
     let reply = sym c.in-Ok-copy.ensures.is in
-    let made = c.in-Ok-add.ensures.made ∙ ap (λ (e : Entry). h ++ e ∷ []) is in
+    let made = c.in-Ok-make.ensures.made ∙ ap (λ (e : Entry). h ++ e ∷ []) is in
     rw (place, stamp, reply) (follows g d, refl, made)

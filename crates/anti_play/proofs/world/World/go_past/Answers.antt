@@ -49,7 +49,7 @@ advance-requires-clause-known c =
     let s = c.requires.world.stands in
     let q = c.requires.entry.asking in
     reply_of c.args.app.now c.requires.sound c.args.self.now trace s (asking_at trace q.object (Acting c.args.birth) q.span q.call) (asks it trace s) refl
-    c.args.entry (c.requires.entry.made trace s)
+    c.args.due.entry (c.requires.entry.made trace s)
 
 pub prepare-requires : goal.prepare-requires
 prepare-requires c =
@@ -58,16 +58,16 @@ prepare-requires c =
     let s = c.requires.world.stands in
     let q = c.requires.entry.asking in
     has_trail c.args.app.now c.requires.sound c.args.self.now trace s (asking_at trace q.object (Acting c.args.birth) q.span q.call) (asks it trace s) refl
-    c.args.entry (c.requires.entry.made trace s)
+    c.args.due.entry (c.requires.entry.made trace s)
 
-pub make_entry-requires : goal.make_entry-requires
-make_entry-requires c =
-    let it = (goal.at.make_entry-requires c).After-get-process in
+pub make_entry-requires-clause-grow : goal.make_entry-requires-clause-grow
+make_entry-requires-clause-grow c =
+    let it = (goal.at.make_entry-requires-clause-grow c).After-get-process in
     let trace = c.requires.world.trace in
     let s = c.requires.world.stands in
     let q = c.requires.entry.asking in
     may_grow c.args.app.now c.requires.sound c.args.self.now trace s (asking_at trace q.object (Acting c.args.birth) q.span q.call) (asks it trace s) refl
-    c.args.entry (c.requires.entry.made trace s)
+    c.args.due.entry (c.requires.entry.made trace s)
 
 pub put-requires-clause-object : goal.put-requires-clause-object
 put-requires-clause-object c =
@@ -75,29 +75,29 @@ put-requires-clause-object c =
     let trace = c.requires.world.trace in
     let s = c.requires.world.stands in
     let q = c.requires.entry.asking in
-    let there : c.args.entry.object < length c.args.self.now.trail.at.items =
+    let there : c.args.due.entry.object < length c.args.self.now.trail.at.items =
     has_trail c.args.app.now c.requires.sound c.args.self.now trace s (asking_at trace q.object (Acting c.args.birth) q.span q.call) (asks it trace s) refl
-    c.args.entry (c.requires.entry.made trace s) in
+    c.args.due.entry (c.requires.entry.made trace s) in
     omega (arith, there, c.prepare.ensures.same.count)
 
 pub returns-in_err-carried-clause-chose : goal.returns-in_err-carried-clause-chose
 returns-in_err-carried-clause-chose c = λ trace s.
     chose_kept c.args.app.now c.args.self.now _ trace _ _ c.from_residual-in_err-carried.ensures.0 s s.objects s.processes
-    (trail_kept_if c.args.app.now trace c.args.self.now.trail _ c.args.entry.object s.trail c.prepare.ensures.same) refl
+    (trail_kept_if c.args.app.now trace c.args.self.now.trail _ c.args.due.entry.object s.trail c.prepare.ensures.same) refl
 
 pub returns-in_err-make_room-clause-chose : goal.returns-in_err-make_room-clause-chose
 returns-in_err-make_room-clause-chose c = λ trace s.
     let it = (goal.at.returns-in_err-make_room-clause-chose c).After-get-process in
     go_lost c.args.app.now c.args.self.now trace c.args.birth c.args.at c.requires.entry.next.process s (going it)
     _ _ c.from_residual-in_err-make_room.ensures.0 s.objects c.make_room.ensures.becomes
-    (trail_kept_if c.args.app.now trace c.args.self.now.trail _ c.args.entry.object s.trail c.prepare.ensures.same) refl
+    (trail_kept_if c.args.app.now trace c.args.self.now.trail _ c.args.due.entry.object s.trail c.prepare.ensures.same) refl
 
 pub returns-in_err-make_entry-clause-chose : goal.returns-in_err-make_entry-clause-chose
 returns-in_err-make_entry-clause-chose c = λ trace s.
     let it = (goal.at.returns-in_err-make_entry-clause-chose c).After-get-process in
     go_lost c.args.app.now c.args.self.now trace c.args.birth c.args.at c.requires.entry.next.process s (going it)
     _ _ c.from_residual-in_err-make_entry.ensures.0 (c.in_err-make_entry.ensures.err c.args.app.now trace s.objects) c.make_room.ensures.becomes
-    (trail_kept_if c.args.app.now trace c.args.self.now.trail _ c.args.entry.object s.trail c.prepare.ensures.same) refl
+    (trail_kept_if c.args.app.now trace c.args.self.now.trail _ c.args.due.entry.object s.trail c.prepare.ensures.same) refl
 
 pub returns-clause-chose : goal.returns-clause-chose
 returns-clause-chose c = λ trace s.
@@ -107,7 +107,7 @@ returns-clause-chose c = λ trace s.
     let p = c.requires.entry.next.process in
     let q = c.requires.entry.asking in
     let a = c.in_ok-advance.advance in
-    let e = c.args.entry in
+    let e = c.args.due.entry in
     let same = again it in
     let left = becomes_then w.trail c.prepare.new.self c.put.new.self e.object c.in_ok-carried.carried c.prepare.ensures.same c.put.ensures in
     go_done app w trace c.args.birth c.args.at p s (going it)
@@ -128,7 +128,7 @@ returns-clause-ended c = λ trace s.
     let q = c.requires.entry.asking in
     let next = c.requires.entry.next in
     stops_made c.args.app.now c.args.self.now trace c.args.birth c.args.at next.process s (going it)
-    q.object q.span q.call next.going (next.asks c.args.app.now) _ c.args.entry (c.requires.entry.made trace s)
+    q.object q.span q.call next.going (next.asks c.args.app.now) _ c.args.due.entry (c.requires.entry.made trace s)
 
 pub returns-in_err-advance-clause-chose : goal.returns-in_err-advance-clause-chose
 returns-in_err-advance-clause-chose c = λ trace s.

@@ -2,9 +2,9 @@ use Rattle.std.proofs.Common.{◌+◌, ◌≤◌, sym, ◌∙◌, arith}
 use Rattle.anti_ids.specs.declared.limits.TheConstants.{MOST_UNITS}
 use Rattle.anti_kind.proofs.Bounds.{within_units}
 use Rattle.anti_kind.proofs.Making.{goes, is_spent}
-use Rattle.anti_kind.proofs.recorded.Recorded.weigh.Goals as goal
-use Rattle.anti_kind.proofs.recorded.Recorded.weigh.Goals.{After-owed-owed}
-use Rattle.anti_kind.proofs.recorded.Recorded.weigh.Given as given
+use Rattle.anti_kind.proofs.recorded.Recorded.judge.Goals as goal
+use Rattle.anti_kind.proofs.recorded.Recorded.judge.Goals.{After-owed-owed}
+use Rattle.anti_kind.proofs.recorded.Recorded.judge.Given as given
 
 counted : (g : given.Over) (c : After-owed-owed g) → c.held-held.result + c.owed-owed.result ≤ MOST_UNITS
 counted g c =

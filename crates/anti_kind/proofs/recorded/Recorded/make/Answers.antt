@@ -6,9 +6,9 @@ use Rattle.anti_kind.specs.Objects.{Start, Follows, IsLegal, owed, need}
 use Rattle.anti_kind.specs.Records.{IsRecorded}
 use Rattle.anti_kind.proofs.Histories.{legal_more}
 use Rattle.anti_kind.proofs.Making.{recorded_more, owed_after}
-use Rattle.anti_kind.proofs.recorded.Recorded.add.Goals as goal
-use Rattle.anti_kind.proofs.recorded.Recorded.add.Goals.{After-reserve, After-put}
-use Rattle.anti_kind.proofs.recorded.Recorded.add.Given as given
+use Rattle.anti_kind.proofs.recorded.Recorded.make.Goals as goal
+use Rattle.anti_kind.proofs.recorded.Recorded.make.Goals.{After-reserve, After-put}
+use Rattle.anti_kind.proofs.recorded.Recorded.make.Given as given
 
 follows : (g : given.Over) (c : After-reserve g) → Follows (g.M.Machine.start c.self.inside.machine) c.self.inside.history.items c.args.entry
 follows g c = rw (← c.self.view_is) at c.requires.follows
