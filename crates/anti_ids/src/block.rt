@@ -20,10 +20,10 @@ use std::sync::Arc;
 pub(crate) struct Block {
     parts: Arc<Vec<IdPart>>,
     // How many ids stand in the parts.
-    all: usize,
+    all: u16,
     // From which of them on how many are the block's.
-    from: usize,
-    len: usize,
+    from: u16,
+    len: u16,
 }
 
 impl Model for Block {
@@ -36,7 +36,7 @@ impl Model for Block {
 
     ghost view = { λ b. take b.len (drop b.from (joined (arc_value b.parts).items)) };
 
-    ghost invariant = { λ b. (length (joined (arc_value b.parts).items) ≡ b.all) × (b.from + b.len ≤ b.all) × (b.all < 2 ^ 64) };
+    ghost invariant = { λ b. (length (joined (arc_value b.parts).items) ≡ b.all) × (b.from + b.len ≤ b.all) × (b.all < 2 ^ 16) };
 }
 
 // Parts of so many ids with an id at an index, in a list of their own.
@@ -80,12 +80,15 @@ impl Block {
     pub(crate) fn of(alloc: Global, ids: &[WriteId]) -> Result<Block, NoMemory>
         ensures { IfOk result (λ b. b ≡ ids.now) }
     {
+        let Ok(len) = u16::try_from(ids.len()) else {
+            return Err(NoMemory); // a lineage has far fewer
+        };
         match Arc::new(alloc, id_parts::parts_of(alloc, ids)?) {
             Ok(parts) => Ok(Block {
                 parts,
-                all: ids.len(),
+                all: len,
                 from: 0,
-                len: ids.len(),
+                len,
             }),
             Err(_) => Err(NoMemory),
         }
@@ -100,8 +103,8 @@ impl Block {
             Ok(parts) => Ok(Block {
                 parts,
                 all: self.all,
-                from: self.from + from,
-                len,
+                from: self.from + from as u16,
+                len: len as u16,
             }),
             Err(_) => Err(NoMemory),
         }
@@ -111,7 +114,7 @@ impl Block {
     pub(crate) fn share(&self) -> Result<Block, NoMemory>
         ensures { IfOk result (λ b. b ≡ self.now) }
     {
-        self.range(0, self.len)
+        self.range(0, self.len as usize)
     }
 
     // What its memory is of.
@@ -122,7 +125,7 @@ impl Block {
     pub(crate) fn len(&self) -> usize
         ensures { result ≡ length self.now }
     {
-        self.len
+        self.len as usize
     }
 
     // The id at an index.
@@ -130,15 +133,22 @@ impl Block {
         requires { index < length self.now }
         ensures { slice_get self.now index ≡ Some result }
     {
-        id_parts::at(self.parts.as_slice(), self.all, self.from + index)
+        id_parts::at(
+            self.parts.as_slice(),
+            self.all as usize,
+            self.from as usize + index,
+        )
     }
 
     // The ids one after another.
     pub(crate) fn walk(&self) -> Walk
         ensures { result ≡ self.now }
     {
-        let mut walk = Walk::through(self.parts.as_slice(), self.from + self.len);
-        walk.leave_out(self.from);
+        let mut walk = Walk::through(
+            self.parts.as_slice(),
+            self.from as usize + self.len as usize,
+        );
+        walk.leave_out(self.from as usize);
         walk
     }
 
@@ -150,7 +160,7 @@ impl Block {
         if self.len < self.all {
             return self.walk().place_of(id);
         }
-        id_parts::place_of(self.parts.as_slice(), self.len, id)
+        id_parts::place_of(self.parts.as_slice(), self.len as usize, id)
     }
 
     // A block of its own with an id at an index.
@@ -182,7 +192,7 @@ impl Block {
             *self = self.apart_with(at, id)?;
             return Ok(());
         }
-        put(&mut self.parts, self.len, at, id)?;
+        put(&mut self.parts, self.len as usize, at, id)?;
         self.len = len;
         self.all = len;
         Ok(())

@@ -1,4 +1,5 @@
-use Rattle.std.proofs.Common.{◌≡◌, ◌+◌, ◌-◌, ◌*◌, ◌≤◌}
+use Rattle.std.proofs.Common.{◌≡◌, ◌+◌, ◌-◌, ◌*◌, ◌/◌, ◌≤◌}
+use Rattle.anti_ids.specs.declared.limits.TheConstants.{MOST_IDS}
 use Rattle.anti_ids.specs.inner.Left.{gone_in}
 use Rattle.anti_ids.proofs.gone.Gone.count.Given as goal
 
@@ -7,8 +8,8 @@ abbrev pub invariant-loop-number : goal.invariant-loop-number
 invariant-loop-number l = record {
   sum : l.count + gone_in l.self.words (l.number * 64) (l.len - l.number * 64) ≡ gone_in l.self.words 0 l.len;
   few : l.count ≤ l.number * 64;
-  among : l.number ≤ 4;
+  among : l.number ≤ MOST_IDS / 64;
 }
 
 abbrev pub decreases-loop-number : goal.decreases-loop-number
-decreases-loop-number l = 4 - l.number
+decreases-loop-number l = MOST_IDS / 64 - l.number
