@@ -25,7 +25,7 @@ from typing import Any, Callable, NamedTuple
 from urllib.parse import quote
 
 # The units of an object, the ids of a lineage, the depth of a message and the bytes of a part, at most; and what a document may leave out.
-UNITS, IDS, DEEPEST, PART = 4096, 256, 8, 64
+UNITS, IDS, DEEPEST, PART = 4096, 512, 8, 64
 TRIES, WORKERS = 3, 2
 
 PLAIN = re.compile(rb"[A-Za-z0-9_-]{1,24}")

@@ -77,7 +77,7 @@ module _ (stores : List (List ℕ)) (names : are_names stores ≡ true) where
       let few : nat_lt MOST_IDS at ≡ false = le-ltb MOST_IDS at within in
       rw (read, here, above, few) refl
 
-  ids_again : (ids : List WriteId) (before : Option WriteId) (at : ℕ) → Each (IsIdOver stores) ids → Each (λ i. 1 ≤ i.version) ids → Each (λ i. is_above before i ≡ true) ids → IsAscending ids → at + length ids ≤ 257
+  ids_again : (ids : List WriteId) (before : Option WriteId) (at : ℕ) → Each (IsIdOver stores) ids → Each (λ i. 1 ≤ i.version) ids → Each (λ i. is_above before i ≡ true) ids → IsAscending ids → at + length ids ≤ MOST_IDS + 1
       → ids_in stores before at (map (id_text stores) ids) ≡ Ok ids
   ids_again [] before at over written above asc few = refl
   ids_again (i ∷ is) before at over written above asc few =
@@ -215,7 +215,7 @@ module _ (stores : List (List ℕ)) where
     written : Each (λ i. 1 ≤ i.version) ids
     above : Each (λ i. is_above before i ≡ true) ids
     ascending : IsAscending ids
-    few : at + length ids ≤ 257
+    few : at + length ids ≤ MOST_IDS + 1
 
   record IsRead (text : List ℕ) (id : WriteId) : Type 0 where
     spelled : text ≡ id_text stores id
@@ -233,7 +233,7 @@ module _ (stores : List (List ℕ)) where
         written = omega (arith, named.written, f.version);
       }
 
-  ids_back : (texts : List (List ℕ)) (before : Option WriteId) (at : ℕ) (ids : List WriteId) → at ≤ 257 → ids_in stores before at texts ≡ Ok ids → AreRead before at texts ids
+  ids_back : (texts : List (List ℕ)) (before : Option WriteId) (at : ℕ) (ids : List WriteId) → at ≤ MOST_IDS + 1 → ids_in stores before at texts ≡ Ok ids → AreRead before at texts ids
   ids_back [] before at ids few e =
       let none : [] ≡ ids = cc in
       subst (AreRead before at []) none (record { spelled = refl; over = tt; written = tt; above = tt; ascending = tt; few = omega (arith, few) })

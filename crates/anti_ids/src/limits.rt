@@ -12,7 +12,7 @@ pub const LONGEST_PLAIN_NAME: usize = 24;
 pub const LONGEST_VALUE: usize = 256;
 
 /// The most ids of a lineage.
-pub const MOST_IDS: usize = 256;
+pub const MOST_IDS: usize = 512;
 
 /// The greatest version of a write.
 pub const GREATEST_VERSION: u64 = u64::MAX;

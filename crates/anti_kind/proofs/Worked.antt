@@ -4,6 +4,7 @@ use Rattle.std.specs.Fmt.{digits}
 use Rattle.std.specs.List.{range_with_len}
 use Rattle.anti_ids.specs.List.{plain}
 use Rattle.anti_ids.specs.declared.id.WriteId.{WriteId}
+use Rattle.anti_ids.specs.declared.limits.TheConstants.{MOST_IDS}
 use Rattle.anti_kind.specs.declared.actor.Actor.TheVariants.{Carrier}
 use Rattle.anti_kind.specs.declared.call.Call.{Call}
 use Rattle.anti_kind.specs.declared.call.Call.TheVariants.{Write, Read, Scan, Poll, Look, Ship, Again, Pull, Repull, Ack, Nack, Post, Take, Repost, TakeReply}
@@ -170,7 +171,7 @@ kv_other_key = refl
 
 -- as many ids as a lineage may have: where another comes from the write that is replaced, none fits
 abbrev many : List WriteId
-many = map (id j) (range_with_len 1 256)
+many = map (id j) (range_with_len 1 MOST_IDS)
 
 kv_many : need kv [] (Write k a many) ≡ 2
 kv_many = refl

@@ -1,5 +1,5 @@
 -- Worked runs: a store `s` and a service `w` in the region `eu`, and a process there with the body of each run. Its calls come one by one.
-use Rattle.std.proofs.Common.{◌≡◌, ℕ, zero, suc, Bool, true, false, List, [], ◌∷◌, refl, ap}
+use Rattle.std.proofs.Common.{◌≡◌, ℕ, zero, suc, ◌+◌, ◌-◌, Bool, true, false, List, [], ◌∷◌, refl, ap}
 use Rattle.std.specs.Prelude.{Option, None, Some, Ok, codes, is_none, is_some, length, nat_lt, option_and_then, option_map}
 use Rattle.std.specs.Fmt.{digits}
 use Rattle.anti_ids.specs.Ids.{with_ids}
@@ -172,17 +172,20 @@ abbrev written : ℕ → List Reply
 written zero = []
 written (suc n) = replies.Written key (suc n) None ∷ written n
 
--- sixteen times sixteen writes: the 257th id ends the process, and an id that is there already is none more
+-- sixteen times sixteen writes, twice, are as many as a lineage may have: one id more ends the process, and one that is there already is none more
 abbrev often : ℕ → List Step → Step
 often count block = statements.Repeat count (block_from block)
 
-many : does (often 16 (often 16 (write ∷ []) ∷ []) ∷ read ∷ []) [] (written 256) ≡ reads
+abbrev writes_often : Step
+writes_often = often 16 (often 16 (write ∷ []) ∷ [])
+
+many : does (writes_often ∷ writes_often ∷ read ∷ []) [] (written MOST_IDS) ≡ reads
 many = refl
 
-full : does (often 16 (often 16 (write ∷ []) ∷ []) ∷ write ∷ []) [] (written 257) ≡ Over LineageFull
+full : does (writes_often ∷ writes_often ∷ write ∷ []) [] (written (MOST_IDS + 1)) ≡ Over LineageFull
 full = refl
 
-there_already : does (often 16 (often 16 (write ∷ []) ∷ []) ∷ write ∷ []) [] (replies.Written key 1 None ∷ written 256) ≡ Over Fine
+there_already : does (writes_often ∷ writes_often ∷ write ∷ []) [] (replies.Written key 1 None ∷ written MOST_IDS) ≡ Over Fine
 there_already = refl
 
 -- a reply of another form brings nothing, and version 0, which no write has, neither
@@ -592,23 +595,23 @@ no_sub_at_all = refl
 no_store : task_of subscribed (pulled_with 0 0 (row_of 5 (its_id 3 1 ∷ []))) ≡ None
 no_store = refl
 
--- Version 300 of the key, with so many ids beside it. With 256 its own id is one too many: the process ends at once, and makes no call. With
+-- Version 600 of the key, with so many ids beside it. With as many as a lineage may have its own id is one too many: the process ends at once, and makes no call. With
 -- one fewer there is room.
 abbrev ids_to : ℕ → List WriteId
 ids_to zero = []
 ids_to (suc n) = its_id 0 (suc n) ∷ ids_to n
 
 abbrev pulled_beside : ℕ → Entry
-pulled_beside n = pulled_with 0 0 (row_of 300 (ids_to n))
+pulled_beside n = pulled_with 0 0 (row_of 600 (ids_to n))
 
 abbrev carried_by : Task → Option (List WriteId)
 carried_by task = task.carried
 
-too_many : option_map carried_by (task_of subscribed (pulled_beside 256)) ≡ Some None
+too_many : option_map carried_by (task_of subscribed (pulled_beside MOST_IDS)) ≡ Some None
 too_many = refl
 
-ends_at_once : tree_of subscribed (pulled_beside 256) ≡ Ends body_ends.LineageFull
+ends_at_once : tree_of subscribed (pulled_beside MOST_IDS) ≡ Ends body_ends.LineageFull
 ends_at_once = refl
 
-just_fits : option_map (λ (task : Task). is_some task.carried) (task_of subscribed (pulled_beside 255)) ≡ Some true
+just_fits : option_map (λ (task : Task). is_some task.carried) (task_of subscribed (pulled_beside (MOST_IDS - 1))) ≡ Some true
 just_fits = refl

@@ -292,17 +292,17 @@ process w.1 w put fine
 end 19
 ";
 
-// A message that carries 256 ids: its own is one too many for the process that it starts, and it stays out.
+// A message that carries 512 ids: its own is one too many for the process that it starts, and it stays out.
 const LADEN: &str = "regions = ['us']
 choices = ['finish']
 store = [{name = 's', kind = 'kv', replicas = ['us']}, {name = 'q', kind = 'queue', replicas = ['us']}]
 sub = [{name = 'jobs', store = 'q', channel = 'n', service = 'w', handler = 'work'}]
 request = [{service = 'w', handler = 'put'}]
-service = [{name = 'w', region = 'us', handler = [{name = 'put', body = ['repeat 16', 'repeat 16', 'write s k v', 'end', 'end', 'write q n v']}, {name = 'work', body = ['nack']}]}]";
+service = [{name = 'w', region = 'us', handler = [{name = 'put', body = ['repeat 16', 'repeat 16', 'write s k v', 'end', 'end', 'repeat 16', 'repeat 16', 'write s k v', 'end', 'end', 'write q n v']}, {name = 'work', body = ['nack']}]}]";
 
 const STAYS_OUT: &str = "process q.3 w work lineage
 process w.1 w put lineage
-end 516
+end 1028
 ";
 
 // Documents with long records, and the end of each.

@@ -173,16 +173,25 @@ const MANY_WRITES: &str = served!(
     "'nack'"
 );
 
-const ONE_ID_TOO_MANY: &str = "process w.1 w one lineage\nprocess w.2 w two fine\nend 516\n";
+const ROOM_FOR_ALL: &str = "process w.1 w one fine\nprocess w.2 w two fine\nend 516\n";
 
-// The same where the other process, which carries nothing, writes to that key: its write would keep the ids of all 257.
+// Two such blocks, and a write more.
+const MOST_WRITES: &str = served!(
+    "'finish'",
+    "'repeat 16', 'repeat 16', 'write s k v', 'end', 'end', 'repeat 16', 'repeat 16', 'write s k v', 'end', 'end', 'write s k v'",
+    "'nack'"
+);
+
+const ONE_ID_TOO_MANY: &str = "process w.1 w one lineage\nprocess w.2 w two fine\nend 1028\n";
+
+// The same where the other process, which carries nothing, writes to that key: its write would keep the ids of all 513.
 const WRITE_OVER_MANY: &str = served!(
     "'finish'",
-    "'repeat 16', 'repeat 16', 'write s k v', 'end', 'end', 'write s k v'",
+    "'repeat 16', 'repeat 16', 'write s k v', 'end', 'end', 'repeat 16', 'repeat 16', 'write s k v', 'end', 'end', 'write s k v'",
     "'write s k v'"
 );
 
-const NO_WRITE_OVER_MANY: &str = "process w.1 w one lineage\nprocess w.2 w two store s\nend 516\n";
+const NO_WRITE_OVER_MANY: &str = "process w.1 w one lineage\nprocess w.2 w two store s\nend 1028\n";
 
 // Nine requests, each of whose processes writes 256 times.
 const NINE_PROCESSES: &str = served!(
@@ -403,8 +412,9 @@ fn statements_and_choices_are_played(rt: HostRuntime) {
 }
 
 // Documents with long records, and the end of each.
-static ENDS: [(&str, &str); 3] = [
-    (MANY_WRITES, ONE_ID_TOO_MANY),
+static ENDS: [(&str, &str); 4] = [
+    (MANY_WRITES, ROOM_FOR_ALL),
+    (MOST_WRITES, ONE_ID_TOO_MANY),
     (WRITE_OVER_MANY, NO_WRITE_OVER_MANY),
     (NINE_PROCESSES, NINTH_FINDS_NO_ROOM),
 ];

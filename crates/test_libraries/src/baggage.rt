@@ -91,18 +91,18 @@ fn texts_are_read_exactly(rt: HostRuntime) {
 // What stands behind a full text, and what the whole comes to.
 static ENDS: [(&[u8], Result<(), BaggageFault>); 5] = [
     (b"", Ok(())),
-    (b",posts/a@257", Err(BaggageFault::TooMany(257))),
-    (b",posts/a@256", Err(BaggageFault::NotAscending(257))),
-    (b",blogs/a@257", Err(BaggageFault::UnknownStore(257))),
-    (b",posts/a@257x", Err(BaggageFault::BadId(257))),
+    (b",posts/a@513", Err(BaggageFault::TooMany(513))),
+    (b",posts/a@512", Err(BaggageFault::NotAscending(513))),
+    (b",blogs/a@513", Err(BaggageFault::UnknownStore(513))),
+    (b",posts/a@513x", Err(BaggageFault::BadId(513))),
 ];
 
-// The text of 256 ids, and what stands behind them.
+// The text of 512 ids, and what stands behind them.
 fn full(alloc: Global, behind: &[u8]) -> Option<Bytes> {
     let Some(stores) = stores() else {
         return None;
     };
-    let Ok(lineage) = versions(alloc, 0, b"a", 256) else {
+    let Ok(lineage) = versions(alloc, 0, b"a", 512) else {
         return None;
     };
     let Ok(mut text) = encode(alloc, &stores, &lineage) else {
@@ -182,7 +182,7 @@ fn is_kept(alloc: Global, count: u64) -> bool {
 }
 
 // How many versions there are.
-static COUNTS: [u64; 3] = [7, 8, 256];
+static COUNTS: [u64; 3] = [7, 8, 512];
 
 #[test]
 fn a_text_serves_again(rt: HostRuntime) {

@@ -2,8 +2,8 @@ ghost use Rattle.std.specs.Prelude.{◌≤◌};
 
 use crate::made::{assert_of, assert_so, id, lineage, versions};
 use anti_ids::{
-    Bytes, Copies, Lineage, LineageRefused, List, Name, NameFault, RoomyFull, Value, ValueFault,
-    WriteId,
+    Bytes, Copies, Lineage, LineageRefused, List, MOST_IDS, Name, NameFault, RoomyFull, Value,
+    ValueFault, WriteId,
 };
 use std::alloc::Global;
 
@@ -153,18 +153,21 @@ fn refuses(alloc: Global, full: &Lineage, id: &WriteId, one: &Lineage) -> bool
         && are_same(&united, full)
 }
 
+// The version of an id that is one more than a lineage may have.
+const ONE_MORE: u64 = MOST_IDS as u64 + 1;
+
 // Whether a full lineage refuses one more id, and can have room for it all the same.
 fn is_full(alloc: Global) -> bool {
-    let Ok(id) = id(0, b"k", 257) else {
+    let Ok(id) = id(0, b"k", ONE_MORE) else {
         return false;
     };
-    let Ok(one) = lineage(alloc, &[0], &[(b"k", 257)]) else {
+    let Ok(one) = lineage(alloc, &[0], &[(b"k", ONE_MORE)]) else {
         return false;
     };
-    let Ok(full) = versions(alloc, 0, b"k", 256) else {
+    let Ok(full) = versions(alloc, 0, b"k", MOST_IDS as u64) else {
         return false;
     };
-    refuses(alloc, &full, &id, &one) && full.reserve(256).is_ok()
+    refuses(alloc, &full, &id, &one) && full.reserve(MOST_IDS as u32).is_ok()
 }
 
 #[test]

@@ -64,17 +64,17 @@ fn a_write_keeps_what_it_replaces(rt: HostRuntime) {
     assert_steps(&rt, alloc, Kv::new(alloc, 0, &[0]), &OVERWRITTEN);
 }
 
-// Writes over one another, the last of which keeps 256 ids. One over it would keep an id more; one to another key keeps none.
+// Writes over one another, the last of which keeps 512 ids. One over it would keep an id more; one to another key keeps none.
 static FULL: [Step; 5] = [
-    Step::Writes(b"k", 256),
-    Step::Call(Asked::Write(b"k", b"v", &[]), Told::Needs(2), 256, 256),
+    Step::Writes(b"k", 512),
+    Step::Call(Asked::Write(b"k", b"v", &[]), Told::Needs(2), 512, 512),
     Step::Writes(b"k", 1),
-    Step::Call(Asked::Write(b"k", b"v", &[]), Told::Needs(4097), 257, 257),
+    Step::Call(Asked::Write(b"k", b"v", &[]), Told::Needs(4097), 513, 513),
     Step::Call(
         Asked::Write(b"j", b"v", &[]),
-        Told::Kept(b"j", 258, &[]),
-        258,
-        258,
+        Told::Kept(b"j", 514, &[]),
+        514,
+        514,
     ),
 ];
 

@@ -8,6 +8,7 @@ use crate::ports::{
     OfPort, READ, SHIP, Told, WRITE, answers, caller, is_answered, is_held, writes,
 };
 use crate::steps::{Asked, call_of};
+use anti_ids::MOST_IDS;
 use anti_kind::{Actor, Answer, Call, Entry, Machine, Port, Reply, WaitPort};
 use anti_kv::Kv;
 use anti_shared::{Pass, Shared, SharedPort};
@@ -287,7 +288,7 @@ fn full_write_goes<P: Port>(alloc: Global, port: &mut P, told: &Told) -> bool
     requires { IsHere (P.start port.old) 0 (0 ∷ []) }
     ensures { (o : ℕ) → P.start port.new o ≡ P.start port.old o }
 {
-    match versions(alloc, 1, b"k", 256) {
+    match versions(alloc, 1, b"k", MOST_IDS as u64) {
         Ok(mut full) => {
             let mut who = caller(0);
             writes::<KvStore, P>(alloc, port, &mut who, &mut full, b"k", b"v", told)

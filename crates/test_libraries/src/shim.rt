@@ -425,9 +425,9 @@ fn a_barrier_waits_for_the_shipment(rt: HostRuntime) {
 
 // A write with a full lineage, and one with the empty lineage to another key.
 static CARRIED: [Step; 10] = [
-    Step(Asked::Carry(256), Told::Done, 1),
+    Step(Asked::Carry(512), Told::Done, 1),
     Step(Asked::Write(b"k", b"a"), Told::LineageFull(b"k", 1), 1),
-    Step(Asked::Lineage, Told::Count(256), 1),
+    Step(Asked::Lineage, Told::Count(512), 1),
     Step(Asked::Carry(0), Told::Done, 1),
     Step(Asked::Write(b"j", b"b"), Told::Wrote(b"j", 2), 1),
     Step(Asked::Wait, Told::NotYet, 1),
@@ -442,7 +442,7 @@ fn a_write_carries_and_stores_the_lineage(rt: HostRuntime) {
     assert_right(&rt, wrong_step_of_kv(rt.alloc(), &CARRIED));
 }
 
-// A write over another, with the empty lineage, which brings what is kept beside it, and one that keeps 256 ids, behind which none comes.
+// A write over another, with the empty lineage, which brings what is kept beside it, and one that keeps 512 ids, behind which none comes.
 static OVERWRITTEN: [Step; 14] = [
     Step(Asked::Put(b"j"), Told::Done, 2),
     Step(Asked::Write(b"j", b"c"), Told::Wrote(b"j", 3), 1),
@@ -450,9 +450,9 @@ static OVERWRITTEN: [Step; 14] = [
     Step(Asked::Ship(1, 1), Told::Done, 3),
     Step(Asked::Wait, Told::Done, 1),
     Step(Asked::Read(By::Kv, b"j"), Told::Row((3, b"c", 2)), 1),
-    Step(Asked::Carry(255), Told::Done, 1),
+    Step(Asked::Carry(511), Told::Done, 1),
     Step(Asked::Write(b"k", b"a"), Told::Wrote(b"k", 4), 1),
-    Step(Asked::Lineage, Told::Count(256), 1),
+    Step(Asked::Lineage, Told::Count(512), 1),
     Step(Asked::Carry(0), Told::Done, 1),
     Step(Asked::Write(b"k", b"b"), Told::LineageFull(b"k", 5), 1),
     Step(Asked::Lineage, Told::Count(0), 1),
@@ -468,9 +468,9 @@ fn a_write_brings_what_it_replaces(rt: HostRuntime) {
 // Writes over one another, each with the empty lineage, until the next one would keep too many ids.
 static TOO_MANY: [Step; 4] = [
     Step(Asked::Over, Told::Count(0), 1),
-    Step(Asked::Over, Told::Done, 255),
-    Step(Asked::Over, Told::Count(256), 1),
-    Step(Asked::Over, Told::Full((257, 257, 4097)), 1),
+    Step(Asked::Over, Told::Done, 511),
+    Step(Asked::Over, Told::Count(512), 1),
+    Step(Asked::Over, Told::Full((513, 513, 4097)), 1),
 ];
 
 #[test]

@@ -5,7 +5,7 @@ use Rattle.std.specs.Int.{bit_at}
 use Rattle.anti_ids.specs.declared.gone.Gone.{Gone}
 use Rattle.anti_ids.specs.declared.id.WriteId.{WriteId}
 
--- whether the id at an index is gone, by a bit of four words of 64
+-- whether the id at an index is gone, by a bit of words of 64
 abbrev pub is_gone : List ℕ → ℕ → Bool
 is_gone words at = bit_at (get_or words (at / 64) 0) (at % 64) == 1
 
