@@ -10,11 +10,21 @@ use std::alloc::Global;
 
 /// The offers that may make an entry (awake), those that wait for something at an object (asleep), and those that were tried in vain for
 /// a cause that is not known (idle). Contracts see three lists.
-#[derive(Drop)]
 pub struct Agenda {
     pub(crate) awake: Awake,
     pub(crate) asleep: Sleepers,
     pub(crate) idle: Vec<Offer>,
+}
+
+// By hand, so that no caller sees the fields.
+impl Drop for Agenda {
+    fn drop(self) {
+        let Agenda {
+            awake,
+            asleep,
+            idle,
+        } = self;
+    }
 }
 
 impl Agenda {

@@ -140,7 +140,6 @@ pub type Choices = List<Choice>;
 pub type Waits = List<u32>;
 
 /// An application: what a document states.
-#[derive(Drop)]
 pub struct App {
     /// 1 to 8 distinct plain names.
     pub regions: Names,
@@ -158,6 +157,22 @@ pub struct App {
     pub seed: u64,
     /// How many workers a run has, 1 to `MOST_WORKERS`.
     pub workers: u32,
+}
+
+// By hand, so that no caller sees the fields.
+impl Drop for App {
+    fn drop(self) {
+        let App {
+            regions,
+            stores,
+            services,
+            subs,
+            requests,
+            choices,
+            seed,
+            workers,
+        } = self;
+    }
 }
 
 /// Why bytes state no application.

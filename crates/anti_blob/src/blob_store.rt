@@ -8,9 +8,15 @@ use std::alloc::Global;
 
 /// A store of the kind blob: keys with values. A value has a part for each 64 bytes, and a replica shows the greatest version of a key of which
 /// all parts came to it.
-#[derive(Drop)]
 pub struct Blob {
     base: Replicas,
+}
+
+// By hand, so that no caller sees the fields.
+impl Drop for Blob {
+    fn drop(self) {
+        let Blob { base } = self;
+    }
 }
 
 impl Blob {

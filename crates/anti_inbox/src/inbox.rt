@@ -24,7 +24,6 @@ pub(crate) struct Fate {
 
 /// The messages of a service, of which the first are its requests, what became of each, and the free deliveries in their order. The
 /// message numbered n stands at the index n - 1.
-#[derive(Drop)]
 pub struct Inbox {
     pub(crate) requests: usize,
     pub(crate) messages: Messages,
@@ -33,6 +32,21 @@ pub struct Inbox {
     pub(crate) held: u32,
     pub(crate) owed: u32,
     pub(crate) alloc: Global,
+}
+
+// By hand, so that no caller sees the fields.
+impl Drop for Inbox {
+    fn drop(self) {
+        let Inbox {
+            requests,
+            messages,
+            fates,
+            free,
+            held,
+            owed,
+            alloc,
+        } = self;
+    }
 }
 
 impl Inbox {

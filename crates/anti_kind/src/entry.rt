@@ -5,7 +5,6 @@ use std::alloc::Global;
 
 /// One call that was made on an object: its stamp, the object, its place in the object's history, counted from 1, the number of
 /// the pass that made it, 0 where there is none, who made it, the span of its process, 0 for a carrier, the call and the reply.
-#[derive(Drop)]
 pub struct Entry {
     pub stamp: u64,
     pub object: u32,
@@ -15,6 +14,22 @@ pub struct Entry {
     pub span: u32,
     pub call: Call,
     pub reply: Reply,
+}
+
+// By hand, so that no caller sees the fields.
+impl Drop for Entry {
+    fn drop(self) {
+        let Entry {
+            stamp,
+            object,
+            place,
+            seat,
+            actor,
+            span,
+            call,
+            reply,
+        } = self;
+    }
 }
 
 /// The calls that were made on an object, in their order.

@@ -18,7 +18,6 @@ use std::alloc::Global;
 use std::marker::Model;
 
 /// A port over one object, for one thread: the object's state, and the history of the calls that were made on it.
-#[derive(Drop)]
 pub struct Lone<M: Machine> {
     object: u32,
     recorded: Recorded<M>,
@@ -33,6 +32,17 @@ impl<M: Machine> Model for Lone<M> {
     ghost view = { λ l. record { object = l.object; machine = l.recorded.machine; history = l.recorded.history; visits = l.visits } };
 
     ghost invariant = { λ l. IsLone (M.start l.recorded.machine) l.object l.recorded.history };
+}
+
+// By hand, so that no caller sees the fields.
+impl<M: Machine + Drop> Drop for Lone<M> {
+    fn drop(self) {
+        let Lone {
+            object,
+            recorded,
+            visits,
+        } = self;
+    }
 }
 
 impl<M: Machine> Lone<M> {

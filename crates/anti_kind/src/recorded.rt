@@ -32,7 +32,6 @@ pub enum Refusal {
 
 /// A machine with the history of the calls that were made on it. It keeps the last stamp, and room in the history for the
 /// entries of all calls that units are reserved for.
-#[derive(Drop)]
 pub struct Recorded<M: Machine> {
     machine: M,
     history: History,
@@ -48,6 +47,17 @@ impl<M: Machine> Model for Recorded<M> {
     ghost view = { λ r. record { machine = r.machine; history = r.history.items } };
 
     ghost invariant = { λ r. IsRecorded (M.start r.machine) (M.Stands r.machine) r.last r.history };
+}
+
+// By hand, so that no caller sees the fields.
+impl<M: Machine + Drop> Drop for Recorded<M> {
+    fn drop(self) {
+        let Recorded {
+            machine,
+            history,
+            last,
+        } = self;
+    }
 }
 
 impl<M: Machine> Recorded<M> {
@@ -103,7 +113,12 @@ impl<M: Machine> Recorded<M> {
         ensures machine { result.0 ≡ self.machine }
         ensures history { result.1.items ≡ self.history }
     {
-        (self.machine, self.history)
+        let Recorded {
+            machine,
+            history,
+            last: _,
+        } = self;
+        (machine, history)
     }
 
     /// Whether what is asked can be done now, or why it can't. Where it can, the history wants room for so many entries: the units that are

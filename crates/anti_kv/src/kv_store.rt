@@ -7,9 +7,15 @@ use anti_replicas::Replicas;
 use std::alloc::Global;
 
 /// A store of the kind kv: keys with values. A value has one part, and a replica shows the greatest version of a key that came to it.
-#[derive(Drop)]
 pub struct Kv {
     base: Replicas,
+}
+
+// By hand, so that no caller sees the fields.
+impl Drop for Kv {
+    fn drop(self) {
+        let Kv { base } = self;
+    }
 }
 
 impl Kv {

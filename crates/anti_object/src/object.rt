@@ -13,7 +13,6 @@ use anti_table::Table;
 use anti_topic::Topic;
 
 /// An object of an application: one of the machines.
-#[derive(Drop)]
 pub enum Object {
     /// A store of keys.
     Kv(Kv),
@@ -27,6 +26,20 @@ pub enum Object {
     Topic(Topic),
     /// The inbox of a service.
     Inbox(Inbox),
+}
+
+// By hand, so that no caller sees the variants.
+impl Drop for Object {
+    fn drop(self) {
+        match self {
+            Object::Kv(machine) => drop(machine),
+            Object::Table(machine) => drop(machine),
+            Object::Blob(machine) => drop(machine),
+            Object::Queue(machine) => drop(machine),
+            Object::Topic(machine) => drop(machine),
+            Object::Inbox(machine) => drop(machine),
+        }
+    }
 }
 
 // What an object does is what its machine does.

@@ -15,10 +15,16 @@ pub enum OrderAnswer {
 }
 
 /// A span with a read, and what is answered of its reads.
-#[derive(Drop)]
 pub struct SpanAnswer {
     pub span: Span,
     pub answer: OrderAnswer,
+}
+
+// By hand, so that no caller sees the fields.
+impl Drop for SpanAnswer {
+    fn drop(self) {
+        let SpanAnswer { span, answer } = self;
+    }
 }
 
 /// A list of answers, by spans.

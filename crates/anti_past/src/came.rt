@@ -27,9 +27,15 @@ pub struct Came {
 }
 
 /// What came to the spans of a trace.
-#[derive(Drop)]
 pub struct AllCame {
     pub(crate) spans: BTreeMap<SpanKey, Came>,
+}
+
+// By hand, so that no caller sees the fields.
+impl Drop for AllCame {
+    fn drop(self) {
+        let AllCame { spans } = self;
+    }
 }
 
 // What one entry brings, behind what was carried into it.

@@ -8,9 +8,15 @@ use anti_ids::{Lineage, NoMemory, WriteId};
 use std::alloc::Global;
 
 /// What the looks of a span found: the ids of each store, by its number. Ids that stand one behind another are looked for in step.
-#[derive(Drop)]
 pub struct SpanFinds {
     pub(crate) stores: Vec<FoundIds>,
+}
+
+// By hand, so that no caller sees the fields.
+impl Drop for SpanFinds {
+    fn drop(self) {
+        let SpanFinds { stores } = self;
+    }
 }
 
 impl SpanFinds {

@@ -16,12 +16,23 @@ use std::alloc::Global;
 
 /// A walk along a legal trace and its trail, which has come to one of the entries: how far it is in the trail, what came to the spans of the
 /// processes, and what their looks found. No entry before it loses an id.
-#[derive(Drop)]
 pub struct Walk {
     pub(crate) alloc: Global,
     pub(crate) cursor: TrailCursor,
     pub(crate) came: AllCame,
     pub(crate) found: Finds,
+}
+
+// By hand, so that no caller sees the fields.
+impl Drop for Walk {
+    fn drop(self) {
+        let Walk {
+            alloc,
+            cursor,
+            came,
+            found,
+        } = self;
+    }
 }
 
 /// What a walk tells of an entry.

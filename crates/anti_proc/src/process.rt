@@ -31,13 +31,25 @@ pub struct Asked<'a> {
 }
 
 /// One run of a handler, between two of its calls. Each call on it is given the application with which it was born.
-#[derive(Drop)]
 pub struct Process {
     alloc: Global,
     birth: Birth,
     role: Role,
     clock: u64,
     life: Life,
+}
+
+// By hand, so that no caller sees the fields.
+impl Drop for Process {
+    fn drop(self) {
+        let Process {
+            alloc,
+            birth,
+            role,
+            clock,
+            life,
+        } = self;
+    }
 }
 
 impl Process {

@@ -12,13 +12,25 @@ use std::alloc::Global;
 /// A store of the kind queue: messages of channels. A message is handed out to one subscription at a time, once it is whole at the
 /// subscription's region. Each message that is out is either done or given back, and is handed out again in the second case, until
 /// it was handed out so many times as the store allows.
-#[derive(Drop)]
 pub struct Queue {
     pub(crate) base: Replicas,
     pub(crate) channels: Channels,
     pub(crate) subscribers: Subscribers,
     pub(crate) messages: MessageStates,
     pub(crate) tries: u32,
+}
+
+// By hand, so that no caller sees the fields.
+impl Drop for Queue {
+    fn drop(self) {
+        let Queue {
+            base,
+            channels,
+            subscribers,
+            messages,
+            tries,
+        } = self;
+    }
 }
 
 impl Queue {

@@ -14,9 +14,15 @@ use std::alloc::Global;
 use std::collections::BTreeMap;
 
 /// How many writes each channel of a queue or a topic has. A channel has a place from its first write on.
-#[derive(Drop)]
 pub struct Channels {
     pub(crate) counts: BTreeMap<Name, u64>,
+}
+
+// By hand, so that no caller sees the fields.
+impl Drop for Channels {
+    fn drop(self) {
+        let Channels { counts } = self;
+    }
 }
 
 impl Channels {

@@ -11,7 +11,6 @@ use anti_kind::StoreKind;
 use std::alloc::Global;
 
 /// What all kinds of store share. It stands for a history of a store of any kind.
-#[derive(Drop)]
 pub struct Replicas {
     pub(crate) store: u32,
     pub(crate) kind: StoreKind,
@@ -29,6 +28,26 @@ pub struct Replicas {
     pub(crate) held: u32,
     pub(crate) owed: u32,
     pub(crate) alloc: Global,
+}
+
+// By hand, so that no caller sees the fields.
+impl Drop for Replicas {
+    fn drop(self) {
+        let Replicas {
+            store,
+            kind,
+            replicas,
+            regions,
+            kept,
+            backlogs,
+            upto,
+            newest,
+            longest,
+            held,
+            owed,
+            alloc,
+        } = self;
+    }
 }
 
 // The backlogs of all regions, with no groups.

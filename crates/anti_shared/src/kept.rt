@@ -15,7 +15,6 @@ use std::marker::Model;
 use std::snapshot::Snapshot;
 
 /// An object that was shared: its state, and the history of the calls that were made on it.
-#[derive(Drop)]
 pub struct Kept<M: Machine> {
     object: u32,
     // in a box, so that it stays where it is while it is handed to and fro with the turn
@@ -37,6 +36,17 @@ impl<M: Machine> Model for Kept<M> {
     } };
 
     ghost invariant = { λ k. IsKept (M.start k.recorded.value.machine) (M.start k.first.value) k.object k.recorded.value.history };
+}
+
+// By hand, so that no caller sees the fields.
+impl<M: Machine + Drop> Drop for Kept<M> {
+    fn drop(self) {
+        let Kept {
+            object,
+            recorded,
+            first,
+        } = self;
+    }
 }
 
 impl<M: Machine> Listed for Kept<M> {
@@ -109,7 +119,13 @@ impl<M: Machine> Kept<M> {
         ensures state { result.0 ≡ self.state }
         ensures history { result.1.items ≡ self.history }
     {
-        Box::into_inner(self.recorded).into_parts()
+        let Kept {
+            object: _,
+            recorded,
+            first,
+        } = self;
+        drop(first);
+        Box::into_inner(recorded).into_parts()
     }
 
     // Makes what is asked of the object, under the number of the pass that asks, or says why it does not. What is not ready is put into

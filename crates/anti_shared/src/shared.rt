@@ -13,7 +13,6 @@ use std::alloc::Global;
 use std::marker::Model;
 
 /// An object that threads share. Of the threads one at a time has the turn, and the object with it.
-#[derive(Drop)]
 pub struct Shared<M: Machine> {
     pub(crate) turn: Turn<Kept<M>>,
     pub(crate) object: u32,
@@ -29,6 +28,13 @@ impl<M: Machine> Model for Shared<M> {
     ghost view = { λ s. shared_of s.turn };
 
     ghost invariant = { λ s. s.object ≡ s.turn.fixed.0 };
+}
+
+// By hand, so that no caller sees the fields.
+impl<M: Machine + Drop> Drop for Shared<M> {
+    fn drop(self) {
+        let Shared { turn, object } = self;
+    }
 }
 
 impl<M: Machine> Shared<M> {

@@ -9,13 +9,24 @@ use std::alloc::Global;
 
 /// A store of the kind topic: channels of cells. The nth write to the channel c is its nth cell, with the key c#n. Each subscription
 /// pulls the cells of its channel one after another, as they are whole at its region, whatever others pulled.
-#[derive(Drop)]
 pub struct Topic {
     pub(crate) base: Replicas,
     pub(crate) channels: Channels,
     pub(crate) subs: Vec<Sub>,
     // that of each subscription
     pub(crate) cursors: Vec<PullCursor>,
+}
+
+// By hand, so that no caller sees the fields.
+impl Drop for Topic {
+    fn drop(self) {
+        let Topic {
+            base,
+            channels,
+            subs,
+            cursors,
+        } = self;
+    }
 }
 
 fn copied(alloc: Global, subs: &[Sub]) -> Result<Vec<Sub>, NoMemory>

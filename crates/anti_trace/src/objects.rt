@@ -31,9 +31,15 @@ pub trait EndOfObjects {
 }
 
 /// The objects of an application, which went past the entries of a trace.
-#[derive(Drop)]
 pub struct ObjectsAfter {
     objects: Vec<Object>,
+}
+
+// By hand, so that no caller sees the fields.
+impl Drop for ObjectsAfter {
+    fn drop(self) {
+        let ObjectsAfter { objects } = self;
+    }
 }
 
 // The object with a number, on which nothing has happened yet.

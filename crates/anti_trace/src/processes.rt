@@ -15,9 +15,15 @@ pub struct AtObject {
 
 /// The processes of a trace: for each object those that were born at it. Who goes along a trace has them go past each entry, and sees
 /// each process as it is before and after its entries.
-#[derive(Drop)]
 pub struct Processes {
     pub(crate) at: Vec<AtObject>,
+}
+
+// By hand, so that no caller sees the fields.
+impl Drop for Processes {
+    fn drop(self) {
+        let Processes { at } = self;
+    }
 }
 
 impl AtObject {

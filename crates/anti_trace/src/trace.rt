@@ -6,7 +6,6 @@ use std::marker::Model;
 
 /// The entries of all objects, each before every later one by its stamp, or by its object number where the stamps are equal.
 /// There are fewer than 2^32 of them.
-#[derive(Drop)]
 pub struct Trace {
     entries: Vec<Entry>,
 }
@@ -21,6 +20,13 @@ impl Model for Trace {
     ghost view = { λ t. t.entries.items };
 
     ghost invariant = { λ t. IsTrace t.entries.items × (vec_len t.entries < 2 ^ 32) };
+}
+
+// By hand, so that no caller sees the fields.
+impl Drop for Trace {
+    fn drop(self) {
+        let Trace { entries } = self;
+    }
 }
 
 impl Trace {
@@ -71,6 +77,7 @@ impl Trace {
         ensures order { IsTrace result.items }
         ensures few { length result.items < 2 ^ 32 }
     {
-        self.entries
+        let Trace { entries } = self;
+        entries
     }
 }

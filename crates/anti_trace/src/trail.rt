@@ -28,10 +28,16 @@ pub struct OnObject {
 }
 
 /// What processes carried into their reads, looks and posts: of each object, in the order of its history. One that is not kept holds nothing.
-#[derive(Drop)]
 pub struct Trail {
     pub(crate) is_kept: bool,
     pub(crate) at: Vec<OnObject>,
+}
+
+// By hand, so that no caller sees the fields.
+impl Drop for Trail {
+    fn drop(self) {
+        let Trail { is_kept, at } = self;
+    }
 }
 
 impl OnObject {
