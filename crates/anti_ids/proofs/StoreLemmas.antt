@@ -128,8 +128,8 @@ found_left store from len words walk ids held range found stand same all part is
 -- where the range is none, no id of the store is held
 none_in_range : (store : ℕ) (h : HeldIds) (from : ℕ) → StandFrom store (base_ids h) from 0 → ids_of store (held_ids h) ≡ []
 none_in_range store (Own ids) from stand = sym (ids_in_range store ids.items from 0 stand)
-none_in_range store (Whole block) from stand = sym (ids_in_range store block from 0 stand)
-none_in_range store (Shared block gone) from stand = sym (left_in_range store block from 0 stand gone.words)
+none_in_range store (Whole marked) from stand = sym (ids_in_range store marked.block from 0 stand)
+none_in_range store (Shared marked) from stand = sym (left_in_range store marked.block from 0 stand marked.words)
 
 pub none_held : (store from len : ℕ) (h : HeldIds) (walk : List WriteId) → StandFrom store walk from len → walk ≡ base_ids h → len ≡ 0 → [] ≡ ids_of store (held_ids h)
 none_held store from len h walk stand same none =

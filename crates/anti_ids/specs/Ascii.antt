@@ -37,6 +37,10 @@ at_sign = 64
 abbrev pub underscore : ℕ
 underscore = 95
 
+-- `|`
+abbrev pub bar : ℕ
+bar = 124
+
 -- `~`
 abbrev pub tilde : ℕ
 tilde = 126

@@ -1,8 +1,9 @@
-ghost use Rattle.std.specs.Prelude.{◌≡◌, ◌+◌, ◌<◌, ◌≤◌, false, not, length, slice_get, vec_capacity, OnOk, OnErr, IfOk, IfErr, IsErrOf, IsTrue};
+ghost use Rattle.std.specs.Prelude.{◌≡◌, ◌+◌, ◌*◌, ◌<◌, ◌≤◌, false, not, length, slice_get, vec_capacity, OnOk, OnErr, IfOk, IfErr, IsErrOf, IsTrue};
 ghost use Rattle.anti_ids.specs.Invariants.{IsLineage};
 ghost use Rattle.anti_ids.specs.Ids.{has_id, ids_of, is_id, with_id, with_ids, without_id};
 ghost use Rattle.anti_ids.specs.inner.Held.{base_ids, held_ids};
-ghost use Rattle.anti_ids.specs.inner.Left.{left_for, left_of};
+ghost use Rattle.anti_ids.specs.inner.Left.{AreMarked, left_for, left_of};
+ghost use Rattle.anti_ids.specs.inner.Marks.{marks};
 
 use crate::ascending::place_of;
 use crate::block::Block;
@@ -10,7 +11,7 @@ use crate::gone::Gone;
 use crate::id::WriteId;
 use crate::ids::Ids;
 use crate::limits::MOST_IDS;
-use crate::lineage::LineageRefused;
+use crate::marked::Marked;
 use crate::memory::NoMemory;
 use crate::walk::Walk;
 use std::alloc::Global;
@@ -21,10 +22,10 @@ use std::mem;
 pub(crate) enum HeldIds {
     // Nobody else holds them.
     Own(Vec<WriteId>),
-    // Others may hold the block too.
-    Whole(Block),
-    // Others may hold the block too, of which some ids are gone for this lineage alone.
-    Less(Block, Gone),
+    // Others may hold the block too. None of it is gone, whatever the marks are.
+    Whole(Marked),
+    // Others may hold the block too, of which those that are marked are gone for this lineage alone.
+    Less(Marked),
 }
 
 // The id at an index of those that are to come.
@@ -44,8 +45,9 @@ fn nth(ids: Ids, index: usize) -> WriteId
 
 // The ids that are left of a block, the first of which stands at an index of those that may be gone.
 fn left_in(alloc: Global, block: &Block, at: usize, gone: &Gone) -> Result<Vec<WriteId>, NoMemory>
-    requires { at + length block.now ≤ MOST_IDS }
-    ensures { IfOk result (λ v. v.items ≡ left_of gone.now.words at block.now) }
+    requires few { at + length block.now ≤ MOST_IDS }
+    requires marked { at + length block.now ≤ 64 * length (marks gone.now) }
+    ensures { IfOk result (λ v. v.items ≡ left_of (marks gone.now) at block.now) }
 {
     match Ids::over(block.walk(), at, Some(gone))
         .copied()
@@ -63,19 +65,20 @@ impl HeldIds {
     {
         match self {
             HeldIds::Own(ids) => Walk::over(ids.as_slice()),
-            HeldIds::Whole(block) => block.walk(),
-            HeldIds::Less(block, _) => block.walk(),
+            HeldIds::Whole(marked) => marked.block().walk(),
+            HeldIds::Less(marked) => marked.block().walk(),
         }
     }
 
     // Those of them that are gone, where some may be.
     fn gone(&self) -> Option<&Gone>
-        ensures { left_for result 0 (base_ids self.now) ≡ held_ids self.now }
+        ensures left { left_for result 0 (base_ids self.now) ≡ held_ids self.now }
+        ensures marked { AreMarked result (length (base_ids self.now)) }
     {
         match self {
             HeldIds::Own(_) => None,
             HeldIds::Whole(_) => None,
-            HeldIds::Less(_, gone) => Some(gone),
+            HeldIds::Less(marked) => Some(marked.gone()),
         }
     }
 
@@ -92,8 +95,8 @@ impl HeldIds {
     fn allocator(&self) -> Global {
         match self {
             HeldIds::Own(ids) => *ids.allocator(),
-            HeldIds::Whole(block) => block.allocator(),
-            HeldIds::Less(block, _) => block.allocator(),
+            HeldIds::Whole(marked) => marked.block().allocator(),
+            HeldIds::Less(marked) => marked.block().allocator(),
         }
     }
 
@@ -104,8 +107,11 @@ impl HeldIds {
     {
         match self {
             HeldIds::Own(ids) => ids.len(),
-            HeldIds::Whole(block) => block.len(),
-            HeldIds::Less(block, gone) => block.len() - gone.count(block.len()),
+            HeldIds::Whole(marked) => marked.block().len(),
+            HeldIds::Less(marked) => {
+                let len = marked.block().len();
+                len - marked.gone().count(len)
+            }
         }
     }
 
@@ -117,8 +123,8 @@ impl HeldIds {
     {
         match self {
             HeldIds::Own(ids) => ids[index],
-            HeldIds::Whole(block) => block.at(index),
-            HeldIds::Less(_, _) => nth(self.ids(), index),
+            HeldIds::Whole(marked) => marked.block().at(index),
+            HeldIds::Less(_) => nth(self.ids(), index),
         }
     }
 
@@ -129,9 +135,9 @@ impl HeldIds {
     {
         match self {
             HeldIds::Own(ids) => place_of(ids.as_slice(), id).is_ok(),
-            HeldIds::Whole(block) => block.place_of(id).is_ok(),
-            HeldIds::Less(block, gone) => match block.place_of(id) {
-                Ok(at) => !gone.has(at),
+            HeldIds::Whole(marked) => marked.block().place_of(id).is_ok(),
+            HeldIds::Less(marked) => match marked.block().place_of(id) {
+                Ok(at) => !marked.gone().has(at),
                 Err(_) => false,
             },
         }
@@ -148,10 +154,11 @@ impl HeldIds {
                 if ids.is_empty() {
                     return Ok(HeldIds::Own(Vec::new(alloc)));
                 }
-                Ok(HeldIds::Whole(Block::of(alloc, ids.as_slice())?))
+                let block = Block::of(alloc, ids.as_slice())?;
+                Ok(HeldIds::Whole(Marked::of(block)?))
             }
-            HeldIds::Whole(block) => Ok(HeldIds::Whole(block.share()?)),
-            HeldIds::Less(block, gone) => Ok(HeldIds::Less(block.share()?, *gone)),
+            HeldIds::Whole(marked) => Ok(HeldIds::Whole(marked.share()?)),
+            HeldIds::Less(marked) => Ok(HeldIds::Less(marked.share()?)),
         }
     }
 
@@ -168,11 +175,16 @@ impl HeldIds {
         match self {
             HeldIds::Own(ids) => {
                 let own = ids.as_slice().split_at(from).1.split_at(len).0;
-                Ok(HeldIds::Whole(Block::of(alloc, own)?))
+                let block = Block::of(alloc, own)?;
+                Ok(HeldIds::Whole(Marked::of(block)?))
             }
-            HeldIds::Whole(block) => Ok(HeldIds::Whole(block.range(from, len)?)),
-            HeldIds::Less(block, gone) => {
-                let ids = left_in(alloc, &block.range(from, len)?, from, gone)?;
+            HeldIds::Whole(marked) => {
+                let block = marked.block().range(from, len)?;
+                Ok(HeldIds::Whole(Marked::of(block)?))
+            }
+            HeldIds::Less(marked) => {
+                let block = marked.block().range(from, len)?;
+                let ids = left_in(alloc, &block, from, marked.gone())?;
                 HeldIds::Own(ids).copy(alloc)
             }
         }
@@ -201,10 +213,10 @@ impl HeldIds {
     {
         match self {
             HeldIds::Own(ids) => Block::of(*ids.allocator(), ids.as_slice()),
-            HeldIds::Whole(block) => block.share(),
-            HeldIds::Less(block, _) => {
+            HeldIds::Whole(marked) => marked.block().share(),
+            HeldIds::Less(marked) => {
                 let ids = self.listed(0)?;
-                Block::of(block.allocator(), ids.as_slice())
+                Block::of(marked.block().allocator(), ids.as_slice())
             }
         }
     }
@@ -221,13 +233,20 @@ impl HeldIds {
                 let (ids, found) = taken_from(ids, id);
                 (HeldIds::Own(ids), found)
             }
-            HeldIds::Whole(block) => match block.place_of(id) {
-                Ok(at) => (HeldIds::Less(block, Gone::none().with(at)), true),
-                Err(_) => (HeldIds::Whole(block), false),
+            HeldIds::Whole(mut marked) => match marked.block().place_of(id) {
+                Ok(at) => {
+                    marked.mark_alone(at);
+                    (HeldIds::Less(marked), true)
+                }
+                Err(_) => (HeldIds::Whole(marked), false),
             },
-            HeldIds::Less(block, gone) => match block.place_of(id) {
-                Ok(at) => (HeldIds::Less(block, gone.with(at)), !gone.has(at)),
-                Err(_) => (HeldIds::Less(block, gone), false),
+            HeldIds::Less(mut marked) => match marked.block().place_of(id) {
+                Ok(at) => {
+                    let found = !marked.gone().has(at);
+                    marked.mark(at);
+                    (HeldIds::Less(marked), found)
+                }
+                Err(_) => (HeldIds::Less(marked), false),
             },
         }
     }
@@ -256,16 +275,16 @@ impl HeldIds {
         ensures same { result ≡ false → self.new ≡ self.old }
         ensures lineage { IsLineage (base_ids self.new) }
     {
-        let HeldIds::Less(block, gone) = self else {
+        let HeldIds::Less(marked) = self else {
             return false;
         };
-        let Ok(at) = block.place_of(id) else {
+        let Ok(at) = marked.block().place_of(id) else {
             return false;
         };
-        if !gone.has(at) {
+        if !marked.gone().has(at) {
             return false;
         }
-        *gone = gone.without(at);
+        marked.unmark(at);
         true
     }
 

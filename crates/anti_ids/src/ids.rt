@@ -1,6 +1,6 @@
 ghost use Rattle.std.specs.Prelude.{◌≡◌, ◌+◌, ◌≤◌, length};
 ghost use Rattle.std.specs.Iterator.{YieldsFirstRef, item_count};
-ghost use Rattle.anti_ids.specs.inner.Left.{left_for};
+ghost use Rattle.anti_ids.specs.inner.Left.{AreMarked, left_for};
 ghost use Rattle.anti_ids.specs.inner.Stores.{PassedSame};
 
 use crate::gone::Gone;
@@ -23,19 +23,20 @@ impl<'a> Model for Ids<'a> {
     ghost use Rattle.std.specs.Prelude.{List, ◌+◌, ◌≤◌, length};
     ghost use Rattle.anti_ids.specs.declared.id.WriteId.{WriteId};
     ghost use Rattle.anti_ids.specs.declared.limits.TheConstants.{MOST_IDS};
-    ghost use Rattle.anti_ids.specs.inner.Left.{left_for};
+    ghost use Rattle.anti_ids.specs.inner.Left.{AreMarked, left_for};
 
     ghost Value = { List WriteId };
 
     ghost view = { λ ids. left_for ids.gone ids.at ids.walk };
 
-    ghost invariant = { λ ids. ids.at + length ids.walk ≤ MOST_IDS };
+    ghost invariant = { λ ids. (ids.at + length ids.walk ≤ MOST_IDS) × AreMarked ids.gone (ids.at + length ids.walk) };
 }
 
 impl<'a> Ids<'a> {
     // Over the ids in memory that are not gone, of which the first stands at an index.
     pub(crate) fn over(walk: Walk<'a>, at: usize, gone: Option<&'a Gone>) -> Ids<'a>
-        requires { at + length walk ≤ MOST_IDS }
+        requires few { at + length walk ≤ MOST_IDS }
+        requires marked { AreMarked gone (at + length walk) }
         ensures { result ≡ left_for gone.entry at walk.entry }
     {
         Ids { walk, at, gone }

@@ -16,6 +16,7 @@ mod limits;
 mod lineage;
 mod list;
 mod list_add;
+mod marked;
 mod memory;
 mod name;
 mod roomy;
@@ -24,6 +25,7 @@ mod thread_safety;
 mod unions;
 mod value;
 mod walk;
+mod words;
 
 pub use bytes::Bytes;
 pub use copies::Copies;

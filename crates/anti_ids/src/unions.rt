@@ -4,48 +4,48 @@ ghost use Rattle.anti_ids.specs.Invariants.{IsLineage};
 ghost use Rattle.anti_ids.specs.Ids.{has_id, with_id, with_ids};
 ghost use Rattle.anti_ids.specs.inner.Held.{base_ids, held_ids};
 
-use crate::block::Block;
 use crate::held_ids::HeldIds;
 use crate::id::WriteId;
 use crate::ids::Ids;
 use crate::limits::MOST_IDS;
 use crate::lineage::LineageRefused;
+use crate::marked::Marked;
 use crate::memory::NoMemory;
 
-// Adds an id to a block, and tells whether it is new.
-fn add_to(block: &mut Block, id: WriteId) -> Result<bool, LineageRefused>
-    requires lineage { IsLineage block.old }
+// Adds an id to a block, of which no mark counts, and tells whether it is new.
+fn add_to(marked: &mut Marked, id: WriteId) -> Result<bool, LineageRefused>
+    requires lineage { IsLineage marked.old.block }
     requires written { 1 ≤ id.version }
-    ensures ok { IfOk result (λ _. block.new ≡ with_id id block.old) }
-    ensures lineage { IsLineage block.new }
-    ensures new { IfOk result (λ is_new. is_new ≡ not (has_id id block.old)) }
-    ensures fits { OnOk result (length (with_id id block.old) ≤ MOST_IDS) }
-    ensures full { IsErrOf result LineageRefused.Full → (has_id id block.old ≡ false) × (length block.old ≡ MOST_IDS) }
-    ensures too_many { IsErrOf result LineageRefused.Full → MOST_IDS < length (with_id id block.old) }
-    ensures err { OnErr result (block.new ≡ block.old) }
+    ensures ok { IfOk result (λ _. marked.new.block ≡ with_id id marked.old.block) }
+    ensures lineage { IsLineage marked.new.block }
+    ensures new { IfOk result (λ is_new. is_new ≡ not (has_id id marked.old.block)) }
+    ensures fits { OnOk result (length (with_id id marked.old.block) ≤ MOST_IDS) }
+    ensures full { IsErrOf result LineageRefused.Full → (has_id id marked.old.block ≡ false) × (length marked.old.block ≡ MOST_IDS) }
+    ensures too_many { IsErrOf result LineageRefused.Full → MOST_IDS < length (with_id id marked.old.block) }
+    ensures err { OnErr result (marked.new.block ≡ marked.old.block) }
 {
-    let Err(at) = block.place_of(&id) else {
+    let Err(at) = marked.block().place_of(&id) else {
         return Ok(false);
     };
-    if block.len() == MOST_IDS {
+    if marked.block().len() == MOST_IDS {
         return Err(LineageRefused::Full);
     }
-    match block.grow(at, id) {
+    match marked.grow(at, id) {
         Ok(()) => Ok(true),
         Err(NoMemory) => Err(LineageRefused::NoMemory),
     }
 }
 
-// Adds ids to a block, one after another.
-fn add_each(block: &mut Block, further: Ids) -> Result<(), LineageRefused>
-    requires lineage { IsLineage block.old }
+// Adds ids to a block, of which no mark counts, one after another.
+fn add_each(marked: &mut Marked, further: Ids) -> Result<(), LineageRefused>
+    requires lineage { IsLineage marked.old.block }
     requires further { IsLineage further }
-    ensures ok { OnOk result (block.new ≡ with_ids further.entry block.old) }
-    ensures lineage { IsLineage block.new }
-    ensures full { IsErrOf result LineageRefused.Full → MOST_IDS < length (with_ids further.entry block.old) }
+    ensures ok { OnOk result (marked.new.block ≡ with_ids further.entry marked.old.block) }
+    ensures lineage { IsLineage marked.new.block }
+    ensures full { IsErrOf result LineageRefused.Full → MOST_IDS < length (with_ids further.entry marked.old.block) }
 {
     for id in further {
-        add_to(block, *id)?;
+        add_to(marked, *id)?;
     }
     Ok(())
 }
@@ -132,14 +132,17 @@ impl HeldIds {
     }
 
     // The ids in a block that may grow.
-    fn block_to_grow(&self) -> Result<Block, LineageRefused>
+    fn block_to_grow(&self) -> Result<Marked, LineageRefused>
         requires { IsLineage (base_ids self.now) }
-        ensures ids { IfOk result (λ b. b ≡ held_ids self.now) }
-        ensures lineage { IfOk result (λ b. IsLineage b) }
+        ensures ids { IfOk result (λ m. m.block ≡ held_ids self.now) }
+        ensures lineage { IfOk result (λ m. IsLineage m.block) }
         ensures err { IfErr result (λ refused. refused ≡ LineageRefused.NoMemory) }
     {
-        match self.block() {
-            Ok(block) => Ok(block),
+        let Ok(block) = self.block() else {
+            return Err(LineageRefused::NoMemory);
+        };
+        match Marked::of(block) {
+            Ok(marked) => Ok(marked),
             Err(NoMemory) => Err(LineageRefused::NoMemory),
         }
     }
@@ -156,8 +159,8 @@ impl HeldIds {
         ensures too_many { IsErrOf result LineageRefused.Full → MOST_IDS < length (with_id id (held_ids self.old)) }
         ensures err { OnErr result (held_ids self.new ≡ held_ids self.old) }
     {
-        if let HeldIds::Whole(block) = self {
-            let is_new = add_to(block, id)?;
+        if let HeldIds::Whole(marked) = self {
+            let is_new = add_to(marked, id)?;
             return Ok(is_new);
         }
         if self.has(&id) {
@@ -166,27 +169,27 @@ impl HeldIds {
         if self.bring_back(&id) {
             return Ok(true);
         }
-        let mut block = self.block_to_grow()?;
-        let is_new = add_to(&mut block, id)?;
-        *self = HeldIds::Whole(block);
+        let mut marked = self.block_to_grow()?;
+        let is_new = add_to(&mut marked, id)?;
+        *self = HeldIds::Whole(marked);
         Ok(is_new)
     }
 
     // The ids of two lineages, for one that has some that the other has not.
-    fn union(&self, other: &HeldIds) -> Result<Block, LineageRefused>
+    fn union(&self, other: &HeldIds) -> Result<Marked, LineageRefused>
         requires lineage { IsLineage (base_ids self.now) }
         requires other { IsLineage (base_ids other.now) }
-        ensures ok { IfOk result (λ b. b ≡ with_ids (held_ids other.now) (held_ids self.now)) }
-        ensures lineage { IfOk result (λ b. IsLineage b) }
+        ensures ok { IfOk result (λ m. m.block ≡ with_ids (held_ids other.now) (held_ids self.now)) }
+        ensures lineage { IfOk result (λ m. IsLineage m.block) }
         ensures full { IsErrOf result LineageRefused.Full → MOST_IDS < length (with_ids (held_ids other.now) (held_ids self.now)) }
     {
         if other.has_all(self.ids()) {
-            let block = other.block_to_grow()?;
-            return Ok(block);
+            let marked = other.block_to_grow()?;
+            return Ok(marked);
         }
-        let mut block = self.block_to_grow()?;
-        add_each(&mut block, other.ids())?;
-        Ok(block)
+        let mut marked = self.block_to_grow()?;
+        add_each(&mut marked, other.ids())?;
+        Ok(marked)
     }
 
     // Adds the ids of another lineage.

@@ -1,11 +1,12 @@
 use Rattle.std.proofs.Common.{rules, ◌≡◌, ◌<◌, ◌%◌, ◌^◌, ◌+◌, ◌-◌, ◌*◌, min, count_ones, get_or, arith}
 use Rattle.anti_ids.specs.inner.Left.{gone_in}
+use Rattle.anti_ids.specs.inner.Marks.{marks}
 use Rattle.anti_ids.proofs.GoneLemmas.{gone_in-step}
 use Rattle.anti_ids.proofs.gone.Gone.count.Goals as goal
 
 pub loop-number-preserved : goal.loop-number-preserved
 loop-number-preserved c =
-    let words = c.args.self.now.words in
+    let words = marks c.args.self.now in
     let number = c.loop-number.number in
     let bits = min (c.args.len - number * 64) 64 in
     let more : number * 64 < c.args.len = search rules in
@@ -15,5 +16,5 @@ loop-number-preserved c =
     record {
       sum = omega (arith, step, ones, c.loop-number.invariant.sum);
       few = omega (arith, c.ones_among-count.ensures.few, c.loop-number.invariant.few);
-      among = omega (arith, more, c.requires);
+      among = omega (arith, more, c.requires.few);
     }

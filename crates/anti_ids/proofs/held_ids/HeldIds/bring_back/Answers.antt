@@ -8,13 +8,15 @@ use Rattle.anti_ids.proofs.held_ids.HeldIds.bring_back.Goals as goal
 
 pub returns-clause-ids : goal.returns-clause-ids
 returns-clause-ids c = λ back.
-    let held : held_ids c.args.self.now ≡ left_of c.in-Less.gone.words 0 c.in-Less.block = search rules in
-    let was : is_gone c.in-Less.gone.words c.in-Ok.at ≡ true = search rules in
-    left_with_one c.args.id.now c.in-Less.block c.in-Ok.at (search rules) c.in-Ok.ensures c.in-Less.gone.words c.without.result.words was c.without.ensures.back c.without.ensures.others
+    let held : held_ids c.args.self.now ≡ left_of c.in-Less.marked.words 0 c.in-Less.marked.block = search rules in
+    let was : is_gone c.in-Less.marked.words c.in-Ok.at ≡ true = search rules in
+    let same : c.in-Less.marked.block ≡ c.unmark.new.self.block = search rules in
+    ap (λ (x : List WriteId). left_of c.unmark.new.self.words 0 x) (sym same)
+    ∙ left_with_one c.args.id.now c.in-Less.marked.block c.in-Ok.at (search rules) (search rules) c.in-Less.marked.words c.unmark.new.self.words was c.unmark.ensures.back c.unmark.ensures.others
     ∙ ap (λ (x : List WriteId). with_id c.args.id.now x) (sym held)
 
 pub returns-clause-new : goal.returns-clause-new
 returns-clause-new c = λ back.
-    let held : held_ids c.args.self.now ≡ left_of c.in-Less.gone.words 0 c.in-Less.block = search rules in
-    let was : is_gone c.in-Less.gone.words c.in-Ok.at ≡ true = search rules in
-    ap (λ (x : List WriteId). has_id c.args.id.now x) held ∙ left_where c.args.id.now c.in-Less.block c.in-Ok.at (search rules) c.in-Ok.ensures c.in-Less.gone.words ∙ ap not was
+    let held : held_ids c.args.self.now ≡ left_of c.in-Less.marked.words 0 c.in-Less.marked.block = search rules in
+    let was : is_gone c.in-Less.marked.words c.in-Ok.at ≡ true = search rules in
+    ap (λ (x : List WriteId). has_id c.args.id.now x) held ∙ left_where c.args.id.now c.in-Less.marked.block c.in-Ok.at (search rules) (search rules) c.in-Less.marked.words ∙ ap not was

@@ -10,5 +10,5 @@ returns-then-has_all-clause-ok c =
     let held = held_ids c.args.self.now in
     let other = held_ids c.args.other.now in
     let all : with_ids held other ≡ other = search rules in
-    let is : c.in_ok-block.block ≡ other = search rules in
+    let is : c.in_ok-marked.marked.block ≡ other = search rules in
     is ∙ sym (with_ids-comm other held (lineage_held c.args.other.now c.requires.other).ascending (lineage_held c.args.self.now c.requires.lineage).ascending ∙ all)
