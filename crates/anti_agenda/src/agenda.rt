@@ -24,6 +24,9 @@ impl Drop for Agenda {
             asleep,
             idle,
         } = self;
+        drop(awake);
+        drop(asleep);
+        drop(idle);
     }
 }
 

@@ -169,9 +169,15 @@ impl Drop for App {
             subs,
             requests,
             choices,
-            seed,
-            workers,
+            seed: _,
+            workers: _,
         } = self;
+        drop(regions);
+        drop(stores);
+        drop(services);
+        drop(subs);
+        drop(requests);
+        drop(choices);
     }
 }
 

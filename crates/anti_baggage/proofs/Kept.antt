@@ -1,5 +1,5 @@
 -- A text that is kept beside its lineage is that of it as long as the lineage is the same.
-use Rattle.std.proofs.Common.{◌≡◌, ℕ, ◌≤◌, List, [], ◌∷◌, Bool, true, false, not, ◌&&◌, ◌||◌, Option, Some, None, Ok, length, refl, sym, ap, subst, ◌∙◌, inl, inr, arith}
+use Rattle.std.proofs.Common.{IfSome, ◌≡◌, ℕ, List, [], ◌∷◌, Bool, true, false, not, ◌&&◌, Option, Some, None, Ok, length, refl, sym, ap, subst, ◌∙◌, inl, inr, arith}
 use Rattle.std.specs.Arc.{arc_value}
 use Rattle.std.specs.declared.alloc.Global.{Global}
 use Rattle.std.specs.declared.sync.Arc.{Arc}
@@ -10,9 +10,9 @@ use Rattle.anti_ids.specs.List.{Listed, plain}
 use Rattle.anti_ids.specs.declared.id.WriteId.{WriteId}
 use Rattle.anti_ids.proofs.IdLemmas.{ascending_filter, has_id-without_id, le-length-with_ids, length-with_id, same_id, same_ids, with_id-there}
 use Rattle.anti_baggage.specs.Reading.{read_lineage}
-use Rattle.anti_baggage.specs.Texts.{lineage_text}
+use Rattle.anti_baggage.specs.Texts.{lineage_text, lineage_text_one}
 use Rattle.anti_baggage.specs.declared.held.Stated.{Stated}
-use Rattle.anti_baggage.specs.inner.Kept.{IsStated, IsTextOf, IsTold}
+use Rattle.anti_baggage.specs.inner.Kept.{IsStated, IsTextOf, IsTold, StatesOver}
 use Rattle.anti_baggage.proofs.TextLaws.{is_its_text}
 
 -- ---- what changes nothing
@@ -50,7 +50,7 @@ with_ids-same (i ∷ is) js asc same =
 pub kept_ascends : (ids : List WriteId) (kept : Arc Stated Global) → IsTextOf ids kept → IsAscending ids
 kept_ascends ids kept is =
     let s = arc_value kept in
-    subst IsAscending is.1 (is_its_text s.stores.items s.text.items s.lineage is.0.1).0.lineage.ascending
+    subst IsAscending is.1 (is_its_text s.stores.items s.text.items s.lineage is.0.1.states).0.lineage.ascending
 
 pub told_stays : (old new : List WriteId) (told : Option (Arc Stated Global)) → (IsAscending old → new ≡ old) → IsTold old told → IsTold new told
 told_stays old new None same is = tt
@@ -58,29 +58,32 @@ told_stays old new (Some kept) same is = (is.0, is.1 ∙ sym (same (kept_ascends
 
 -- ---- texts of what they state
 
--- a text without room that states a lineage is its text
-pub stated_text : (stores : List (List ℕ)) (text : Listed ℕ) (ids others : List WriteId) → text.spare ≡ 0 → read_lineage stores text.items ≡ Ok ids → ids ≡ others
-    → text ≡ plain (lineage_text stores others)
-stated_text stores text ids others spare states same = λ i. record {
-  items = ((is_its_text stores text.items ids states).1 ∙ ap (lineage_text stores) same) i;
-  spare = spare i;
-}
+-- a text without room with the items of a text
+pub plain_text : (text : Listed ℕ) (items : List ℕ) → text.spare ≡ 0 → text.items ≡ items → text ≡ plain items
+plain_text text items spare is = λ i. record { items = is i; spare = spare i }
 
--- the text of no ids states them over any names
-pub root_anywhere : (kept : Stated) (stores : List (List ℕ)) → length kept.lineage ≡ 0 → read_lineage kept.stores.items kept.text.items ≡ Ok kept.lineage
-    → read_lineage stores kept.text.items ≡ Ok kept.lineage
-root_anywhere kept stores none states =
+-- the text of no ids is theirs over any names
+pub root_anywhere : (kept : Stated) (stores : List (List ℕ)) → length kept.lineage ≡ 0 → StatesOver kept.stores.items kept → StatesOver stores kept
+root_anywhere kept stores none is =
     let empty = no_ids kept.lineage none in
-    let text = (is_its_text kept.stores.items kept.text.items kept.lineage states).1 ∙ ap (lineage_text kept.stores.items) empty in
-    ap (read_lineage stores) text ∙ sym (ap (λ (ids : List WriteId). Ok ids) empty)
+    let text : kept.text.items ≡ lineage_text stores [] = is.is ∙ ap (lineage_text kept.stores.items) empty in
+    record {
+      states = ap (read_lineage stores) text ∙ sym (ap (λ (ids : List WriteId). Ok ids) empty);
+      is = text ∙ sym (ap (lineage_text stores) empty);
+      one = if_some kept.text_one (λ one e. e ∙ ap (lineage_text_one kept.stores.items) empty ∙ sym (ap (lineage_text_one stores) empty)) is.one;
+    }
   where
+    if_some : {P Q : Listed ℕ → Type 0} (one : Option (Listed ℕ)) → ((text : Listed ℕ) → P text → Q text) → IfSome one P → IfSome one Q
+    if_some None weaker is = tt
+    if_some (Some text) weaker is = weaker text is
+
     no_ids : (ids : List WriteId) → length ids ≡ 0 → ids ≡ []
     no_ids [] none = refl
     no_ids (i ∷ is) none = absurd (omega (arith, none))
 
 -- what is kept of a lineage is its text over each names over which it states it
 pub kept_text : (ids now : List WriteId) (kept : Arc Stated Global) (value : Stated) (stores : List (List ℕ)) → IsTextOf ids kept → value ≡ arc_value kept
-    → (IsStated value → read_lineage stores value.text.items ≡ Ok value.lineage) → ids ≡ now → (arc_value kept).text ≡ plain (lineage_text stores now)
+    → (IsStated value → StatesOver stores value) → ids ≡ now → (arc_value kept).text ≡ plain (lineage_text stores now)
 kept_text ids now kept value stores told is states same =
-    let stated = subst (λ (s : Stated). IsStated s → read_lineage stores s.text.items ≡ Ok s.lineage) is states told.0 in
-    stated_text stores (arc_value kept).text (arc_value kept).lineage now told.0.0 stated (told.1 ∙ same)
+    let stated = subst (λ (s : Stated). IsStated s → StatesOver stores s) is states told.0 in
+    plain_text (arc_value kept).text (lineage_text stores now) told.0.0 (stated.is ∙ ap (lineage_text stores) (told.1 ∙ same))

@@ -1,6 +1,6 @@
 mod Behind
 mod Bytes
-mod Fronts
+mod Groups
 mod Joined
 mod Kept
 mod Marks

@@ -13,22 +13,22 @@ use Rattle.percent_encoding.specs.Percent.{percent_encode_byte}
 use Rattle.percent_encoding.proofs.PercentLemmas.{IsEscapeByte, All-percent_encode_byte}
 use Rattle.anti_baggage.specs.Escapes.{is_unreserved, escaped_byte, escaped}
 
--- none of the three marks: a comma, a slash, `@`
+-- none of the four marks: a comma, a slash, `@`, a bar
 abbrev pub IsClear : ℕ → Type 0
-IsClear b = (nat_eq b 44 ≡ false) × (nat_eq b 47 ≡ false) × (nat_eq b 64 ≡ false)
+IsClear b = (nat_eq b 44 ≡ false) × (nat_eq b 47 ≡ false) × (nat_eq b 64 ≡ false) × (nat_eq b 124 ≡ false)
 
-clear_from : (b : ℕ) → (b ≡ 44 → ⊥) → (b ≡ 47 → ⊥) → (b ≡ 64 → ⊥) → IsClear b
-clear_from b m n o = (ne_eqb b 44 m, ne_eqb b 47 n, ne_eqb b 64 o)
+clear_from : (b : ℕ) → (b ≡ 44 → ⊥) → (b ≡ 47 → ⊥) → (b ≡ 64 → ⊥) → (b ≡ 124 → ⊥) → IsClear b
+clear_from b m n o p = (ne_eqb b 44 m, ne_eqb b 47 n, ne_eqb b 64 o, ne_eqb b 124 p)
 
 clear_unreserved : (b : ℕ) → is_unreserved b ≡ true → IsClear b
 clear_unreserved b h =
     clear_from b (λ e. let w : is_unreserved 44 ≡ true = ap is_unreserved (sym e) ∙ h in absurd (cc)) (λ e. let w : is_unreserved 47 ≡ true = ap is_unreserved (sym e) ∙ h in absurd (cc))
-    (λ e. let w : is_unreserved 64 ≡ true = ap is_unreserved (sym e) ∙ h in absurd (cc))
+    (λ e. let w : is_unreserved 64 ≡ true = ap is_unreserved (sym e) ∙ h in absurd (cc)) (λ e. let w : is_unreserved 124 ≡ true = ap is_unreserved (sym e) ∙ h in absurd (cc))
 
 clear_escape : (b : ℕ) → IsEscapeByte b → IsClear b
-clear_escape b (inl e) = clear_from b (λ m. omega arith) (λ m. omega arith) (λ m. omega arith)
-clear_escape b (inr (inl e)) = clear_from b (λ m. omega (arith, e.0, e.1)) (λ m. omega (arith, e.0, e.1)) (λ m. omega (arith, e.0, e.1))
-clear_escape b (inr (inr e)) = clear_from b (λ m. omega (arith, e.0, e.1)) (λ m. omega (arith, e.0, e.1)) (λ m. omega (arith, e.0, e.1))
+clear_escape b (inl e) = clear_from b (λ m. omega arith) (λ m. omega arith) (λ m. omega arith) (λ m. omega arith)
+clear_escape b (inr (inl e)) = clear_from b (λ m. omega (arith, e.0, e.1)) (λ m. omega (arith, e.0, e.1)) (λ m. omega (arith, e.0, e.1)) (λ m. omega (arith, e.0, e.1))
+clear_escape b (inr (inr e)) = clear_from b (λ m. omega (arith, e.0, e.1)) (λ m. omega (arith, e.0, e.1)) (λ m. omega (arith, e.0, e.1)) (λ m. omega (arith, e.0, e.1))
 
 clear_byte : (b : ℕ) → All IsClear (escaped_byte b)
 clear_byte b =
@@ -42,7 +42,7 @@ clear_escaped [] = All-nil IsClear
 clear_escaped (b ∷ bs) = All-append IsClear (escaped_byte b) (escaped bs) (clear_byte b) (clear_escaped bs)
 
 clear_digit : (b : ℕ) → IsInRange 48 57 b → IsClear b
-clear_digit b h = clear_from b (λ m. omega (arith, h.0, h.1)) (λ m. omega (arith, h.0, h.1)) (λ m. omega (arith, h.0, h.1))
+clear_digit b h = clear_from b (λ m. omega (arith, h.0, h.1)) (λ m. omega (arith, h.0, h.1)) (λ m. omega (arith, h.0, h.1)) (λ m. omega (arith, h.0, h.1))
 
 -- nor in a number
 pub clear_decimal : (n : ℕ) → n < 2 ^ 64 → All IsClear (decimal n)

@@ -10,7 +10,7 @@ use Rattle.std.proofs.lemmas.Iterator.Adapters.{position_from-zero}
 use Rattle.anti_ids.specs.Names.{is_name_byte, is_name, name_of, judged}
 use Rattle.anti_ids.specs.declared.name.NameFault.TheVariants.{Empty, TooLong}
 use Rattle.anti_ids.proofs.NameLemmas.{none_bad}
-use Rattle.anti_baggage.specs.Reading.{name_in, version_in, named_by, named_in}
+use Rattle.anti_baggage.specs.Reading.{keyed_by, keyed_in, name_in, named_by, named_in, version_in}
 
 good_first : (good all : Bool) (i : ℕ) (more : Option ℕ) → (all ≡ true → more ≡ None) → (good && all) ≡ true → cond (not good) (Some i) more ≡ None
 good_first true all i more h e = h e
@@ -91,7 +91,11 @@ module _ (p : ℕ → Bool) (text : List ℕ) where
 
 -- ---- ids
 
--- the parts of a text are what the definition takes
-pub named_is : (text head rest middle tail : List ℕ) → head ≡ before_first (λ b. nat_eq b 47) text → rest ≡ after_first (λ b. nat_eq b 47) text → middle ≡ before_first (λ b. nat_eq b 64) rest → tail ≡ after_first (λ b. nat_eq b 64) rest
-    → (store key : Option (List ℕ)) (version : Option ℕ) → store ≡ name_in head → key ≡ name_in middle → version ≡ version_in tail → named_by store key version ≡ named_in text
-named_is text head rest middle tail h r m t store key version s k v = rw (s, k, v, h, m, t, r) refl
+-- the parts of a text are what the definitions take
+pub keyed_is : (text middle tail : List ℕ) → middle ≡ before_first (λ b. nat_eq b 64) text → tail ≡ after_first (λ b. nat_eq b 64) text
+    → (key : Option (List ℕ)) (version : Option ℕ) → key ≡ name_in middle → version ≡ version_in tail → keyed_by key version ≡ keyed_in text
+keyed_is text middle tail m t key version k v = rw (k, v, m, t) refl
+
+pub named_is : (text head rest : List ℕ) → head ≡ before_first (λ b. nat_eq b 47) text → rest ≡ after_first (λ b. nat_eq b 47) text
+    → (store : Option (List ℕ)) (keyed : Option (List ℕ × ℕ)) → store ≡ name_in head → keyed ≡ keyed_in rest → named_by store keyed ≡ named_in text
+named_is text head rest h r store keyed s k = rw (s, k, h, r) refl

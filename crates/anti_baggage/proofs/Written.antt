@@ -2,7 +2,7 @@
 use Rattle.std.proofs.Common.{◌≡◌, ℕ, ◌<◌, ◌≤◌, ◌^◌, ◌++◌, List, [], ◌∷◌, Bool, true, false, cond, ◌&&◌, Some, nat_eq, nat_lt, nat_le, length, refl, sym, ap, ◌∙◌, arith}
 use Rattle.std.specs.Prelude.{codes}
 use Rattle.std.specs.Fmt.{decimal}
-use Rattle.std.specs.List.{list_all, before_first, after_first}
+use Rattle.std.specs.List.{list_all}
 use Rattle.std.proofs.lemmas.Bool.{and_parts}
 use Rattle.std.proofs.lemmas.Bool.Decides.{nat_tests}
 use Rattle.std.proofs.lemmas.List.{append_assoc}
@@ -13,8 +13,8 @@ use Rattle.anti_ids.specs.Names.{is_name, is_name_byte}
 use Rattle.anti_ids.specs.declared.limits.TheConstants.{GREATEST_VERSION}
 use Rattle.anti_ids.proofs.Decimals.{decimal_again}
 use Rattle.anti_baggage.specs.Escapes.{is_unreserved, escaped}
-use Rattle.anti_baggage.specs.Texts.{named_text}
-use Rattle.anti_baggage.specs.Reading.{name_in, version_in, named_in}
+use Rattle.anti_baggage.specs.Texts.{keyed_text, named_text}
+use Rattle.anti_baggage.specs.Reading.{keyed_in, name_in, named_in, version_in}
 use Rattle.anti_baggage.proofs.Bytes.{same_itself}
 use Rattle.anti_baggage.proofs.Marks.{IsClear, clear_escaped, before_mark, behind_mark}
 
@@ -44,23 +44,22 @@ name_again name h = rw (decode_escaped name (name_bytes name h), h, same_itself 
 pub version_again : (version : ℕ) → 1 ≤ version → version < 2 ^ 64 → version_in (decimal version) ≡ Some version
 version_again version some small = decimal_again 1 GREATEST_VERSION version some (omega (arith, small)) small
 
--- an id with the name of its store, grouped as it is read
-pub grouped : (store key : List ℕ) (version : ℕ) → named_text store key version ≡ escaped store ++ 47 ∷ (escaped key ++ 64 ∷ decimal version)
-grouped store key version =
-    let rest = escaped key ++ 64 ∷ decimal version in
-    append_assoc (escaped store ++ codes "/" ++ escaped key) (codes "@") (decimal version) ∙ append_assoc (escaped store ++ codes "/") (escaped key) (64 ∷ decimal version) ∙ append_assoc (escaped store) (codes "/") rest
+-- a key and a version, and an id with the name of its store, as they are read
+pub key_first : (key : List ℕ) (version : ℕ) → keyed_text key version ≡ escaped key ++ 64 ∷ decimal version
+key_first key version = append_assoc (escaped key) (codes "@") (decimal version)
 
--- it is read again
+pub store_first : (store key : List ℕ) (version : ℕ) → named_text store key version ≡ escaped store ++ 47 ∷ keyed_text key version
+store_first store key version = append_assoc (escaped store) (codes "/") (keyed_text key version)
+
+-- they are read again
+pub keyed_again : (key : List ℕ) (version : ℕ) → is_name key ≡ true → 1 ≤ version → version < 2 ^ 64 → keyed_in (keyed_text key version) ≡ Some (key, version)
+keyed_again key version k some small =
+    let clear_key = All-weaker IsClear (λ b. nat_eq b 64 ≡ false) (λ b c. c.2) (escaped key) (clear_escaped key) in
+    ap keyed_in (key_first key version) ∙ rw (before_mark 64 (escaped key) (decimal version) clear_key, behind_mark 64 (escaped key) (decimal version) clear_key, name_again key k, version_again version some small) refl
+
 pub named_again : (store key : List ℕ) (version : ℕ) → is_name store ≡ true → is_name key ≡ true → 1 ≤ version → version < 2 ^ 64
     → named_in (named_text store key version) ≡ Some (record { store = store; key = key; version = version })
 named_again store key version s k some small =
-    let rest = escaped key ++ 64 ∷ decimal version in
     let clear_store = All-weaker IsClear (λ b. nat_eq b 47 ≡ false) (λ b c. c.1) (escaped store) (clear_escaped store) in
-    let clear_key = All-weaker IsClear (λ b. nat_eq b 64 ≡ false) (λ b c. c.2) (escaped key) (clear_escaped key) in
-    ap named_in (grouped store key version) ∙ parts (escaped store ++ 47 ∷ rest) (escaped store) rest (escaped key) (decimal version) (before_mark 47 (escaped store) rest clear_store) (behind_mark 47 (escaped store) rest clear_store)
-    (before_mark 64 (escaped key) (decimal version) clear_key) (behind_mark 64 (escaped key) (decimal version) clear_key)
-    (name_again store s) (name_again key k) (version_again version some small)
-  where
-    parts : (text head rest middle tail : List ℕ) → before_first (λ b. nat_eq b 47) text ≡ head → after_first (λ b. nat_eq b 47) text ≡ rest → before_first (λ b. nat_eq b 64) rest ≡ middle → after_first (λ b. nat_eq b 64) rest ≡ tail
-        → name_in head ≡ Some store → name_in middle ≡ Some key → version_in tail ≡ Some version → named_in text ≡ Some (record { store = store; key = key; version = version })
-    parts text head rest middle tail h r m t a b d = rw (h, r, m, t, a, b, d) refl
+    let rest = keyed_text key version in
+    ap named_in (store_first store key version) ∙ rw (before_mark 47 (escaped store) rest clear_store, behind_mark 47 (escaped store) rest clear_store, name_again store s, keyed_again key version k some small) refl

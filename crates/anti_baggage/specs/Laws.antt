@@ -1,15 +1,17 @@
--- Texts and lineages belong together, one to one.
-use Rattle.std.specs.Prelude.{◌≡◌, ℕ, true, List, Ok}
+-- Texts and lineages belong together.
+use Rattle.std.specs.Prelude.{◌≡◌, ◌⊎◌, ℕ, true, List, Ok}
 use Rattle.anti_ids.specs.declared.id.WriteId.{WriteId}
-use Rattle.anti_baggage.specs.Texts.{lineage_text}
+use Rattle.anti_baggage.specs.Texts.{lineage_text, lineage_text_one}
 use Rattle.anti_baggage.specs.Over.{IsOver, are_names}
 use Rattle.anti_baggage.specs.Reading.{read_lineage}
 
--- The text of a lineage states that lineage. So no text is that of two lineages.
-abbrev pub StatesItsLineage : Type 0
-StatesItsLineage =
-    (stores : List (List ℕ)) (ids : List WriteId) → are_names stores ≡ true → IsOver stores ids → read_lineage stores (lineage_text stores ids) ≡ Ok ids
+-- Both texts of a lineage state that lineage. So no text is that of two lineages.
+abbrev pub StatesItsLineage : (List (List ℕ) → List WriteId → List ℕ) → Type 0
+StatesItsLineage text_of =
+    (stores : List (List ℕ)) (ids : List WriteId) → are_names stores ≡ true → IsOver stores ids → read_lineage stores (text_of stores ids) ≡ Ok ids
 
--- What states a lineage is the text of it, which is one over the stores. So no lineage has two texts.
+-- What states a lineage is one of its two texts, and it is a lineage over the stores. So no lineage has a third text.
 abbrev pub IsItsText : Type 0
-IsItsText = (stores : List (List ℕ)) (text : List ℕ) (ids : List WriteId) → read_lineage stores text ≡ Ok ids → IsOver stores ids × (text ≡ lineage_text stores ids)
+IsItsText =
+    (stores : List (List ℕ)) (text : List ℕ) (ids : List WriteId) → read_lineage stores text ≡ Ok ids
+    → IsOver stores ids × ((text ≡ lineage_text stores ids) ⊎ (text ≡ lineage_text_one stores ids))

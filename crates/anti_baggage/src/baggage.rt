@@ -1,8 +1,8 @@
-ghost use Rattle.std.specs.Prelude.{◌≡◌, ◌≤◌, ◌^◌, length, IfOk};
+ghost use Rattle.std.specs.Prelude.{◌≡◌, ◌≤◌, ◌^◌, length, IfOk, IfSome, Ok};
 ghost use Rattle.anti_ids.specs.Answers.{AnswersBut};
 ghost use Rattle.anti_ids.specs.List.{plain};
 ghost use Rattle.anti_baggage.specs.Reading.{read_lineage};
-ghost use Rattle.anti_baggage.specs.Texts.{lineage_text};
+ghost use Rattle.anti_baggage.specs.Texts.{lineage_text, lineage_text_one};
 ghost use Rattle.anti_baggage.specs.declared.fault.BaggageFault.TheVariants as faults;
 
 use crate::carried::Carried;
@@ -13,10 +13,17 @@ use anti_ids::{Bytes, Copies, Lineage, Name, NoMemory};
 use std::alloc::Global;
 use std::marker::Model;
 
-/// The text that goes with a message. A text that was made here of the empty lineage or of a long one keeps this lineage beside it, so that it
-/// need not be read again; one from outside has none. Contracts see the text alone.
+/// The text that goes with a message. A text that was made here keeps beside it the lineage that it states, so that it need not be read again; one
+/// from outside has none. Contracts see the text alone.
 pub struct Baggage {
     pub(crate) held: Held,
+}
+
+/// What a text is known to state: a lineage, and its text of version 1 where that is kept.
+#[derive(Drop)]
+pub struct Told<'a> {
+    pub lineage: &'a Lineage,
+    pub text_one: Option<&'a [u8]>,
 }
 
 impl Model for Baggage {
@@ -71,7 +78,24 @@ impl Baggage {
         }
     }
 
-    /// The lineage of which it is the text, over the names of the stores by their numbers, which fit in 32 bits; or the first fault, as `decode` has it.
+    /// What it is known to state over the names of the stores by their numbers. `None` says nothing: `lineage` tells. It takes no memory.
+    pub fn told(&self, stores: &[Name]) -> Option<Told>
+        ensures states { IfSome result (λ told. read_lineage stores.now self.now.items ≡ Ok told.lineage.now) }
+        ensures one { IfSome result (λ told. IfSome told.text_one (λ text. text.now ≡ lineage_text_one stores.now told.lineage.now)) }
+    {
+        match &self.held {
+            Held::Known(kept) if states_over(kept, stores) => Some(Told {
+                lineage: &kept.lineage,
+                text_one: match &kept.text_one {
+                    Some(text) => Some(text.bytes()),
+                    None => None,
+                },
+            }),
+            _ => None,
+        }
+    }
+
+    /// The lineage that it states, over the names of the stores by their numbers, which fit in 32 bits; or the first fault, as `decode` has it.
     pub fn lineage(&self, alloc: Global, stores: &[Name]) -> Result<Lineage, BaggageFault>
         requires { length stores.now ≤ 2 ^ 32 }
         ensures { AnswersBut faults.NoMemory result (read_lineage stores.now self.now.items) }

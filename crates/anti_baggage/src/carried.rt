@@ -7,7 +7,7 @@ ghost use Rattle.anti_baggage.specs.Texts.{lineage_text};
 ghost use Rattle.anti_baggage.specs.inner.Kept.{IsStated};
 
 use crate::baggage::Baggage;
-use crate::held::{Held, Stated, share, states_over, text_held};
+use crate::held::{Held, Stated, serves_again, share, states_over, text_held, with_text_one};
 use anti_ids::{Copies, Lineage, LineageRefused, Name, NoMemory, WriteId};
 use std::alloc::Global;
 use std::marker::Model;
@@ -139,15 +139,17 @@ impl Carried {
         ensures text { IfOk result (λ b. b ≡ plain (lineage_text stores.now self.old)) }
         ensures same { self.new ≡ self.old }
     {
-        match &self.told {
+        let held = match &self.told {
             Some(kept) if states_over(kept, stores) => {
-                return Ok(Baggage {
-                    held: Held::Known(share(kept)?),
-                });
+                if serves_again(kept) {
+                    return Ok(Baggage {
+                        held: Held::Known(share(kept)?),
+                    });
+                }
+                Held::Known(with_text_one(alloc, stores, kept)?)
             }
-            _ => {}
-        }
-        let held = text_held(alloc, stores, &self.lineage)?;
+            _ => text_held(alloc, stores, &self.lineage)?,
+        };
         if let Held::Known(kept) = &held {
             self.told = Some(share(kept)?);
         }

@@ -4,8 +4,8 @@ use thiserror::Error;
 /// in this order.
 #[derive(Clone, Copy, Debug, PartialEq, Eq, Error)]
 pub enum BaggageFault {
-    /// The bytes do not begin with `1;`.
-    #[error("the text does not begin with 1;")]
+    /// The bytes begin neither with `1;` nor with `2;`.
+    #[error("the text begins neither with 1; nor with 2;")]
     BadHead,
     /// The text of this number is no id.
     #[error("id {0} of the text is none")]
@@ -13,8 +13,8 @@ pub enum BaggageFault {
     /// No store has the name that this id gives.
     #[error("no store has the name that id {0} gives")]
     UnknownStore(u32),
-    /// This id is not above the one before it.
-    #[error("id {0} is not above the one before it")]
+    /// This id is not above the one before it, or it opens a group of the same store.
+    #[error("id {0} is not above the one before it, or opens a group of the same store")]
     NotAscending(u32),
     /// This id is one more than a lineage may have.
     #[error("id {0} is one more than a lineage may have")]

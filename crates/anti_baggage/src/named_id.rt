@@ -4,7 +4,7 @@ ghost use Rattle.std.specs.List.{before_first, after_first};
 ghost use Rattle.std.specs.Option.{option_map};
 ghost use Rattle.percent_encoding.specs.Percent.{percent_decode};
 ghost use Rattle.anti_ids.specs.Names.{is_name};
-ghost use Rattle.anti_baggage.specs.Reading.{name_in, version_in, named_in};
+ghost use Rattle.anti_baggage.specs.Reading.{keyed_in, name_in, named_in, version_in};
 ghost use Rattle.anti_baggage.specs.Steps.{as_named};
 
 use crate::escapes::is_escaped;
@@ -72,15 +72,34 @@ fn cut(text: &[u8], mark: u8) -> (&[u8], &[u8])
     }
 }
 
+/// Reads a key, `@` and a version.
+pub fn keyed_in(text: &[u8]) -> Option<(Name, u64)>
+    ensures { result ≡ keyed_in text.now }
+{
+    let (key, version) = cut(text, b'@');
+    let Some(key) = name_in(key) else {
+        return None;
+    };
+    let Some(version) = version_in(version) else {
+        return None;
+    };
+    Some((key, version))
+}
+
 /// Reads a store, a slash, a key, `@` and a version.
 pub fn named_in(text: &[u8]) -> Option<Named>
     ensures { option_map as_named result ≡ named_in text.now }
 {
     let (store, rest) = cut(text, b'/');
-    let (key, version) = cut(rest, b'@');
+    let Some(store) = name_in(store) else {
+        return None;
+    };
+    let Some((key, version)) = keyed_in(rest) else {
+        return None;
+    };
     Some(Named {
-        store: name_in(store)?,
-        key: name_in(key)?,
-        version: version_in(version)?,
+        store,
+        key,
+        version,
     })
 }

@@ -16,6 +16,7 @@ pub struct Blob {
 impl Drop for Blob {
     fn drop(self) {
         let Blob { base } = self;
+        drop(base);
     }
 }
 

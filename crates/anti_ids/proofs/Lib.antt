@@ -7,6 +7,6 @@ pub mod PartLemmas
 pub mod LeftLemmas
 pub mod GoneLemmas
 pub mod Decimals
-mod StoreLemmas
+pub mod StoreLemmas
 mod WalkLemmas
 mod RangeLemmas

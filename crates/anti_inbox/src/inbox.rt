@@ -38,14 +38,17 @@ pub struct Inbox {
 impl Drop for Inbox {
     fn drop(self) {
         let Inbox {
-            requests,
+            requests: _,
             messages,
             fates,
             free,
-            held,
-            owed,
-            alloc,
+            held: _,
+            owed: _,
+            alloc: _,
         } = self;
+        drop(messages);
+        drop(fates);
+        drop(free);
     }
 }
 

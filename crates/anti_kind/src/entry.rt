@@ -20,15 +20,17 @@ pub struct Entry {
 impl Drop for Entry {
     fn drop(self) {
         let Entry {
-            stamp,
-            object,
-            place,
-            seat,
-            actor,
-            span,
+            stamp: _,
+            object: _,
+            place: _,
+            seat: _,
+            actor: _,
+            span: _,
             call,
             reply,
         } = self;
+        drop(call);
+        drop(reply);
     }
 }
 

@@ -38,10 +38,11 @@ impl<M: Machine> Model for Lone<M> {
 impl<M: Machine + Drop> Drop for Lone<M> {
     fn drop(self) {
         let Lone {
-            object,
+            object: _,
             recorded,
-            visits,
+            visits: _,
         } = self;
+        drop(recorded);
     }
 }
 

@@ -55,8 +55,10 @@ impl<M: Machine + Drop> Drop for Recorded<M> {
         let Recorded {
             machine,
             history,
-            last,
+            last: _,
         } = self;
+        drop(machine);
+        drop(history);
     }
 }
 

@@ -15,6 +15,7 @@ pub struct Kv {
 impl Drop for Kv {
     fn drop(self) {
         let Kv { base } = self;
+        drop(base);
     }
 }
 

@@ -24,6 +24,8 @@ pub struct SpanAnswer {
 impl Drop for SpanAnswer {
     fn drop(self) {
         let SpanAnswer { span, answer } = self;
+        drop(span);
+        drop(answer);
     }
 }
 

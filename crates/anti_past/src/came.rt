@@ -35,6 +35,7 @@ pub struct AllCame {
 impl Drop for AllCame {
     fn drop(self) {
         let AllCame { spans } = self;
+        drop(spans);
     }
 }
 

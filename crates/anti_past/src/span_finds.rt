@@ -16,6 +16,7 @@ pub struct SpanFinds {
 impl Drop for SpanFinds {
     fn drop(self) {
         let SpanFinds { stores } = self;
+        drop(stores);
     }
 }
 

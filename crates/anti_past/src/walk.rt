@@ -27,11 +27,14 @@ pub struct Walk {
 impl Drop for Walk {
     fn drop(self) {
         let Walk {
-            alloc,
+            alloc: _,
             cursor,
             came,
             found,
         } = self;
+        drop(cursor);
+        drop(came);
+        drop(found);
     }
 }
 

@@ -345,7 +345,7 @@ heard value baggage = replies.Got 7 (message_of kinds.Reply 7 0 (codes "none") v
 abbrev call_write : List Step
 call_write = call_x ∷ statements.Write (codes "s") (keys.Of x) (Of x) None false ∷ []
 
-posted : does call_write (codes "v") [] ≡ posts kinds.Call 1 (codes "v") (codes "1;")
+posted : does call_write (codes "v") [] ≡ posts kinds.Call 1 (codes "v") (codes "2;")
 posted = refl
 
 waits : does call_write [] (replies.Posted 7 ∷ []) ≡ Make 1 1 (calls.TakeReply 7)
@@ -382,11 +382,11 @@ full_by_reply : (baggage : List ℕ) (ids carried : List WriteId) → States bag
 full_by_reply baggage ids carried states many = rw (states, many) refl
 
 -- the text in the message holds the id of the write before it
-in_baggage : does (write ∷ call_x ∷ []) [] (replies.Written key 4 None ∷ []) ≡ posts kinds.Call 1 [] (codes "1;s/k@4")
+in_baggage : does (write ∷ call_x ∷ []) [] (replies.Written key 4 None ∷ []) ≡ posts kinds.Call 1 [] (codes "2;s/k@4")
 unfolding digits
 in_baggage = refl
 
-sent : does (write ∷ send ∷ read ∷ []) (codes "v") (replies.Written key 4 None ∷ []) ≡ posts kinds.Send 1 (codes "v") (codes "1;s/k@4")
+sent : does (write ∷ send ∷ read ∷ []) (codes "v") (replies.Written key 4 None ∷ []) ≡ posts kinds.Send 1 (codes "v") (codes "2;s/k@4")
 unfolding digits
 sent = refl
 
@@ -400,31 +400,31 @@ goes_on = refl
 abbrev answers : ℕ → List ℕ → List ℕ → Want
 answers span value baggage = Make 1 span (calls.Post (message_of kinds.Reply 3 0 (codes "here") value baggage))
 
-answered : owing reply_owed 1 (write ∷ statements.Reply (Literal (codes "done")) ∷ []) [] (replies.Written key 4 None ∷ []) ≡ answers 1 (codes "done") (codes "1;s/k@4")
+answered : owing reply_owed 1 (write ∷ statements.Reply (Literal (codes "done")) ∷ []) [] (replies.Written key 4 None ∷ []) ≡ answers 1 (codes "done") (codes "2;s/k@4")
 unfolding digits
 answered = refl
 
 then_over : owing reply_owed 1 (statements.Reply Input ∷ []) [] (replies.Posted 9 ∷ []) ≡ Over Fine
 then_over = refl
 
-nacked : owing reply_owed 1 (statements.Nack ∷ read ∷ []) [] [] ≡ answers 1 [] (codes "1;")
+nacked : owing reply_owed 1 (statements.Nack ∷ read ∷ []) [] [] ≡ answers 1 [] (codes "2;")
 nacked = refl
 
 -- Behind `root` the reply carries what came to the new span.
-rooted_reply : owing reply_owed 1 (write ∷ statements.Root ∷ statements.Reply Input ∷ []) (codes "v") (replies.Written key 4 None ∷ []) ≡ answers 2 (codes "v") (codes "1;")
+rooted_reply : owing reply_owed 1 (write ∷ statements.Root ∷ statements.Reply Input ∷ []) (codes "v") (replies.Written key 4 None ∷ []) ≡ answers 2 (codes "v") (codes "2;")
 rooted_reply = refl
 
-bad_key_answers : owing reply_owed 1 (statements.Reply (Literal (codes "set")) ∷ statements.Read (codes "s") keys.Input x ∷ []) [] [] ≡ answers 1 (codes "set") (codes "1;")
+bad_key_answers : owing reply_owed 1 (statements.Reply (Literal (codes "set")) ∷ statements.Read (codes "s") keys.Input x ∷ []) [] [] ≡ answers 1 (codes "set") (codes "2;")
 bad_key_answers = refl
 
 bad_key_then : owing reply_owed 1 (statements.Reply (Literal (codes "set")) ∷ statements.Read (codes "s") keys.Input x ∷ []) [] (replies.Posted 9 ∷ []) ≡ Over BadKey
 bad_key_then = refl
 
 -- a message of depth 8 is the deepest
-deepest : owing reply_owed 7 (call_x ∷ []) [] [] ≡ posts kinds.Call 8 [] (codes "1;")
+deepest : owing reply_owed 7 (call_x ∷ []) [] [] ≡ posts kinds.Call 8 [] (codes "2;")
 deepest = refl
 
-too_deep : owing reply_owed 8 (write ∷ call_x ∷ []) [] (replies.Written key 4 None ∷ []) ≡ answers 1 [] (codes "1;s/k@4")
+too_deep : owing reply_owed 8 (write ∷ call_x ∷ []) [] (replies.Written key 4 None ∷ []) ≡ answers 1 [] (codes "2;s/k@4")
 unfolding digits
 too_deep = refl
 
@@ -441,7 +441,7 @@ message_to kind depth handler baggage = message_of kind 0 depth handler (codes "
 
 -- the process of a call of a handler with an empty body
 at_once : next_of (tree_of one_store (taken_with (message_to kinds.Call 1 (codes "h") (codes "1;")))) []
-    ≡ Make 1 1 (calls.Post (message_of kinds.Reply 3 0 (codes "h") [] (codes "1;")))
+    ≡ Make 1 1 (calls.Post (message_of kinds.Reply 3 0 (codes "h") [] (codes "2;")))
 at_once = refl
 
 -- what a body does that is begun with what came with such a message, which was taken from the inbox of the service `w`
@@ -459,7 +459,7 @@ first_carried : (baggage : List ℕ) → States baggage (its_id 0 2 ∷ []) → 
 first_carried baggage states = rw states refl
 
 its_reply : (baggage : List ℕ) → States baggage (its_id 0 2 ∷ [])
-    → begun_by kinds.Call write_reply baggage (replies.Written key 4 None ∷ []) ≡ Make 1 1 (calls.Post (message_of kinds.Reply 3 0 (codes "h") (codes "ok") (codes "1;s/k@2,s/k@4")))
+    → begun_by kinds.Call write_reply baggage (replies.Written key 4 None ∷ []) ≡ Make 1 1 (calls.Post (message_of kinds.Reply 3 0 (codes "h") (codes "ok") (codes "2;s/k@2,k@4")))
 unfolding digits
 its_reply baggage states = rw states refl
 

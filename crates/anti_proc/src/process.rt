@@ -43,12 +43,15 @@ pub struct Process {
 impl Drop for Process {
     fn drop(self) {
         let Process {
-            alloc,
+            alloc: _,
             birth,
             role,
-            clock,
+            clock: _,
             life,
         } = self;
+        drop(birth);
+        drop(role);
+        drop(life);
     }
 }
 

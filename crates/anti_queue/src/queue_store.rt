@@ -28,8 +28,12 @@ impl Drop for Queue {
             channels,
             subscribers,
             messages,
-            tries,
+            tries: _,
         } = self;
+        drop(base);
+        drop(channels);
+        drop(subscribers);
+        drop(messages);
     }
 }
 

@@ -22,6 +22,7 @@ pub struct Channels {
 impl Drop for Channels {
     fn drop(self) {
         let Channels { counts } = self;
+        drop(counts);
     }
 }
 

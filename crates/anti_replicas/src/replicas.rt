@@ -34,19 +34,23 @@ pub struct Replicas {
 impl Drop for Replicas {
     fn drop(self) {
         let Replicas {
-            store,
-            kind,
-            replicas,
+            store: _,
+            kind: _,
+            replicas: _,
             regions,
             kept,
             backlogs,
-            upto,
+            upto: _,
             newest,
-            longest,
-            held,
-            owed,
-            alloc,
+            longest: _,
+            held: _,
+            owed: _,
+            alloc: _,
         } = self;
+        drop(regions);
+        drop(kept);
+        drop(backlogs);
+        drop(newest);
     }
 }
 

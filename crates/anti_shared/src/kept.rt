@@ -42,10 +42,12 @@ impl<M: Machine> Model for Kept<M> {
 impl<M: Machine + Drop> Drop for Kept<M> {
     fn drop(self) {
         let Kept {
-            object,
+            object: _,
             recorded,
             first,
         } = self;
+        drop(recorded);
+        drop(first);
     }
 }
 

@@ -33,7 +33,8 @@ impl<M: Machine> Model for Shared<M> {
 // By hand, so that no caller sees the fields.
 impl<M: Machine + Drop> Drop for Shared<M> {
     fn drop(self) {
-        let Shared { turn, object } = self;
+        let Shared { turn, object: _ } = self;
+        drop(turn);
     }
 }
 

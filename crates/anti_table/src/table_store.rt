@@ -16,6 +16,7 @@ pub struct Table {
 impl Drop for Table {
     fn drop(self) {
         let Table { base } = self;
+        drop(base);
     }
 }
 

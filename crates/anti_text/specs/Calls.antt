@@ -1,6 +1,7 @@
 -- The words of a call and of a reply.
 use Rattle.std.specs.Prelude.{ℕ, List, [], ◌∷◌, ◌++◌, ◌==◌, Option, None, Some, codes, decimal, if◌then◌else◌}
 use Rattle.std.specs.List.{join_by}
+use Rattle.std.specs.Option.{option_map_or}
 use Rattle.anti_ids.specs.declared.id.WriteId.{WriteId}
 use Rattle.anti_kind.specs.declared.call.Call.{Call}
 use Rattle.anti_kind.specs.declared.call.Call.TheVariants as calls
@@ -11,6 +12,7 @@ use Rattle.anti_kind.specs.declared.call.Reply.{Reply}
 use Rattle.anti_kind.specs.declared.call.Reply.TheVariants as replies
 use Rattle.anti_kind.specs.declared.row.Row.{Row}
 use Rattle.anti_app.specs.declared.app.App.{App}
+use Rattle.anti_proc.specs.Stated.{stated_lineage}
 use Rattle.anti_text.specs.Words.{region_name, sub_name_on, quoted, lineage_text}
 
 -- the kind, and what a message says: the handler, the depth, the value and the lineage
@@ -20,22 +22,28 @@ kind_text messages.Call = codes "call"
 kind_text messages.Send = codes "send"
 kind_text messages.Reply = codes "reply"
 
-abbrev pub value_and_baggage : Message → List ℕ
-value_and_baggage m = quoted m.value ++ codes " " ++ m.baggage.items
+-- the lineage that a message carries, whatever the version of its text; nothing where its text states none
+abbrev pub carried_text : App → Message → List ℕ
+carried_text app m = option_map_or (lineage_text app) (stated_lineage app m) []
 
-abbrev pub handler_and_rest : Message → List ℕ
-handler_and_rest m = m.handler ++ codes " " ++ decimal m.depth ++ codes " " ++ value_and_baggage m
+abbrev pub value_and_baggage : App → Message → List ℕ
+value_and_baggage app m = quoted m.value ++ codes " " ++ carried_text app m
+
+abbrev pub handler_and_rest : App → Message → List ℕ
+handler_and_rest app m =
+    m.handler ++ codes " " ++ decimal m.depth ++ codes " " ++ value_and_baggage app m
 
 -- a message as it is posted: a reply says to which call it goes
-abbrev pub posted_text : Message → MessageKind → List ℕ
-posted_text m messages.Reply = codes "reply " ++ decimal m.to ++ codes " " ++ value_and_baggage m
-posted_text m kind = kind_text kind ++ codes " " ++ handler_and_rest m
+abbrev pub posted_text : App → Message → MessageKind → List ℕ
+posted_text app m messages.Reply =
+    codes "reply " ++ decimal m.to ++ codes " " ++ value_and_baggage app m
+posted_text app m kind = kind_text kind ++ codes " " ++ handler_and_rest app m
 
 -- a message as it is taken: a reply to a call says its value and its lineage alone
-abbrev pub taken_text : ℕ → Message → MessageKind → List ℕ
-taken_text number m messages.Reply = value_and_baggage m
-taken_text number m kind =
-    decimal number ++ codes " " ++ kind_text kind ++ codes " " ++ handler_and_rest m
+abbrev pub taken_text : App → ℕ → Message → MessageKind → List ℕ
+taken_text app number m messages.Reply = value_and_baggage app m
+taken_text app number m kind =
+    decimal number ++ codes " " ++ kind_text kind ++ codes " " ++ handler_and_rest app m
 
 -- a key at a region, and a version and its part at a region
 abbrev pub key_at_region : App → ℕ → List ℕ → List ℕ
@@ -65,7 +73,7 @@ call_text app object (calls.Repull sub version) =
     codes "repull " ++ sub_name_on app object sub ++ codes " " ++ decimal version
 call_text app object (calls.Ack version) = codes "ack " ++ decimal version
 call_text app object (calls.Nack version) = codes "nack " ++ decimal version
-call_text app object (calls.Post message) = codes "post " ++ posted_text message message.kind
+call_text app object (calls.Post message) = codes "post " ++ posted_text app message message.kind
 call_text app object (calls.Take nth) = codes "take " ++ decimal nth
 call_text app object (calls.Repost number) = codes "repost " ++ decimal number
 call_text app object (calls.TakeReply number) = codes "takereply " ++ decimal number
@@ -103,5 +111,6 @@ reply_text app (replies.Missing missing unwritten) = look_text app missing unwri
 reply_text app replies.Moved = codes "moved"
 reply_text app (replies.Pulled row) = row_text app row
 reply_text app (replies.Posted number) = codes "posted " ++ decimal number
-reply_text app (replies.Got number message) = codes "got " ++ taken_text number message message.kind
+reply_text app (replies.Got number message) =
+    codes "got " ++ taken_text app number message message.kind
 reply_text app replies.Done = codes "done"

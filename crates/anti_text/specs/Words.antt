@@ -52,6 +52,6 @@ mark_text app object place = object_name app object ++ codes "." ++ decimal plac
 abbrev pub quoted : List ℕ → List ℕ
 quoted value = codes "\"" ++ escaped value ++ codes "\""
 
--- a lineage, as `1;posts/p1@3,posts/n%231@4`
+-- a lineage in its text of version 1, as `1;posts/p1@3,posts/n%231@4`
 abbrev pub lineage_text : App → List WriteId → List ℕ
-lineage_text app ids = texts.lineage_text (store_names app) ids
+lineage_text app ids = texts.lineage_text_one (store_names app) ids

@@ -22,48 +22,64 @@ pub fn kind_text(kind: MessageKind) -> &'static [u8]
 }
 
 /// Writes what a reply to a call says.
-pub fn value_and_baggage(out: &mut Output, message: &Message) -> Result<(), NoMemory>
-    ensures { OnOk result (out.new ≡ out.old ++ value_and_baggage message.now) }
+pub fn value_and_baggage(
+    out: &mut Output,
+    printer: &Printer,
+    message: &Message,
+) -> Result<(), NoMemory>
+    ensures { OnOk result (out.new ≡ out.old
+        ++ value_and_baggage printer.now.app.now message.now) }
 {
     quoted(out, message.value.bytes())?;
     out.put(b" ")?;
-    out.put(message.baggage.bytes())
+    printer.carried(out, message)
 }
 
 /// Writes what a message to a handler says.
-pub fn handler_and_rest(out: &mut Output, message: &Message) -> Result<(), NoMemory>
-    ensures { OnOk result (out.new ≡ out.old ++ handler_and_rest message.now) }
+pub fn handler_and_rest(
+    out: &mut Output,
+    printer: &Printer,
+    message: &Message,
+) -> Result<(), NoMemory>
+    ensures { OnOk result (out.new ≡ out.old
+        ++ handler_and_rest printer.now.app.now message.now) }
 {
     out.put(message.handler.bytes())?;
     out.numbered(b" ", u64::from(message.depth))?;
     out.put(b" ")?;
-    value_and_baggage(out, message)
+    value_and_baggage(out, printer, message)
 }
 
 // Writes a message as it is posted.
-fn posted_text(out: &mut Output, message: &Message, kind: MessageKind) -> Result<(), NoMemory>
-    ensures { OnOk result (out.new ≡ out.old ++ posted_text message.now kind) }
+fn posted_text(
+    out: &mut Output,
+    printer: &Printer,
+    message: &Message,
+    kind: MessageKind,
+) -> Result<(), NoMemory>
+    ensures { OnOk result (out.new ≡ out.old
+        ++ posted_text printer.now.app.now message.now kind) }
 {
     match kind {
         MessageKind::Reply => {
             out.numbered(b"reply ", u64::from(message.to))?;
             out.put(b" ")?;
-            value_and_baggage(out, message)
+            value_and_baggage(out, printer, message)
         }
         MessageKind::Request | MessageKind::Call | MessageKind::Send => {
             out.put_all(&[kind_text(kind), b" "])?;
-            handler_and_rest(out, message)
+            handler_and_rest(out, printer, message)
         }
     }
 }
 
 // Writes the call that posts a message.
-fn post_text(out: &mut Output, message: &Message) -> Result<(), NoMemory>
+fn post_text(out: &mut Output, printer: &Printer, message: &Message) -> Result<(), NoMemory>
     ensures { OnOk result (out.new ≡ out.old
-        ++ codes "post " ++ posted_text message.now message.now.kind) }
+        ++ codes "post " ++ posted_text printer.now.app.now message.now message.now.kind) }
 {
     out.put(b"post ")?;
-    posted_text(out, message, message.kind)
+    posted_text(out, printer, message, message.kind)
 }
 
 // Writes a word and a key at a region.
@@ -196,7 +212,7 @@ pub fn call_text(
         Call::Repull { sub, version } => repull_text(out, app, object, *sub, *version),
         Call::Ack { version } => out.numbered(b"ack ", *version),
         Call::Nack { version } => out.numbered(b"nack ", *version),
-        Call::Post { message } => post_text(out, message.get()),
+        Call::Post { message } => post_text(out, printer, message.get()),
         Call::Take { nth } => out.numbered(b"take ", u64::from(*nth)),
         Call::Repost { number } => out.numbered(b"repost ", u64::from(*number)),
         Call::TakeReply { number } => out.numbered(b"takereply ", u64::from(*number)),

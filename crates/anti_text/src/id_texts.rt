@@ -1,6 +1,6 @@
 ghost use Rattle.std.specs.Prelude.{◌≡◌, ◌++◌, ◌∷◌, ◌<◌, Some, true, length, map, slice_get, IfNone, IfOk, IfSome, OnOk};
 ghost use Rattle.std.specs.List.{flat_map};
-ghost use Rattle.anti_baggage.specs.Texts.{lineage_text};
+ghost use Rattle.anti_baggage.specs.Texts.{lineage_text_one};
 ghost use Rattle.anti_text.specs.inner.Runs.{IsRun, kept_text, run_text};
 
 use crate::lists::item_at;
@@ -146,7 +146,7 @@ impl IdTexts {
 
     /// Writes a lineage.
     pub fn lineage(&self, out: &mut Output, lineage: &Lineage) -> Result<(), NoMemory>
-        ensures { OnOk result (out.new ≡ out.old ++ lineage_text self.now.stores.items lineage.now) }
+        ensures { OnOk result (out.new ≡ out.old ++ lineage_text_one self.now.stores.items lineage.now) }
     {
         out.put(b"1;")?;
         if lineage.is_empty() {

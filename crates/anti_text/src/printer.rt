@@ -2,17 +2,23 @@ ghost use Rattle.std.specs.Prelude.{◌≡◌, ◌++◌, IfOk, OnOk};
 ghost use Rattle.std.specs.List.{flat_map};
 ghost use Rattle.anti_app.specs.Objects.{store_names};
 ghost use Rattle.anti_text.specs.Spans.{spaced_mark};
+ghost use Rattle.anti_text.specs.Calls.{carried_text};
 ghost use Rattle.anti_text.specs.Words.{lineage_text};
 
 use crate::id_texts::IdTexts;
 use crate::mark_texts::MarkTexts;
 use crate::output::Output;
 use anti_app::{App, store_names};
+use anti_baggage::BaggageFault;
 use anti_ids::{Lineage, NoMemory};
+use anti_kind::Message;
 use anti_order::{Marks, OrderAnswer};
 use anti_report::Report;
 use anti_trace::Mark;
 use std::alloc::Global;
+
+// The most names over which baggage is read: their numbers fit in 32 bits.
+const MOST_NAMES: usize = 1 << 32;
 
 /// What the lines of a record are printed of: an application, and the texts that come again and again, each made once.
 #[derive(Drop)]
@@ -58,6 +64,28 @@ impl<'a> Printer<'a> {
         ensures { OnOk result (out.new ≡ out.old ++ lineage_text self.now.app.now lineage.now) }
     {
         self.ids.lineage(out, lineage)
+    }
+
+    /// Writes the lineage that a message carries; nothing where its text states none.
+    pub fn carried(&self, out: &mut Output, message: &Message) -> Result<(), NoMemory>
+        ensures { OnOk result
+            (out.new ≡ out.old ++ carried_text self.now.app.now message.now) }
+    {
+        let stores = self.ids.stores.as_slice();
+        if let Some(told) = message.baggage.told(stores) {
+            return match told.text_one {
+                Some(text) => out.put(text),
+                None => self.lineage(out, told.lineage),
+            };
+        }
+        if stores.len() > MOST_NAMES {
+            return Err(NoMemory); // a document has far fewer
+        }
+        match message.baggage.lineage(self.alloc, stores) {
+            Ok(lineage) => self.lineage(out, &lineage),
+            Err(BaggageFault::NoMemory) => Err(NoMemory),
+            Err(_) => Ok(()),
+        }
     }
 
     /// Writes marks, each behind a space.

@@ -11,18 +11,20 @@ use anti_kind::{Handle, Message, MessageKind, Reply, Row};
 // Writes a message as it is taken.
 fn taken_text(
     out: &mut Output,
+    printer: &Printer,
     number: u32,
     message: &Message,
     kind: MessageKind,
 ) -> Result<(), NoMemory>
-    ensures { OnOk result (out.new ≡ out.old ++ taken_text number message.now kind) }
+    ensures { OnOk result (out.new ≡ out.old
+        ++ taken_text printer.now.app.now number message.now kind) }
 {
     match kind {
-        MessageKind::Reply => value_and_baggage(out, message),
+        MessageKind::Reply => value_and_baggage(out, printer, message),
         MessageKind::Request | MessageKind::Call | MessageKind::Send => {
             out.number(u64::from(number))?;
             out.put_all(&[b" ", kind_text(kind), b" "])?;
-            handler_and_rest(out, message)
+            handler_and_rest(out, printer, message)
         }
     }
 }
@@ -126,7 +128,7 @@ pub fn reply_text(out: &mut Output, printer: &Printer, reply: &Reply) -> Result<
         Reply::Posted(number) => out.numbered(b"posted ", u64::from(*number)),
         Reply::Got { number, message } => {
             out.put(b"got ")?;
-            taken_text(out, *number, message.get(), message.get().kind)
+            taken_text(out, printer, *number, message.get(), message.get().kind)
         }
         Reply::Done => out.put(b"done"),
     }

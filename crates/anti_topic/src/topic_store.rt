@@ -26,6 +26,10 @@ impl Drop for Topic {
             subs,
             cursors,
         } = self;
+        drop(base);
+        drop(channels);
+        drop(subs);
+        drop(cursors);
     }
 }
 

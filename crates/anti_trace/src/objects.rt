@@ -39,6 +39,7 @@ pub struct ObjectsAfter {
 impl Drop for ObjectsAfter {
     fn drop(self) {
         let ObjectsAfter { objects } = self;
+        drop(objects);
     }
 }
 

@@ -23,6 +23,7 @@ pub struct Processes {
 impl Drop for Processes {
     fn drop(self) {
         let Processes { at } = self;
+        drop(at);
     }
 }
 

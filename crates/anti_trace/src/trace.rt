@@ -26,6 +26,7 @@ impl Model for Trace {
 impl Drop for Trace {
     fn drop(self) {
         let Trace { entries } = self;
+        drop(entries);
     }
 }
 

@@ -36,7 +36,8 @@ pub struct Trail {
 // By hand, so that no caller sees the fields.
 impl Drop for Trail {
     fn drop(self) {
-        let Trail { is_kept, at } = self;
+        let Trail { is_kept: _, at } = self;
+        drop(at);
     }
 }
 

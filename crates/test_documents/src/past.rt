@@ -9,7 +9,7 @@ use crate::call_rows::served;
 use crate::pulls::BARRIER_WAITS;
 use crate::run_rows::{PlayedRun, Wanted, assert_run, assert_runs};
 use anti_app::store_names;
-use anti_baggage::encode;
+use anti_baggage::encode_one;
 use anti_ids::{Lineage, Name};
 use anti_kind::{Actor, Entry};
 use anti_past::{Span, carried, first_loss, reads, settled, spans};
@@ -316,7 +316,7 @@ fn is_later(entry: &Entry) -> bool
 
 // Whether a lineage has this text, over the names of the stores.
 fn has_text(alloc: Global, stores: &[Name], lineage: &Lineage, text: &str) -> bool {
-    match encode(alloc, stores, lineage) {
+    match encode_one(alloc, stores, lineage) {
         Ok(found) => found.bytes() == text.as_bytes(),
         Err(_) => false,
     }

@@ -1,7 +1,9 @@
 ghost use Rattle.std.specs.Prelude.{◌^◌, ◌≤◌, length};
 
 use crate::made::{assert_at, assert_of, assert_so, versions};
-use anti_baggage::{Baggage, BaggageFault, Carried, decode, encode, escape, texts_state_lineages};
+use anti_baggage::{
+    Baggage, BaggageFault, Carried, decode, encode, encode_one, escape, texts_state_lineages,
+};
 use anti_ids::{Bytes, Copies, Lineage, List, Name};
 use std::alloc::Global;
 
@@ -13,9 +15,14 @@ fn stores() -> Option<[Name; 2]> {
     }
 }
 
-// Whether a lineage has just this text.
+// Whether a lineage has just this text of the version that the text has.
 fn has_text(alloc: Global, stores: &[Name], lineage: &Lineage, text: &[u8]) -> bool {
-    match encode(alloc, stores, lineage) {
+    let made = if text.starts_with(b"1;") {
+        encode_one(alloc, stores, lineage)
+    } else {
+        encode(alloc, stores, lineage)
+    };
+    match made {
         Ok(found) => found.bytes() == text,
         Err(_) => false,
     }
@@ -50,7 +57,7 @@ fn comes_to(alloc: Global, text: &[u8], wanted: &Result<(), BaggageFault>) -> bo
 }
 
 // Texts, and what each comes to.
-static TEXTS: [(&[u8], Result<(), BaggageFault>); 24] = [
+static TEXTS: [(&[u8], Result<(), BaggageFault>); 39] = [
     (b"1;", Ok(())),
     (b"1;posts/p1@1,notes/n%231@7", Ok(())),
     (b"1;posts/a@18446744073709551615", Ok(())),
@@ -59,7 +66,8 @@ static TEXTS: [(&[u8], Result<(), BaggageFault>); 24] = [
         Err(BaggageFault::BadId(1)),
     ),
     (b"", Err(BaggageFault::BadHead)),
-    (b"2;", Err(BaggageFault::BadHead)),
+    (b"3;", Err(BaggageFault::BadHead)),
+    (b"2", Err(BaggageFault::BadHead)),
     (b"1;posts/a%2d@1", Err(BaggageFault::BadId(1))),
     (b"1;posts/%70@1", Err(BaggageFault::BadId(1))),
     (b"1;posts/n#1@1", Err(BaggageFault::BadId(1))),
@@ -78,6 +86,23 @@ static TEXTS: [(&[u8], Result<(), BaggageFault>); 24] = [
     (b"1;posts/a@2,posts/a@1", Err(BaggageFault::NotAscending(2))),
     (b"1;posts/a@2,posts/a@2", Err(BaggageFault::NotAscending(2))),
     (b"1;notes/a@1,posts/a@2", Err(BaggageFault::NotAscending(2))),
+    (b"1;posts/p1@1,p2@3", Err(BaggageFault::BadId(2))),
+    (b"1;posts/p1@1|notes/a@2", Err(BaggageFault::BadId(1))),
+    (b"2;", Ok(())),
+    (b"2;posts/p1@1|notes/n%231@7", Ok(())),
+    (b"2;posts/p1@1,p2@3|notes/n%231@7", Ok(())),
+    (
+        b"2;posts/p1@1|posts/p2@3",
+        Err(BaggageFault::NotAscending(2)),
+    ),
+    (b"2;notes/a@1|posts/a@1", Err(BaggageFault::NotAscending(2))),
+    (b"2;posts/p1@1|", Err(BaggageFault::BadId(2))),
+    (b"2;|posts/p1@1", Err(BaggageFault::BadId(1))),
+    (b"2;posts/p1@1,posts/p2@3", Err(BaggageFault::BadId(2))),
+    (b"2;posts/p1@1,p2@1", Ok(())),
+    (b"2;posts/p1@2,p2@1", Err(BaggageFault::NotAscending(2))),
+    (b"2;posts/a%2d@1", Err(BaggageFault::BadId(1))),
+    (b"2;blogs/a@1", Err(BaggageFault::UnknownStore(1))),
 ];
 
 #[test]
@@ -88,24 +113,35 @@ fn texts_are_read_exactly(rt: HostRuntime) {
     }
 }
 
-// What stands behind a full text, and what the whole comes to.
-static ENDS: [(&[u8], Result<(), BaggageFault>); 5] = [
-    (b"", Ok(())),
-    (b",posts/a@513", Err(BaggageFault::TooMany(513))),
-    (b",posts/a@512", Err(BaggageFault::NotAscending(513))),
-    (b",blogs/a@513", Err(BaggageFault::UnknownStore(513))),
-    (b",posts/a@513x", Err(BaggageFault::BadId(513))),
+// What stands behind a full text of version 1 or 2, and what the whole comes to.
+static ENDS: [(u32, &[u8], Result<(), BaggageFault>); 11] = [
+    (1, b"", Ok(())),
+    (1, b",posts/a@513", Err(BaggageFault::TooMany(513))),
+    (1, b",posts/a@512", Err(BaggageFault::NotAscending(513))),
+    (1, b",blogs/a@513", Err(BaggageFault::UnknownStore(513))),
+    (1, b",posts/a@513x", Err(BaggageFault::BadId(513))),
+    (2, b"", Ok(())),
+    (2, b",a@513", Err(BaggageFault::TooMany(513))),
+    (2, b"|notes/a@1", Err(BaggageFault::TooMany(513))),
+    (2, b"|posts/a@513", Err(BaggageFault::NotAscending(513))),
+    (2, b"|blogs/a@513", Err(BaggageFault::UnknownStore(513))),
+    (2, b",posts/a@513", Err(BaggageFault::BadId(513))),
 ];
 
 // The text of 512 ids, and what stands behind them.
-fn full(alloc: Global, behind: &[u8]) -> Option<Bytes> {
+fn full(alloc: Global, version: u32, behind: &[u8]) -> Option<Bytes> {
     let Some(stores) = stores() else {
         return None;
     };
     let Ok(lineage) = versions(alloc, 0, b"a", 512) else {
         return None;
     };
-    let Ok(mut text) = encode(alloc, &stores, &lineage) else {
+    let made = if version == 1 {
+        encode_one(alloc, &stores, &lineage)
+    } else {
+        encode(alloc, &stores, &lineage)
+    };
+    let Ok(mut text) = made else {
         return None;
     };
     let Ok(()) = text.append(behind) else {
@@ -115,8 +151,8 @@ fn full(alloc: Global, behind: &[u8]) -> Option<Bytes> {
 }
 
 // Whether a full text comes to this with what stands behind it.
-fn ends_so(alloc: Global, behind: &[u8], wanted: &Result<(), BaggageFault>) -> bool {
-    match full(alloc, behind) {
+fn ends_so(alloc: Global, version: u32, behind: &[u8], wanted: &Result<(), BaggageFault>) -> bool {
+    match full(alloc, version, behind) {
         Some(text) => comes_to(alloc, text.bytes(), wanted),
         None => false,
     }
@@ -124,8 +160,8 @@ fn ends_so(alloc: Global, behind: &[u8], wanted: &Result<(), BaggageFault>) -> b
 
 #[test]
 fn the_faults_have_an_order(rt: HostRuntime) {
-    for (behind, wanted) in &ENDS {
-        assert_of(&rt, behind, ends_so(rt.alloc(), behind, wanted));
+    for (version, behind, wanted) in &ENDS {
+        assert_of(&rt, behind, ends_so(rt.alloc(), *version, behind, wanted));
     }
 }
 
@@ -182,7 +218,7 @@ fn is_kept(alloc: Global, count: u64) -> bool {
 }
 
 // How many versions there are.
-static COUNTS: [u64; 3] = [7, 8, 512];
+static COUNTS: [u64; 3] = [1, 65, 512];
 
 #[test]
 fn a_text_serves_again(rt: HostRuntime) {

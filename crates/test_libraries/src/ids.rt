@@ -1,6 +1,6 @@
 ghost use Rattle.std.specs.Prelude.{◌≤◌};
 
-use crate::made::{assert_of, assert_so, id, lineage, versions};
+use crate::made::{assert_at, assert_of, assert_so, id, lineage, versions};
 use anti_ids::{
     Bytes, Copies, Lineage, LineageRefused, List, MOST_IDS, Name, NameFault, RoomyFull, Value,
     ValueFault, WriteId,
@@ -94,27 +94,37 @@ fn lengths(alloc: Global, lineage: Lineage, other: &Lineage, id: &WriteId) -> Op
     Some([both, twice, without, own.len(), with, united.len()])
 }
 
+// How many ids of one store and of the other there are, and how many after each step. What is gone is marked in a word up to 64 ids.
+static SETS: [(u64, u64, [u32; 6]); 4] = [
+    (3, 4, [7, 7, 6, 2, 7, 7]),
+    (60, 4, [64, 64, 63, 59, 64, 64]),
+    (60, 5, [65, 65, 64, 59, 65, 65]),
+    (500, 12, [512, 512, 511, 499, 512, 512]),
+];
+
 // Whether lineages are sets. The one that is copied is gone by then.
-fn are_sets(alloc: Global) -> bool {
+fn are_sets(alloc: Global, own: u64, others: u64, wanted: [u32; 6]) -> bool {
     let Ok(id) = id(0, b"k", 2) else {
         return false;
     };
-    let Ok(other) = versions(alloc, 1, b"k", 4) else {
+    let Ok(other) = versions(alloc, 1, b"k", others) else {
         return false;
     };
-    let Ok(one) = versions(alloc, 0, b"k", 3) else {
+    let Ok(one) = versions(alloc, 0, b"k", own) else {
         return false;
     };
     let Ok(lineage) = one.copy(alloc) else {
         return false;
     };
     one.stop();
-    is_new_once(alloc, &id) && lengths(alloc, lineage, &other, &id) == Some([7, 7, 6, 2, 7, 7])
+    is_new_once(alloc, &id) && lengths(alloc, lineage, &other, &id) == Some(wanted)
 }
 
 #[test]
 fn lineages_are_sets(rt: HostRuntime) {
-    assert_so(&rt, are_sets(rt.alloc()));
+    for (place, (own, others, wanted)) in SETS.iter().enumerate() {
+        assert_at(&rt, place, are_sets(rt.alloc(), *own, *others, *wanted));
+    }
 }
 
 // Whether two lineages have the same ids.

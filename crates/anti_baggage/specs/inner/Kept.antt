@@ -6,13 +6,20 @@ use Rattle.std.specs.declared.sync.Arc.{Arc}
 use Rattle.anti_ids.specs.List.{Listed}
 use Rattle.anti_ids.specs.declared.id.WriteId.{WriteId}
 use Rattle.anti_baggage.specs.Reading.{read_lineage}
+use Rattle.anti_baggage.specs.Texts.{lineage_text, lineage_text_one}
 use Rattle.anti_baggage.specs.declared.held.Held.{Held}
 use Rattle.anti_baggage.specs.declared.held.Held.TheVariants.{Alone, Known}
 use Rattle.anti_baggage.specs.declared.held.Stated.{Stated}
 
--- the text has no room, and states the lineage over the names
+-- over names, what is kept is the text of version 2 of its lineage, and states it; beside it may be that of version 1
+pub record StatesOver (stores : List (List ℕ)) (kept : Stated) : Type 0 where
+  pub states : read_lineage stores kept.text.items ≡ Ok kept.lineage
+  pub is : kept.text.items ≡ lineage_text stores kept.lineage
+  pub one : IfSome kept.text_one (λ text. text.items ≡ lineage_text_one stores kept.lineage)
+
+-- the text has no room, and is that of the lineage over the names
 abbrev pub IsStated : Stated → Type 0
-IsStated kept = (kept.text.spare ≡ 0) × (read_lineage kept.stores.items kept.text.items ≡ Ok kept.lineage)
+IsStated kept = (kept.text.spare ≡ 0) × StatesOver kept.stores.items kept
 
 -- the text that is held
 abbrev pub text_of : Held → Listed ℕ

@@ -1,7 +1,6 @@
-use Rattle.std.proofs.Common.{◌≡◌, ap, sym, ◌∙◌, rules}
+use Rattle.std.proofs.Common.{ap, sym, ◌∙◌}
 use Rattle.anti_ids.specs.List.{Listed}
-use Rattle.std.specs.Prelude.{ℕ, true}
-use Rattle.anti_baggage.specs.Over.{are_names, IsOver}
+use Rattle.std.specs.Prelude.{ℕ}
 use Rattle.anti_baggage.specs.Reading.{read_lineage}
 use Rattle.anti_baggage.proofs.TextLaws.{states_its_lineage}
 use Rattle.anti_baggage.proofs.held.text_held.Goals as goal

@@ -1,4 +1,4 @@
-use Rattle.std.proofs.Common.{◌≡◌, false, not, ◌∙◌, sym, ap, rules}
+use Rattle.std.proofs.Common.{◌≡◌, ◌∙◌, rules}
 use Rattle.std.specs.Prelude.{true}
 use Rattle.anti_ids.specs.Ids.{has_id}
 use Rattle.anti_ids.proofs.IdLemmas.{with_id-there}

@@ -1,4 +1,4 @@
-use Rattle.std.proofs.Common.{◌≡◌, false, ◌∙◌, sym, rules}
+use Rattle.std.proofs.Common.{◌≡◌, false, ◌∙◌, rules}
 use Rattle.anti_ids.specs.Ids.{has_id}
 use Rattle.anti_baggage.proofs.Kept.{told_stays, without_id-absent}
 use Rattle.anti_baggage.proofs.carried.Carried.remove.Goals as goal

@@ -1,4 +1,4 @@
-use Rattle.std.proofs.Common.{◌≡◌, ◌∙◌}
+use Rattle.std.proofs.Common.{◌∙◌}
 use Rattle.anti_text.proofs.mark_texts.MarkTexts.marks.Goals as goal
 
 pub piece-requires-clause-kept : goal.piece-requires-clause-kept
