@@ -83,11 +83,16 @@ def called(requests, deep):
     )
 
 
+def written(line, ids):
+    """A line that is run so often, a multiple of 16: in blocks of at most 256 turns."""
+    turns = [256] * (ids // 256) + [ids % 256] * (ids % 256 > 0)
+    return [part for times in turns for part in ("repeat 16", f"repeat {times // 16}", line, "end", "end")]
+
+
 def carrying(ids):
     """Seven requests, each of which writes to a key of its own, and sends 256 messages with so many ids, a multiple of 16, as their
     baggage."""
-    lines = ["repeat 16", f"repeat {ids // 16}", "write s $in v", "end", "end"] if ids > 0 else []
-    lines += ["repeat 16", "repeat 16", "send d h x", "end", "end"]
+    lines = written("write s $in v", ids) + written("send d h x", SENDS)
     return "\n".join(
         [
             'regions = ["eu"]',
@@ -108,13 +113,13 @@ LONG_KEY = "a-key-of-a-longer-name"
 
 def sending(services, times, ids, name="s{}", key="k", then=()):
     """A request for each of so many services: it writes so many ids of a key of its own, a multiple of 16, and sends `times` times 256
-    messages to the service's one handler, which does what it is told. Of two stores each has units for eight such requests of 256 ids, an
+    messages to the service's one handler, which does what it is told. A store has units for eight such requests of 256 ids, or four of 512, an
     inbox for 2,048 sends."""
     bodies = []
-    stores = ", ".join(f'{{ name = "{name.format(i)}", kind = "kv", replicas = ["eu"] }}' for i in range(2))
+    places = 2 if ids <= 256 else 4
+    stores = ", ".join(f'{{ name = "{name.format(i)}", kind = "kv", replicas = ["eu"] }}' for i in range(places))
     for i in range(services):
-        lines = ["repeat 16", f"repeat {ids // 16}", f"write {name.format(i % 2)} {key}{i} v", "end", "end"] if ids > 0 else []
-        lines += ["repeat 16", f"repeat {SENDS // 16}", f"send d{i} h x", "end", "end"] * times
+        lines = written(f"write {name.format(i % places)} {key}{i} v", ids) + written(f"send d{i} h x", SENDS) * times
         bodies.append(f'{{ name = "h{i}", body = {quoted(lines)} }}')
     targets = "".join(
         f'[[service]]\nname = "d{i}"\nregion = "eu"\nhandler = [{{ name = "h", body = {quoted(then)} }}]\n' for i in range(services)
@@ -133,10 +138,10 @@ def sending(services, times, ids, name="s{}", key="k", then=()):
 
 def missing(stores, ids, looks):
     """A request for each of so many stores: it writes so many ids to it, a multiple of 16, and looks for them so often, a multiple of 512,
-    before any of them is shipped. Of the 4,096 units of a store 256 writes take 512, and each look one."""
+    before any of them is shipped. Of the 4,096 units of a store a write takes two, and each look one."""
     bodies = []
     for i in range(stores):
-        lines = ["repeat 16", f"repeat {ids // 16}", f"write {LONG_STORE.format(i)} {LONG_KEY} v", "end", "end"]
+        lines = written(f"write {LONG_STORE.format(i)} {LONG_KEY} v", ids)
         lines += ["repeat 16", "repeat 16", "dryrun", "dryrun", "end", "end"] * (looks // 512)
         bodies.append(f'{{ name = "h{i}", body = {quoted(lines)} }}')
     defined = ", ".join(f'{{ name = "{LONG_STORE.format(i)}", kind = "kv", replicas = ["eu"] }}' for i in range(stores))
