@@ -1,12 +1,25 @@
 -- Words of bits that say what is gone, and one bit that changes.
-use Rattle.std.proofs.Common.{◌≡◌, ℕ, zero, suc, ◌+◌, ◌-◌, ◌*◌, ◌/◌, ◌%◌, ◌^◌, ◌<◌, ◌≤◌, ◌⊎◌, List, Bool, true, false, length, get_or, set, min, bit_and, bit_or, count_ones, if◌then◌else◌, sym, ap, ◌∙◌, inl, inr, arith, w64}
+use Rattle.std.proofs.Common.{◌≡◌, ℕ, zero, suc, ◌+◌, ◌-◌, ◌*◌, ◌/◌, ◌%◌, ◌^◌, ◌<◌, ◌≤◌, ◌⊎◌, List, Bool, true, false, length, get_or, replicate, set, min, bit_and, bit_or, count_ones, if◌then◌else◌, sym, ap, ◌∙◌, inl, inr, arith, w64}
 use Rattle.std.specs.Prelude.{◌≢◌, ◌==◌}
 use Rattle.std.specs.Int.{bit_at, bit_not}
 use Rattle.std.proofs.lemmas.Bool.{cases_eq, cases_lt}
-use Rattle.std.proofs.lemmas.List.{get_or-set_same, get_or-set_other}
+use Rattle.std.proofs.lemmas.List.{get_or-replicate, get_or-set_same, get_or-set_other, get_or_past, length-replicate}
 use Rattle.std.proofs.lemmas.Nat.{mod-pow-add, ones_cat, ones_le_self, shr-shr, zero_from_ones}
-use Rattle.std.proofs.lemmas.Nat.Bits.{bit_at_set_same, bit_at_set_other, bit_at_clear_same, bit_at_clear_other}
+use Rattle.std.proofs.lemmas.Nat.Bits.{bit_at-zero, bit_at_set_same, bit_at_set_other, bit_at_clear_same, bit_at_clear_other}
 use Rattle.anti_ids.specs.inner.Left.{gone_in, is_gone}
+
+-- where no word has a bit none is gone
+pub none_gone : (words : List ℕ) → ((number : ℕ) → number < length words → get_or words number 0 ≡ 0) → (at : ℕ) → is_gone words at ≡ false
+none_gone words empty at = ap (λ (w : ℕ). bit_at w (at % 64) == 1) (none (cases_lt (at / 64) (length words))) ∙ ap (λ (b : ℕ). b == 1) (bit_at-zero (at % 64))
+  where
+    none : (at / 64 < length words) ⊎ (length words ≤ at / 64) → get_or words (at / 64) 0 ≡ 0
+    none (inl within) = empty (at / 64) within
+    none (inr past) = get_or_past words (at / 64) 0 past
+
+pub zeros_gone : (count at : ℕ) → is_gone (replicate count 0) at ≡ false
+zeros_gone count =
+    let size : length (replicate count 0) ≡ count = length-replicate {A = ℕ} count 0 in
+    none_gone (replicate count 0) (λ number within. get_or-replicate count number 0 0 (omega (arith, within, size)))
 
 -- a word with one more bit, and with one less
 abbrev pub with_bit : ℕ → ℕ → ℕ

@@ -1,7 +1,6 @@
 -- What is left of the ids of a block, as some of them are gone.
-use Rattle.std.proofs.Common.{◌≡◌, ℕ, zero, suc, ◌+◌, ◌%◌, ◌<◌, ◌≤◌, List, [], ◌∷◌, Bool, true, false, not, ◌||◌, ◌&&◌, length, get_or, if◌then◌else◌, refl, sym, ap, ◌∙◌, subst, inl, inr, arith}
-use Rattle.std.specs.Prelude.{◌≢◌, ◌==◌}
-use Rattle.std.specs.Int.{bit_at}
+use Rattle.std.proofs.Common.{◌≡◌, ℕ, zero, suc, ◌+◌, ◌<◌, ◌≤◌, List, [], ◌∷◌, Bool, true, false, not, ◌||◌, ◌&&◌, length, get_or, if◌then◌else◌, refl, sym, ap, ◌∙◌, subst, inl, inr, arith}
+use Rattle.std.specs.Prelude.{◌≢◌}
 use Rattle.std.specs.declared.cmp.Ordering.TheVariants.{Less}
 use Rattle.std.proofs.lemmas.Bool.{cond_both, cond-true, cond-false, cases_Bool, or_parts, or_from, or_left}
 use Rattle.std.proofs.lemmas.Option.{get_or_from_slice_get}
@@ -10,10 +9,10 @@ use Rattle.anti_ids.specs.declared.id.WriteId.{WriteId}
 use Rattle.anti_ids.specs.Ids.{id_cmp, is_id, has_id, with_id, without_id}
 use Rattle.anti_ids.specs.Invariants.{IsAscending, IsLineage}
 use Rattle.anti_ids.specs.declared.held_ids.HeldIds.{HeldIds}
-use Rattle.anti_ids.specs.declared.held_ids.HeldIds.TheVariants.{Own, Whole, Less as Shared}
+use Rattle.anti_ids.specs.declared.held_ids.HeldIds.TheVariants.{Own, Short, Long}
 use Rattle.anti_ids.specs.inner.Places.{StandsAt}
 use Rattle.anti_ids.specs.inner.Left.{gone_in, is_gone, left_of}
-use Rattle.anti_ids.specs.inner.Held.{base_ids, held_ids}
+use Rattle.anti_ids.specs.inner.Held.{IsHeld, held_ids}
 use Rattle.anti_ids.proofs.IdLemmas.{ascending_with, has_id-with_id, has_id-without_id, is_id-itself, not_after, not_among, same_id, same_ids}
 use Rattle.anti_ids.proofs.Places.{each_at}
 
@@ -22,10 +21,6 @@ pub all_left : (words : List ℕ) (k : ℕ) (ids : List WriteId) → ((n : ℕ) 
 all_left words k [] none = refl
 all_left words k (i ∷ is) none =
     cond-false (is_gone words k) (left_of words (k + 1) is) (i ∷ left_of words (k + 1) is) (none k) ∙ ap (λ (x : List WriteId). i ∷ x) (all_left words (k + 1) is none)
-
--- where there are no marks none is gone
-no_marks : (n : ℕ) → is_gone [] n ≡ false
-no_marks n = let zero_bit : bit_at 0 (n % 64) ≡ 0 = omega arith in ap (λ (b : ℕ). b == 1) zero_bit
 
 -- the first is gone, or is left
 pub first_gone : (words : List ℕ) (k : ℕ) (i : WriteId) (is : List WriteId) → is_gone words k ≡ true → left_of words k (i ∷ is) ≡ left_of words (k + 1) is
@@ -163,11 +158,6 @@ module _ (i : WriteId) (ids : List WriteId) (at : ℕ) (asc : IsAscending ids) (
       → left_of changed 0 ids ≡ without_id i (left_of words 0 ids)
   left_without_one words changed gone_now others = left_without i words changed 0 ids at at i asc place.within here (omega arith) gone_now others
 
-  -- the same where it is the only one that is gone
-  pub left_but_one : (changed : List ℕ) → is_gone changed at ≡ true → ((m : ℕ) → m ≢ at → is_gone changed m ≡ false) → left_of changed 0 ids ≡ without_id i ids
-  left_but_one changed gone_now others =
-      left_without_one [] changed gone_now (λ m apart. others m apart ∙ sym (no_marks m)) ∙ ap (λ (x : List WriteId). without_id i x) (all_left [] 0 ids no_marks)
-
   -- one that is gone no more comes in
   pub left_with_one : (words changed : List ℕ) → is_gone words at ≡ true → is_gone changed at ≡ false → ((m : ℕ) → m ≢ at → is_gone changed m ≡ is_gone words m)
       → left_of changed 0 ids ≡ with_id i (left_of words 0 ids)
@@ -183,7 +173,7 @@ module _ (i : WriteId) (ids : List WriteId) (at : ℕ) (asc : IsAscending ids) (
       ∙ ap (λ (x : List WriteId). with_id i x) (sym out)
 
 -- how a lineage is held does not change that it is one
-pub lineage_held : (h : HeldIds) → IsLineage (base_ids h) → IsLineage (held_ids h)
-lineage_held (Own ids) l = l
-lineage_held (Whole marked) l = l
-lineage_held (Shared marked) l = lineage_left marked.words marked.block l
+pub lineage_held : (h : HeldIds) → IsHeld h → IsLineage (held_ids h)
+lineage_held (Own ids) l = l.lineage
+lineage_held (Short short) l = lineage_left short.words short.block l.lineage
+lineage_held (Long long) l = lineage_left long.words.value long.block l.lineage

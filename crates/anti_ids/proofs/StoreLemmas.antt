@@ -14,8 +14,8 @@ use Rattle.anti_ids.specs.Invariants.{IsAscending}
 use Rattle.anti_ids.specs.Ids.{id_cmp, ids_of}
 use Rattle.anti_ids.specs.declared.id.WriteId.{WriteId}
 use Rattle.anti_ids.specs.declared.held_ids.HeldIds.{HeldIds}
-use Rattle.anti_ids.specs.declared.held_ids.HeldIds.TheVariants.{Own, Whole, Less as Shared}
-use Rattle.anti_ids.specs.inner.Held.{base_ids, held_ids}
+use Rattle.anti_ids.specs.declared.held_ids.HeldIds.TheVariants.{Own, Short, Long}
+use Rattle.anti_ids.specs.inner.Held.{base_ids, held_ids, range_of}
 use Rattle.anti_ids.specs.inner.Left.{is_gone, left_of}
 use Rattle.anti_ids.specs.inner.Stores.{StandFrom}
 use Rattle.anti_ids.proofs.LeftLemmas.{each_left, first_gone, first_left}
@@ -112,25 +112,18 @@ module _ (store : ℕ) (ids : List WriteId) (from len : ℕ) (stand : StandFrom 
       ∙ own_only store (left_of words 0 stand.front) (left_of words from stand.own) (left_of words (from + length stand.own) stand.back)
       (each_left P words 0 stand.front stand.before) (each_left (λ j. (j.store == store) ≡ true) words from stand.own stand.of_it) (each_left P words (from + length stand.own) stand.back stand.behind))
 
--- what is found in the range, of ids that a walk goes over
-pub found_in_range : (store from len : ℕ) (walk ids held found : List WriteId) → StandFrom store walk from len → walk ≡ ids → held ≡ ids → found ≡ take len (drop from ids)
-    → found ≡ ids_of store held
-found_in_range store from len walk ids held found stand same all is =
-    is ∙ ids_in_range store ids from len (subst (λ (x : List WriteId). StandFrom store x from len) same stand) ∙ ap (λ (x : List WriteId). ids_of store x) (sym all)
+-- where the ids of a store stand in memory, those that are held stand
+pub range_held : (store from len : ℕ) (h : HeldIds) → StandFrom store (base_ids h) from len → range_of from len h ≡ ids_of store (held_ids h)
+range_held store from len (Own ids) stand = ids_in_range store ids.items from len stand
+range_held store from len (Short short) stand = left_in_range store short.block from len stand short.words
+range_held store from len (Long long) stand = left_in_range store long.block from len stand long.words.value
 
-pub found_left : (store from len : ℕ) (words : List ℕ) (walk ids held range found : List WriteId) → StandFrom store walk from len → walk ≡ ids → held ≡ left_of words 0 ids
-    → range ≡ take len (drop from ids) → found ≡ left_of words from range → found ≡ ids_of store held
-found_left store from len words walk ids held range found stand same all part is =
-    is ∙ ap (λ (x : List WriteId). left_of words from x) part
-    ∙ left_in_range store ids from len (subst (λ (x : List WriteId). StandFrom store x from len) same stand) words
-    ∙ ap (λ (x : List WriteId). ids_of store x) (sym all)
+none_in_range : (from : ℕ) (h : HeldIds) → range_of from 0 h ≡ []
+none_in_range from (Own ids) = refl
+none_in_range from (Short short) = refl
+none_in_range from (Long long) = refl
 
--- where the range is none, no id of the store is held
-none_in_range : (store : ℕ) (h : HeldIds) (from : ℕ) → StandFrom store (base_ids h) from 0 → ids_of store (held_ids h) ≡ []
-none_in_range store (Own ids) from stand = sym (ids_in_range store ids.items from 0 stand)
-none_in_range store (Whole marked) from stand = sym (ids_in_range store marked.block from 0 stand)
-none_in_range store (Shared marked) from stand = sym (left_in_range store marked.block from 0 stand marked.words)
-
-pub none_held : (store from len : ℕ) (h : HeldIds) (walk : List WriteId) → StandFrom store walk from len → walk ≡ base_ids h → len ≡ 0 → [] ≡ ids_of store (held_ids h)
-none_held store from len h walk stand same none =
-    sym (none_in_range store h from (subst (λ (n : ℕ). StandFrom store (base_ids h) from n) none (subst (λ (x : List WriteId). StandFrom store x from len) same stand)))
+-- where there are none in memory, no id of the store is held
+pub none_held : (store from len : ℕ) (h : HeldIds) → StandFrom store (base_ids h) from len → len ≡ 0 → [] ≡ ids_of store (held_ids h)
+none_held store from len h stand none =
+    sym (none_in_range from h) ∙ range_held store from 0 h (subst (λ (n : ℕ). StandFrom store (base_ids h) from n) none stand)

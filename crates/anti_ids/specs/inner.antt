@@ -2,7 +2,6 @@ pub mod Texts
 pub mod Bytes
 pub mod Places
 pub mod Parts
-pub mod Marks
 pub mod Left
 pub mod Held
 pub mod Stores

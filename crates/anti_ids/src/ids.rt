@@ -3,9 +3,9 @@ ghost use Rattle.std.specs.Iterator.{YieldsFirstRef, item_count};
 ghost use Rattle.anti_ids.specs.inner.Left.{AreMarked, left_for};
 ghost use Rattle.anti_ids.specs.inner.Stores.{PassedSame};
 
-use crate::gone::Gone;
 use crate::id::WriteId;
 use crate::limits::MOST_IDS;
+use crate::marks::is_gone;
 use crate::walk::Walk;
 use std::marker::Model;
 
@@ -16,7 +16,7 @@ pub struct Ids<'a> {
     walk: Walk<'a>,
     at: usize,
     // Which of all these are gone, where some may be.
-    gone: Option<&'a Gone>,
+    gone: Option<&'a [u64]>,
 }
 
 impl<'a> Model for Ids<'a> {
@@ -34,7 +34,7 @@ impl<'a> Model for Ids<'a> {
 
 impl<'a> Ids<'a> {
     // Over the ids in memory that are not gone, of which the first stands at an index.
-    pub(crate) fn over(walk: Walk<'a>, at: usize, gone: Option<&'a Gone>) -> Ids<'a>
+    pub(crate) fn over(walk: Walk<'a>, at: usize, gone: Option<&'a [u64]>) -> Ids<'a>
         requires few { at + length walk ≤ MOST_IDS }
         requires marked { AreMarked gone (at + length walk) }
         ensures { result ≡ left_for gone.entry at walk.entry }
@@ -64,7 +64,7 @@ impl<'a> Iterator for Ids<'a> {
             return self.walk.next();
         };
         while let Some(id) = self.walk.next() {
-            let is_gone = gone.has(self.at);
+            let is_gone = is_gone(gone, self.at);
             self.at += 1;
             if !is_gone {
                 return Some(id);

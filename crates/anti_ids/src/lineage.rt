@@ -33,23 +33,29 @@ pub struct Lineage {
 impl Model for Lineage {
     ghost use Rattle.std.specs.Prelude.{List};
     ghost use Rattle.anti_ids.specs.declared.id.WriteId.{WriteId};
-    ghost use Rattle.anti_ids.specs.Invariants.{IsLineage};
-    ghost use Rattle.anti_ids.specs.inner.Held.{base_ids, held_ids};
+    ghost use Rattle.anti_ids.specs.inner.Held.{IsHeld, held_ids};
 
     ghost Value = { List WriteId };
 
     ghost view = { λ l. held_ids l.held };
 
-    ghost invariant = { λ l. IsLineage (base_ids l.held) };
+    ghost invariant = { λ l. IsHeld l.held };
 }
 
 // By hand, so that no caller sees the fields.
 impl Drop for Lineage {
     fn drop(self) {
         let Lineage { held } = self;
-        drop(held);
+        match held {
+            HeldIds::Own(ids) => drop(ids),
+            shared => let_go(shared),
+        }
     }
 }
+
+// Lets go of ids that others may hold too. Not inlined, so that letting go of a lineage is short where nobody else holds it.
+#[inline(never)]
+fn let_go(_shared: HeldIds) {}
 
 impl Lineage {
     /// The lineage of no ids. It takes no memory.

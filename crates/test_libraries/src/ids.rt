@@ -94,11 +94,11 @@ fn lengths(alloc: Global, lineage: Lineage, other: &Lineage, id: &WriteId) -> Op
     Some([both, twice, without, own.len(), with, united.len()])
 }
 
-// How many ids of one store and of the other there are, and how many after each step. What is gone is marked in a word up to 64 ids.
+// How many ids of one store and of the other there are, and how many after each step. What is gone is marked in two words up to 128 ids.
 static SETS: [(u64, u64, [u32; 6]); 4] = [
     (3, 4, [7, 7, 6, 2, 7, 7]),
-    (60, 4, [64, 64, 63, 59, 64, 64]),
-    (60, 5, [65, 65, 64, 59, 65, 65]),
+    (124, 4, [128, 128, 127, 123, 128, 128]),
+    (124, 5, [129, 129, 128, 123, 129, 129]),
     (500, 12, [512, 512, 511, 499, 512, 512]),
 ];
 

@@ -2,9 +2,7 @@
 use Rattle.std.specs.Prelude.{ℕ, zero, suc, ◌+◌, ◌*◌, ◌≤◌, ◌/◌, ◌%◌, List, [], ◌∷◌, length, ◌==◌, Bool, get_or, Option, None, Some, if◌then◌else◌}
 use Rattle.std.specs.Borrow.{Bor}
 use Rattle.std.specs.Int.{bit_at}
-use Rattle.anti_ids.specs.declared.gone.Gone.{Gone}
 use Rattle.anti_ids.specs.declared.id.WriteId.{WriteId}
-use Rattle.anti_ids.specs.inner.Marks.{marks}
 
 -- whether the id at an index is gone, by a bit of words of 64
 abbrev pub is_gone : List ℕ → ℕ → Bool
@@ -21,11 +19,11 @@ gone_in words at zero = 0
 gone_in words at (suc n) = (if is_gone words at then 1 else 0) + gone_in words (at + 1) n
 
 -- whether the first ids, of so many, have marks, where some may be gone
-abbrev pub AreMarked : Option (Bor Gone) → ℕ → Type 0
+abbrev pub AreMarked : Option (Bor (List ℕ)) → ℕ → Type 0
 AreMarked None len = Unit {0}
-AreMarked (Some gone) len = len ≤ 64 * length (marks gone.now)
+AreMarked (Some words) len = len ≤ 64 * length words.now
 
 -- the same, where some may be gone; else all are left
-abbrev pub left_for : Option (Bor Gone) → ℕ → List WriteId → List WriteId
+abbrev pub left_for : Option (Bor (List ℕ)) → ℕ → List WriteId → List WriteId
 left_for None at ids = ids
-left_for (Some gone) at ids = left_of (marks gone.now) at ids
+left_for (Some words) at ids = left_of words.now at ids

@@ -7,11 +7,11 @@ use Rattle.anti_ids.proofs.unions.add_to.Goals as goal
 
 pub returns-in-Ok-clause-lineage : goal.returns-in-Ok-clause-lineage
 returns-in-Ok-clause-lineage c =
-    let absent : has_id c.args.id c.args.marked.now.block ≡ false = search rules in
-    let is : c.grow.new.self.block ≡ with_id c.args.id c.args.marked.now.block = search rules in
-    let longer : length c.grow.new.self.block ≡ length c.args.marked.now.block + 1 = ap length is ∙ length-with_id c.args.id c.args.marked.now.block absent in
-    let short : length c.grow.new.self.block ≤ MOST_IDS = search rules in
-    lineage_with c.args.id c.args.marked.now.block c.grow.new.self.block c.requires.lineage c.requires.written is short
+    let absent : has_id c.args.id c.args.block.now ≡ false = search rules in
+    let is : c.grow.new.self ≡ with_id c.args.id c.args.block.now = search rules in
+    let longer : length c.grow.new.self ≡ length c.args.block.now + 1 = ap length is ∙ length-with_id c.args.id c.args.block.now absent in
+    let short : length c.grow.new.self ≤ MOST_IDS = search rules in
+    lineage_with c.args.id c.args.block.now c.grow.new.self c.requires.lineage c.requires.written is short
 
 pub returns-in-Ok-clause-fits : goal.returns-in-Ok-clause-fits
 returns-in-Ok-clause-fits c = grind (arith, common_steps)

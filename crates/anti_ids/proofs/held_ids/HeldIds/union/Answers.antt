@@ -1,4 +1,5 @@
-use Rattle.std.proofs.Common.{◌≡◌, sym, ◌∙◌, rules}
+use Rattle.std.proofs.Common.{◌≡◌, subst, sym, ◌∙◌, rules}
+use Rattle.std.specs.Prelude.{IfOk}
 use Rattle.anti_ids.specs.Ids.{with_ids}
 use Rattle.anti_ids.specs.inner.Held.{held_ids}
 use Rattle.anti_ids.proofs.IdLemmas.{with_ids-comm}
@@ -10,5 +11,6 @@ returns-then-has_all-clause-ok c =
     let held = held_ids c.args.self.now in
     let other = held_ids c.args.other.now in
     let all : with_ids held other ≡ other = search rules in
-    let is : c.in_ok-marked.marked.block ≡ other = search rules in
-    is ∙ sym (with_ids-comm other held (lineage_held c.args.other.now c.requires.other).ascending (lineage_held c.args.self.now c.requires.lineage).ascending ∙ all)
+    let is : c.in_ok-block.block ≡ with_ids other held =
+    search rules ∙ sym (with_ids-comm other held (lineage_held c.args.other.now c.requires.other).ascending (lineage_held c.args.self.now c.requires.lineage).ascending ∙ all) in
+    subst (λ x. IfOk c.held_over.result (λ h. held_ids h ≡ x)) is c.held_over.ensures.ids

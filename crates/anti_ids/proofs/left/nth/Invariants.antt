@@ -1,6 +1,6 @@
 use Rattle.std.proofs.Common.{◌≡◌, ◌<◌, length}
 use Rattle.std.specs.Prelude.{slice_get}
-use Rattle.anti_ids.proofs.held_ids.nth.Given as goal
+use Rattle.anti_ids.proofs.left.nth.Given as goal
 
 -- so many ids are still before it
 abbrev pub invariant-loop-id : goal.invariant-loop-id

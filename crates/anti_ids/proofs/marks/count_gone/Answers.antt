@@ -1,12 +1,11 @@
 use Rattle.std.proofs.Common.{rules, ◌≡◌, ◌<◌, ◌%◌, ◌^◌, ◌+◌, ◌-◌, ◌*◌, min, count_ones, get_or, arith}
 use Rattle.anti_ids.specs.inner.Left.{gone_in}
-use Rattle.anti_ids.specs.inner.Marks.{marks}
 use Rattle.anti_ids.proofs.GoneLemmas.{gone_in-step}
-use Rattle.anti_ids.proofs.gone.Gone.count.Goals as goal
+use Rattle.anti_ids.proofs.marks.count_gone.Goals as goal
 
 pub loop-number-preserved : goal.loop-number-preserved
 loop-number-preserved c =
-    let words = marks c.args.self.now in
+    let words = c.args.words.now in
     let number = c.loop-number.number in
     let bits = min (c.args.len - number * 64) 64 in
     let more : number * 64 < c.args.len = search rules in
