@@ -223,6 +223,34 @@ def filled(kind):
     return on_stores(kind, 1, 1, requests, {"put": ["write s0 $in v"] * 6})
 
 
+# How many keys a handler of `read_over` names, a line each.
+NAMED = 50
+
+
+def read_over(kind, keys, room=None):
+    """So many keys of one store, written once and shipped, and then read over and over by handlers that name 50 of them each, as often as the
+    store has units for: one key after another, so that a cache with less room than keys never has the next one."""
+    groups = range(keys // NAMED)
+    lines = [choice for i in groups for choice in ["take w 1"] + [f"go w.{i + 1}"] * NAMED]
+    lines += [f"ship s eu {i + 1}" for i in range(keys)] + ["finish"]
+    put = {f"put{i}": [f"write s k{i * NAMED + j} v" for j in range(NAMED)] for i in groups}
+    get = {f"get{i}": [f"read s k{i * NAMED + j} as x{j}" for j in range(NAMED)] for i in groups}
+    bodies = ", ".join(f'{{ name = "{name}", body = {quoted(body)} }}' for name, body in {**put, **get}.items())
+    asked = list(put) + [f"get{i % len(groups)}" for i in range((MOST_UNITS - 2 * keys) // NAMED)]
+    return "\n".join(
+        [
+            'regions = ["eu"]',
+            f"choices = {quoted(lines)}",
+            f'store = [{{ name = "s", kind = "{kind}", replicas = ["eu"]{f", room = {room}" if room else ""} }}]',
+            "request = [" + ", ".join(f'{{ service = "w", handler = "{name}" }}' for name in asked) + "]",
+            "[[service]]",
+            'name = "w"',
+            'region = "eu"',
+            f"handler = [{bodies}]",
+        ]
+    )
+
+
 # How many messages are written by one request of `pulled`.
 EACH = 4
 

@@ -26,7 +26,7 @@ from urllib.parse import quote
 
 # The units of an object, the ids of a lineage, the depth of a message and the bytes of a part, at most; and what a document may leave out.
 UNITS, IDS, DEEPEST, PART = 4096, 512, 8, 64
-TRIES, WORKERS = 3, 2
+TRIES, ROOM, WORKERS = 3, 8, 2
 
 PLAIN = re.compile(rb"[A-Za-z0-9_-]{1,24}")
 NAME = re.compile(rb"[A-Za-z0-9_#-]{1,32}")
@@ -188,8 +188,20 @@ class Store(Object):
     def is_whole(self, region, version):
         return 0 < version <= len(self.rows) and version not in self.owed[region]
 
+    def whole_at(self, region, key):
+        """The greatest version of a key that is whole in a region, 0 where none is."""
+        return self.shown[region].get(key, 0)
+
+    def version_at(self, region, key):
+        """The version of a key that a region shows."""
+        return self.whole_at(region, key)
+
+    def behind(self, region):
+        """The version that is to come again next to a region, so that what it shows is behind in no key, where one is."""
+        return None
+
     def row_at(self, region, key):
-        version = self.shown[region].get(key, 0)
+        version = self.version_at(region, key)
         return self.rows[version - 1] if version else Row(key)
 
     def shows(self, region, key):
@@ -216,7 +228,7 @@ class Store(Object):
 
     def seen(self, region, ids):
         """The ids that are not visible in a region, and those that nothing wrote."""
-        missing = frozenset(id for id in ids if self.shown[region].get(id.key, 0) < id.version)
+        missing = frozenset(id for id in ids if self.version_at(region, id.key) < id.version)
         unwritten = frozenset(id for id in ids if id.version > len(self.rows) or self.rows[id.version - 1].key != id.key)
         return missing, unwritten
 
@@ -245,6 +257,42 @@ class Table(Kv):
 class Blob(Kv):
     def parts_of(self, value):
         return max(1, -(-len(value) // PART))
+
+
+class Cached(Kv):
+    """A kv whose replicas read through caches: of each region the versions of the keys that its cache has, the least recently used first."""
+
+    def __init__(self, number, table, subs):
+        super().__init__(number, table, subs)
+        self.room = table.get("room", ROOM)
+        self.caches = {region: {} for region in table["replicas"]}
+
+    def version_at(self, region, key):
+        return self.caches[region].get(key) or self.whole_at(region, key)
+
+    def on_read(self, region, key):
+        return self.shows(region, key)._replace(effect=lambda: self.use(region, key))
+
+    def use(self, region, key):
+        """Brings a key to the front, or puts it there with what is whole of it, where anything is. The last falls out where there are too many."""
+        cache, version = self.caches[region], self.version_at(region, key)
+        cache.pop(key, None)
+        if version:
+            cache[key] = version
+        if len(cache) > self.room:
+            del cache[next(iter(cache))]
+
+    def on_again(self, region, version, part):
+        due = super().on_again(region, version, part)
+        return due and due._replace(effect=lambda: self.refresh(region, self.rows[version - 1].key))
+
+    def refresh(self, region, key):
+        if key in self.caches[region]:
+            self.caches[region][key] = self.whole_at(region, key)
+
+    def behind(self, region):
+        cache = self.caches[region]
+        return next((self.whole_at(region, key) for key in reversed(cache) if cache[key] < self.whole_at(region, key)), None)
 
 
 class Channels(Store):
@@ -313,7 +361,7 @@ class Topic(Channels):
         return self.hands_out(version if version in self.channels[channel][: self.pulls[name]] else None)
 
 
-KINDS = {"kv": Kv, "table": Table, "blob": Blob, "queue": Queue, "topic": Topic}
+KINDS = {"kv": Kv, "table": Table, "blob": Blob, "queue": Queue, "topic": Topic, "cached": Cached}
 
 
 class Message(NamedTuple):
@@ -632,6 +680,11 @@ class Run:
         for store in self.app.stores:
             for region, owed in store.owed.items():
                 yield from (f"ship {store.name} {region} {version} {left[0]}" for version, left in owed.items())
+        for store in self.app.stores:
+            for region in store.owed:
+                version = store.behind(region)
+                if version and store.goes(("again", region, version, 1)):
+                    yield f"again {store.name} {region} {version} 1"
 
 
 class Lines:

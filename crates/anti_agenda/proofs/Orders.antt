@@ -15,7 +15,7 @@ use Rattle.anti_agenda.specs.contracts.offer.OfferOrd.TheImpl.Laws as offer_laws
 use Rattle.anti_agenda.specs.contracts.offer.SleeperOrd.TheImpl as sleeper_order
 use Rattle.anti_agenda.specs.contracts.offer.SleeperOrd.TheImpl.Laws as sleeper_laws
 use Rattle.anti_agenda.specs.declared.offer.Offer.{Offer}
-use Rattle.anti_agenda.specs.declared.offer.Offer.TheVariants.{Go, Take, Pull, Ship}
+use Rattle.anti_agenda.specs.declared.offer.Offer.TheVariants.{Go, Take, Pull, Ship, Again}
 use Rattle.anti_agenda.specs.declared.offer.Sleeper.{Sleeper}
 use Rattle.anti_agenda.specs.inner.Front.{offer_cmp}
 
@@ -64,6 +64,9 @@ offers_exact (Pull a) (Pull x) is = ap Pull (exact_unsigned a x is)
 offers_exact (Ship a b) (Ship x y) is =
     let parts = equal_parts (nat_cmp a x) (nat_cmp b y) is in
     λ i. Ship (exact_unsigned a x parts.0 i) (exact_unsigned b y parts.1 i)
+offers_exact (Again a b) (Again x y) is =
+    let parts = equal_parts (nat_cmp a x) (nat_cmp b y) is in
+    λ i. Again (exact_unsigned a x parts.0 i) (exact_unsigned b y parts.1 i)
 offers_exact first second is = absurd (false≢true (ap is_eq is))
 
 -- the first of all
@@ -96,12 +99,16 @@ before_or_same (Go a b) (Go x y) is = pairs Go a b x y is
 before_or_same (Take a) (Take x) is = numbers Take a x is
 before_or_same (Pull a) (Pull x) is = numbers Pull a x is
 before_or_same (Ship a b) (Ship x y) is = pairs Ship a b x y is
+before_or_same (Again a b) (Again x y) is = pairs Again a b x y is
 before_or_same (Go a b) second is = inr tt
 before_or_same (Take a) (Go x y) is = absurd (true≢false is)
 before_or_same (Take a) second is = inr tt
 before_or_same (Pull a) (Ship x y) is = inr tt
+before_or_same (Pull a) (Again x y) is = inr tt
 before_or_same (Pull a) second is = absurd (true≢false is)
+before_or_same (Ship a b) (Again x y) is = inr tt
 before_or_same (Ship a b) second is = absurd (true≢false is)
+before_or_same (Again a b) second is = absurd (true≢false is)
 
 -- ---- sleepers
 

@@ -6,7 +6,7 @@ use Rattle.anti_kind.specs.declared.awaited.Brought.{Brought}
 use Rattle.anti_kind.specs.Waiting.{reaches}
 use Rattle.anti_agenda.specs.declared.agenda.Agenda.{Agenda}
 use Rattle.anti_agenda.specs.declared.offer.Offer.{Offer}
-use Rattle.anti_agenda.specs.declared.offer.Offer.TheVariants.{Go, Take, Pull, Ship}
+use Rattle.anti_agenda.specs.declared.offer.Offer.TheVariants.{Go, Take, Pull, Ship, Again}
 use Rattle.anti_agenda.specs.declared.offer.Sleeper.{Sleeper}
 
 -- ---- who is named
@@ -49,9 +49,13 @@ IsBefore (Take a) (Take x) = a < x
 IsBefore (Take a) offer = Unit {0}
 IsBefore (Pull a) (Pull x) = a < x
 IsBefore (Pull a) (Ship x y) = Unit {0}
+IsBefore (Pull a) (Again x y) = Unit {0}
 IsBefore (Pull a) offer = ⊥
 IsBefore (Ship a b) (Ship x y) = IsBelow a b x y
+IsBefore (Ship a b) (Again x y) = Unit {0}
 IsBefore (Ship a b) offer = ⊥
+IsBefore (Again a b) (Again x y) = IsBelow a b x y
+IsBefore (Again a b) offer = ⊥
 
 -- the first that is awake; none, where nobody is
 abbrev pub IsFirst : Agenda → Option Offer → Type 0

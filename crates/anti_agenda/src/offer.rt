@@ -11,6 +11,8 @@ pub enum Offer {
     Pull { sub: u32 },
     /// The next shipment of a store to the replica that stands at this place, counted from 0, in its list.
     Ship { store: u32, replica: usize },
+    /// What comes again next to the replica that stands at this place, counted from 0, in a store's list, so that its cache is not behind.
+    Again { store: u32, replica: usize },
 }
 
 /// An offer that waits for something at an object. Sleepers are in order by the object, by what is awaited, and by the offer.

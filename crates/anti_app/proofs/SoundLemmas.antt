@@ -1,5 +1,5 @@
 -- What a sound application is known to keep.
-use Rattle.std.proofs.Common.{◌≡◌, ℕ, ◌+◌, IfSome, ◌<◌, ◌≤◌, List, [], ◌∷◌, Bool, true, false, not, ◌&&◌, ◌||◌, ◌==◌, nat_eq, nat_lt, nat_le, length, slice_get, Option, Some, None, is_none, IsTrue, refl, sym, ap, ◌∙◌, subst, arith}
+use Rattle.std.proofs.Common.{◌≡◌, ℕ, ◌+◌, IfSome, ◌<◌, ◌≤◌, List, [], ◌∷◌, Bool, true, false, not, ◌&&◌, ◌==◌, nat_eq, nat_lt, nat_le, length, slice_get, Option, Some, None, is_none, IsTrue, refl, sym, ap, ◌∙◌, subst, arith}
 use Rattle.std.specs.List.{list_all, list_any, All, AllPairs, Contains}
 use Rattle.std.specs.Option.{option_map_or}
 use Rattle.std.proofs.lemmas.Bool.{and_parts, or_parts, not-true, leb-true, eq-eqb, eqb-true}
@@ -13,7 +13,7 @@ use Rattle.anti_lang.specs.Bodies.{block_of}
 use Rattle.anti_lang.specs.Blocks.{lines_of}
 use Rattle.anti_lang.specs.Faults.{block_fault, variable_fault}
 use Rattle.anti_lang.specs.Spans.{spans_of}
-use Rattle.anti_ids.specs.declared.limits.TheConstants.{GREATEST_SEED, LONGEST_VALUE, MOST_CHOICES, MOST_COUNTED, MOST_HANDLERS, MOST_LINES, MOST_REGIONS, MOST_REPLICAS, MOST_REQUESTS, MOST_SERVICES, MOST_STORES, MOST_SUBS, MOST_TRIES, MOST_WORKERS}
+use Rattle.anti_ids.specs.declared.limits.TheConstants.{GREATEST_SEED, LONGEST_VALUE, MOST_CHOICES, MOST_COUNTED, MOST_HANDLERS, MOST_LINES, MOST_REGIONS, MOST_REPLICAS, MOST_REQUESTS, MOST_ROOM, MOST_SERVICES, MOST_STORES, MOST_SUBS, MOST_TRIES, MOST_WORKERS}
 use Rattle.anti_kind.specs.Starts.{is_pulled}
 use Rattle.anti_app.specs.Sound.{are_distinct, is_few, is_sound_store, is_stored, fits_stores, fits_services, is_sound_body, is_sound_handler, is_sound_service, has_handler, hands_out, hands_to, is_sound_sub, is_sound_request, is_countable, is_part, is_shipment, is_sound_choice, are_sound_regions, are_sound_stores, are_sound_services, are_sound_subs, are_sound_requests, are_sound_choices, are_sound_numbers, is_sound}
 use Rattle.anti_app.proofs.Kept.{some_passes}
@@ -71,12 +71,15 @@ pub record SoundStore (regions : ℕ) (store : StoreDef) : Type 0 where
   pub distinct : AllPairs (λ a b. a ≡ b → ⊥) store.replicas.items
   pub tried : 1 ≤ store.tries
   pub few_tries : store.tries ≤ MOST_TRIES
+  pub some_room : 1 ≤ store.room
+  pub few_room : store.room ≤ MOST_ROOM
 
 pub store_known : (regions : ℕ) (store : StoreDef) → is_sound_store regions store ≡ true → SoundStore regions store
 unfolding is_sound_store
 store_known regions store h =
     let one = and_parts _ _ h in let two = and_parts _ _ one.1 in let three = and_parts _ _ two.1 in let four = and_parts _ _ three.1 in
-    let few = few_known _ _ two.0 in let tries = few_known _ _ four.1 in
+    let five = and_parts _ _ four.1 in
+    let few = few_known _ _ two.0 in let tries = few_known _ _ five.0 in let room = few_known _ _ five.1 in
     record {
       name = one.0;
       some = few.0;
@@ -85,6 +88,8 @@ store_known regions store h =
       distinct = numbers_differ _ (pairs_known nat_eq _ four.0);
       tried = tries.0;
       few_tries = tries.1;
+      some_room = room.0;
+      few_room = room.1;
     }
 
 pub record SoundBody (stores : List StoreDef) (services : List ServiceDef) (region : ℕ) (body : Block) : Type 0 where

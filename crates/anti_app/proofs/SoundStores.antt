@@ -1,11 +1,11 @@
 -- What a document without a breach says of its stores.
-use Rattle.std.proofs.Common.{◌≡◌, ℕ, ◌^◌, ◌≤◌, codes, List, [], Bool, true, false, not, ◌&&◌, ◌==◌, nat_eq, nat_lt, nat_le, length, map, Option, None, Some, option_map, slice_get, refl, sym, ap, ◌∙◌, arith}
+use Rattle.std.proofs.Common.{◌≡◌, ℕ, pos, ◌^◌, ◌<◌, ◌≤◌, codes, List, [], Bool, true, false, not, ◌&&◌, ◌==◌, nat_eq, nat_lt, nat_le, length, map, Option, None, Some, option_map, slice_get, refl, sym, ap, ◌∙◌, arith}
 use Rattle.std.specs.Option.{option_and_then, option_map_or}
 use Rattle.std.specs.Str.{bytes_eq}
 use Rattle.std.proofs.lemmas.Bool.{and_parts, and_from, false≢true, not-true, eq-eqb, eqb-true, leb-true, lt-ltb}
 use Rattle.std.proofs.lemmas.List.{length-map}
 use Rattle.std.specs.List.{list_all, list_any}
-use Rattle.anti_ids.specs.declared.limits.TheConstants.{MOST_REPLICAS, MOST_STORES, MOST_TRIES}
+use Rattle.anti_ids.specs.declared.limits.TheConstants.{MOST_REPLICAS, MOST_ROOM, MOST_STORES, MOST_TRIES}
 use Rattle.anti_ids.specs.Names.{is_plain}
 use Rattle.anti_kind.specs.declared.store_kind.StoreKind.{StoreKind}
 use Rattle.toml.specs.Data.{Data, Members, get_member, as_table, as_integer}
@@ -19,6 +19,7 @@ use Rattle.anti_rules.specs.Rules.{rule_line}
 use Rattle.anti_rules.specs.Order.{first_breach}
 use Rattle.anti_rules.specs.declared.rule.Rule.TheVariants.{There, Typed, Counted, Ranged, PlainNames, DistinctObjects, Replicas}
 use Rattle.anti_rules.specs.declared.place.Part.TheVariants.{Store}
+use Rattle.anti_rules.specs.declared.table_keys.KeyKind.TheVariants.{Number}
 use Rattle.anti_rules.proofs.Holds.{each_kept, wanted, are_apart, each_apart, tabled, shaped, few_things, some_things, stores_plain}
 use Rattle.anti_app.specs.Parts.{number_or, regions_of, store_of, stores_of}
 use Rattle.anti_app.specs.Places.{region_place, store_place}
@@ -47,6 +48,13 @@ module _ (doc : Members) (fine : first_breach doc ≡ None) where
   abbrev number_at : Data → ℕ
   number_at d = region_place (regions_of doc) (text_of d)
 
+  -- how often a store gives a message out, and how many keys a cache of it holds
+  abbrev tries_at : Data → ℕ
+  tries_at d = number_or 3 (option_and_then as_integer (member_in (codes "tries") d))
+
+  abbrev room_at : Data → ℕ
+  room_at d = number_or 8 (option_and_then as_integer (member_in (codes "room") d))
+
   store_table : (earlier : List Data) (d : Data) → FailsNone doc [] Store earlier d → (ms : Members) × (as_table d ≡ Some ms) × (all_fit has_type (keys_of Store) ms ≡ true)
   store_table earlier d none = tabled (all_fit has_type (keys_of Store)) (as_table d) (none Typed)
 
@@ -62,14 +70,27 @@ module _ (doc : Members) (fine : first_breach doc ≡ None) where
       (some_things 1 MOST_REPLICAS (get_member (codes "replicas") ms) counts.1.1.0 needs.1.1.0)
       (few_things 1 MOST_REPLICAS (get_member (codes "replicas") ms) counts.1.1.0)
 
-  -- how often it gives a message out
-  tries_few : (earlier : List Data) (d : Data) → FailsNone doc [] Store earlier d → is_few MOST_TRIES (number_or 3 (option_and_then as_integer (member_in (codes "tries") d))) ≡ true
-  tries_few earlier d none =
+  -- a number of a store whose table has the key's value in its range
+  number_few : (key : List ℕ) (most default : ℕ) → is_few most default ≡ true → (d : Data) (ms : Members) → as_table d ≡ Some ms
+      → option_map_or (has_range (Number (pos 1) (pos most))) (get_member key ms) true ≡ true
+      → is_few most (number_or default (option_and_then as_integer (member_in key d))) ≡ true
+  number_few key most default fits d ms table ranged =
+      ap (λ (o : Option Members). is_few most (number_or default (option_and_then as_integer (option_and_then (get_member key) o)))) table
+      ∙ in_range 1 most default fits (get_member key ms) ranged
+
+  -- both numbers are in their ranges
+  numbers_few : (earlier : List Data) (d : Data) → FailsNone doc [] Store earlier d
+      → (is_few MOST_TRIES (tries_at d) ≡ true) × (is_few MOST_ROOM (room_at d) ≡ true)
+  numbers_few earlier d none =
       let table = store_table earlier d none in
       let ms : Members = table.0 in
       let ranges = each_true (ranges_at ms) (keys_of Store) (shaped (all_fit has_range (keys_of Store)) (as_table d) ms table.1 (none Ranged)) in
-      ap (λ (o : Option Members). is_few MOST_TRIES (number_or 3 (option_and_then as_integer (option_and_then (get_member (codes "tries")) o)))) table.1
-      ∙ in_range 1 MOST_TRIES 3 refl (get_member (codes "tries") ms) ranges.1.1.1.0
+      (number_few (codes "tries") MOST_TRIES 3 refl d ms table.1 ranges.1.1.1.0, number_few (codes "room") MOST_ROOM 8 refl d ms table.1 ranges.1.1.1.1.0)
+
+  -- what is at most a number that four bytes hold, these hold too
+  few_fits : (most n : ℕ) → most < 2 ^ 32 → is_few most n ≡ true → nat_lt n (2 ^ 32) ≡ true
+  few_fits most n less few =
+      let parts = and_parts (nat_le 1 n) (nat_le n most) few in let within : n ≤ most = leb-true n most parts.1 in lt-ltb n (2 ^ 32) (omega (arith, less, within))
 
   -- the code can make stores of them
   pub stores_fit : list_all is_fit_store (stores_in doc) ≡ true
@@ -77,8 +98,8 @@ module _ (doc : Members) (fine : first_breach doc ≡ None) where
   stores_fit =
       each_fit doc [] Store is_fit_store
       (λ earlier d none. and_from (is_plain (name_in d)) _ (wanted (is_plain (name_in d)) (none PlainNames))
-      (let few = and_parts _ _ (tries_few earlier d none) in let most : number_or 3 (option_and_then as_integer (member_in (codes "tries") d)) ≤ MOST_TRIES = leb-true _ _ few.1 in
-      lt-ltb (number_or 3 (option_and_then as_integer (member_in (codes "tries") d))) (2 ^ 32) (omega arith))) [] (stores_in doc)
+      (let few = numbers_few earlier d none in
+      and_from _ _ (few_fits MOST_TRIES (tries_at d) (omega arith) few.0) (few_fits MOST_ROOM (room_at d) (omega arith) few.1))) [] (stores_in doc)
       (λ rule. (each_kept rule doc fine).stores)
 
   pub store_sound : (earlier : List Data) (d : Data) → FailsNone doc [] Store earlier d → is_sound_store (length (regions_of doc)) (store_of (regions_of doc) d) ≡ true
@@ -94,7 +115,7 @@ module _ (doc : Members) (fine : first_breach doc ≡ None) where
       (λ e among. region_below doc fine (text_of e) among) ds both.0)
       (and_from _ _ (distinct_made (λ e. is_among (text_of e) (regions_in doc)) number_at (λ e d. bytes_eq (text_of d) (text_of e)) nat_eq
       (λ a b one other same. text_same (text_of b) (text_of a) (sym (region_same doc fine (text_of a) (text_of b) one other (eqb-true _ _ same)))) ds both.0 (texts_apart ds both.1))
-      (tries_few earlier d none))))
+      (let few = numbers_few earlier d none in and_from _ _ few.0 few.1))))
 
   -- the names of the stores, as they are made
   pub stored_is : (name : List ℕ) → is_stored (stores_of doc) name ≡ is_named name (stores_in doc)

@@ -1,5 +1,5 @@
 -- An application that a document states is sound.
-use Rattle.std.proofs.Common.{◌≡◌, ℕ, ◌+◌, ◌≤◌, codes, List, [], ◌∷◌, true, ◌&&◌, ◌==◌, nat_le, length, map, Option, None, Some, Result, Ok, Err, IsTrue, IfOk, refl, sym, ap, ◌∙◌, arith}
+use Rattle.std.proofs.Common.{◌≡◌, ℕ, ◌+◌, ◌≤◌, codes, List, [], true, nat_le, length, map, Option, None, Some, Result, Ok, Err, IsTrue, IfOk, refl, sym, ap, ◌∙◌, arith}
 use Rattle.std.specs.Prelude.{is_none, position}
 use Rattle.std.specs.Option.{option_and_then, option_map_or, some_prefix}
 use Rattle.std.proofs.lemmas.Bool.{and_parts, and_from, leb-true, le-leb}

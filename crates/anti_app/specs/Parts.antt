@@ -30,13 +30,14 @@ abbrev pub regions_of : Members → List (List ℕ)
 regions_of doc = map text_of (things_at (codes "regions") doc)
 
 -- ---- stores
--- A store. It gives a message out three times where it says nothing.
+-- A store. Where it says nothing, it gives a message out three times, and a cache of it holds eight keys.
 unfoldable pub store_of : List (List ℕ) → Data → StoreDef
 store_of regions d = record {
   name = name_in d;
   kind = kind_of (text_at (codes "kind") d);
   replicas = plain (map (λ replica. region_place regions (text_of replica)) (things_in (codes "replicas") d));
   tries = number_or 3 (option_and_then as_integer (member_in (codes "tries") d));
+  room = number_or 8 (option_and_then as_integer (member_in (codes "room") d));
 }
 
 -- The stores.

@@ -1,5 +1,5 @@
 -- What an application keeps, whatever is done with it: counts, names that differ, and numbers of things that are there.
-use Rattle.std.specs.Prelude.{ℕ, ◌+◌, List, [], ◌∷◌, Bool, true, false, not, ◌&&◌, ◌||◌, ◌==◌, nat_le, nat_lt, nat_eq, length, slice_get, Option, Some, None, is_none}
+use Rattle.std.specs.Prelude.{ℕ, ◌+◌, List, [], ◌∷◌, Bool, true, false, not, ◌&&◌, ◌==◌, nat_le, nat_lt, nat_eq, length, slice_get, Option, Some, None, is_none}
 use Rattle.std.specs.List.{list_all, list_any}
 use Rattle.std.specs.Option.{option_map_or}
 use Rattle.std.specs.Str.{bytes_eq}
@@ -13,7 +13,7 @@ use Rattle.anti_lang.specs.Lines.{Line, Does}
 use Rattle.anti_lang.specs.Blocks.{lines_of}
 use Rattle.anti_lang.specs.Faults.{block_fault, variable_fault}
 use Rattle.anti_lang.specs.Spans.{spans_of}
-use Rattle.anti_ids.specs.declared.limits.TheConstants.{GREATEST_SEED, LONGEST_VALUE, MOST_CHOICES, MOST_COUNTED, MOST_HANDLERS, MOST_LINES, MOST_REGIONS, MOST_REPLICAS, MOST_REQUESTS, MOST_SERVICES, MOST_STORES, MOST_SUBS, MOST_TRIES, MOST_WORKERS}
+use Rattle.anti_ids.specs.declared.limits.TheConstants.{GREATEST_SEED, LONGEST_VALUE, MOST_CHOICES, MOST_COUNTED, MOST_HANDLERS, MOST_LINES, MOST_REGIONS, MOST_REPLICAS, MOST_REQUESTS, MOST_ROOM, MOST_SERVICES, MOST_STORES, MOST_SUBS, MOST_TRIES, MOST_WORKERS}
 use Rattle.anti_app.specs.declared.app.App.{App}
 use Rattle.anti_app.specs.declared.app.StoreDef.{StoreDef}
 use Rattle.anti_app.specs.declared.app.HandlerDef.{HandlerDef}
@@ -34,11 +34,12 @@ abbrev pub is_few : ℕ → ℕ → Bool
 is_few most n = nat_le 1 n && nat_le n most
 
 -- ---- stores
--- a plain name, replicas, each a region, and distinct, and tries
+-- a plain name, replicas, each a region, and distinct, tries and room
 unfoldable pub is_sound_store : ℕ → StoreDef → Bool
 is_sound_store regions store =
     is_plain store.name && (is_few MOST_REPLICAS (length store.replicas.items)
-    && (list_all (λ region. nat_lt region regions) store.replicas.items && (are_distinct nat_eq store.replicas.items && is_few MOST_TRIES store.tries)))
+    && (list_all (λ region. nat_lt region regions) store.replicas.items && (are_distinct nat_eq store.replicas.items
+    && (is_few MOST_TRIES store.tries && is_few MOST_ROOM store.room))))
 
 -- Whether a store has this name.
 abbrev pub is_stored : List StoreDef → List ℕ → Bool

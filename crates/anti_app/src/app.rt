@@ -23,6 +23,8 @@ pub struct StoreDef {
     pub replicas: Numbers,
     /// How often a message is given out at most, 1 to `MOST_TRIES`. It counts only where messages come again.
     pub tries: u32,
+    /// How many keys the cache of a replica holds, 1 to `MOST_ROOM`. It counts only where reads go through caches.
+    pub room: u32,
 }
 
 /// The stores, in the order of the document.

@@ -17,6 +17,9 @@ use toml::Value;
 // How often a message is given out at most where the document says nothing.
 const TRIES: u64 = 3;
 
+// How many keys the cache of a replica holds where the document says nothing.
+const ROOM: u64 = 8;
+
 // The number of the region of a replica.
 #[tactic(auto, unfolding(crate::specs::inner::Fit::replica_of))]
 fn replica_of(regions: &[Name], value: &Value) -> u32
@@ -51,6 +54,7 @@ fn store_of(alloc: Global, regions: &[Name], value: &Value) -> Result<StoreDef, 
         kind: StoreKind::of_word(text_at(value, "kind")),
         replicas,
         tries: number_or(TRIES, integer_at(value, "tries")) as u32,
+        room: number_or(ROOM, integer_at(value, "room")) as u32,
     })
 }
 

@@ -28,6 +28,9 @@ pub const PART_BYTES: usize = 64;
 /// The most times that a queue hands a message out.
 pub const MOST_TRIES: u32 = 8;
 
+/// The most keys that the cache of a replica holds.
+pub const MOST_ROOM: u32 = 64;
+
 /// The depth of the deepest message.
 pub const MOST_DEPTH: u32 = 8;
 

@@ -7,9 +7,9 @@ use Rattle.anti_ids.specs.declared.limits.TheConstants.{PART_BYTES}
 use Rattle.anti_kind.specs.declared.entry.Entry.{Entry}
 use Rattle.anti_kind.specs.declared.row.Row.{Row}
 use Rattle.anti_kind.specs.declared.store_kind.StoreKind.{StoreKind}
-use Rattle.anti_kind.specs.declared.store_kind.StoreKind.TheVariants.{Kv, Table, Blob, Queue, Topic}
+use Rattle.anti_kind.specs.declared.store_kind.StoreKind.TheVariants.{Kv, Table, Blob, Queue, Topic, Cached}
 use Rattle.anti_kind.specs.Shipments.{AreTries}
-use Rattle.anti_kind.specs.Starts.{HasTries, is_pulled}
+use Rattle.anti_kind.specs.Starts.{HasRoom, HasTries, IsRoom, is_pulled}
 use Rattle.anti_kind.specs.Kinds.{facts_of}
 use Rattle.anti_kind.specs.Stored.{is_shipped, is_whole, parts_of}
 
@@ -20,6 +20,12 @@ scanned_ordered Kv is = is
 scanned_ordered Blob is = is
 scanned_ordered Queue is = is
 scanned_ordered Topic is = is
+scanned_ordered Cached is = is
+
+-- what is scanned has no caches
+pub scanned_uncached : (kind : StoreKind) → (facts_of kind).scanned ≡ true → (facts_of kind).cached ≡ false
+scanned_uncached Cached is = absurd (false≢true is)
+scanned_uncached _ is = refl
 
 -- what comes in order comes whole
 pub ordered_whole : (kind : StoreKind) (value : List ℕ) → (facts_of kind).ordered ≡ true → parts_of kind value ≡ 1
@@ -45,6 +51,7 @@ keyed_or_pulled Table keyed pulled = false≢true pulled
 keyed_or_pulled Blob keyed pulled = false≢true pulled
 keyed_or_pulled Queue keyed pulled = false≢true keyed
 keyed_or_pulled Topic keyed pulled = false≢true keyed
+keyed_or_pulled Cached keyed pulled = false≢true pulled
 
 -- what is polled is not tried
 pub polled_not_tried : (kind : StoreKind) → (facts_of kind).polled ≡ true → (facts_of kind).tried ≡ false
@@ -58,3 +65,11 @@ tries_fit kind tries some few = by_tried (facts_of kind).tried
     by_tried : (tried : Bool) → AreTries tried (cond tried tries 0)
     by_tried true = (some, few)
     by_tried false = tt
+
+-- where there are caches they have room, else none
+pub room_fits : (kind : StoreKind) (room : ℕ) → 1 ≤ room → room ≤ 64 → HasRoom kind (cond (facts_of kind).cached room 0)
+room_fits kind room some few = by_cached (facts_of kind).cached
+  where
+    by_cached : (cached : Bool) → IsRoom cached (cond cached room 0)
+    by_cached true = (some, few)
+    by_cached false = tt

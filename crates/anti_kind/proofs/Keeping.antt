@@ -1,6 +1,6 @@
 -- The laws of a kind. Looks are right at every store; reads are right, and show together what belongs together, at every store whose
 -- regions show the greatest version that is whole.
-use Rattle.std.proofs.Common.{◌≡◌, ℕ, zero, suc, ◌<◌, Bool, true, not, List, [], ◌∷◌, get_or, Option, Some, None, All, refl, sym, ap, subst, ◌∙◌, ◌==◌, leb, eqb-true, arith, unwrap_or}
+use Rattle.std.proofs.Common.{◌≡◌, ℕ, zero, suc, ◌<◌, Bool, true, false, not, List, [], ◌∷◌, get_or, Option, Some, None, All, refl, sym, ap, subst, ◌∙◌, ◌==◌, leb, eqb-true, arith, unwrap_or}
 use Rattle.std.specs.Prelude.{◌↔◌, bytes_eq, Contains}
 use Rattle.std.proofs.lemmas.List.Elements.{All-nil, All-cons, All-contains}
 use Rattle.std.proofs.lemmas.Bool.{and_parts, both_ways, not-true, true_from_ne_false, le-leb, false≢true}
@@ -11,10 +11,10 @@ use Rattle.anti_kind.specs.declared.call.Call.TheVariants.{Read, Scan, Poll, Loo
 use Rattle.anti_kind.specs.declared.entry.Entry.{Entry}
 use Rattle.anti_kind.specs.declared.row.Row.{Row}
 use Rattle.anti_kind.specs.Stored.{rows, row_of, is_shipped, shows_of}
-use Rattle.anti_kind.proofs.FactLaws.{scanned_ordered}
+use Rattle.anti_kind.proofs.FactLaws.{scanned_ordered, scanned_uncached}
 use Rattle.anti_kind.specs.Store.{Store, is_replica, is_visible, is_written, shown_row, scanned, absent}
 use Rattle.anti_kind.specs.Objects.{store, due, ready, IsLegal}
-use Rattle.anti_kind.specs.Laws.{ShowsWritten, LooksRight, is_read_at, IsRight, ReadsRight, OwnAfter, IsTogether, ReadsTogether, KeepsLaws}
+use Rattle.anti_kind.specs.Laws.{NeverFalls, ShowsWritten, LooksRight, is_read_at, IsRight, ReadsRight, OwnAfter, IsTogether, ReadsTogether, KeepsLaws}
 use Rattle.anti_kind.specs.Replies.{named_missing, speaks_of, shown}
 use Rattle.anti_kind.proofs.Rows.{versions_grow}
 use Rattle.anti_kind.proofs.Lineages.{IsEarlier, earlier}
@@ -107,33 +107,35 @@ scan_together s is table h l own g prefix =
     let came : is_shipped h g r.version 1 ≡ true = subst (λ (v : ℕ). is_shipped h g v 1 ≡ true) version (shown_came s.kind h g r.key (omega (arith, before.0))) in
     visible_below s is table h l g r.version 1 id came before.0 before.1)
 
-together_by : (s : Store) → s.shows ≡ shows_of s.kind → (h : List Entry) (g : ℕ) (c : Call) → IsLegal (store s) h → OwnAfter s [] h → ready (store s) h c ≡ true → is_read_at g c ≡ true → All (IsTogether s h g c) (shown (due (store s) h c))
+together_by : (s : Store) → ((facts_of s.kind).cached ≡ false → s.shows ≡ shows_of s.kind) → (h : List Entry) (g : ℕ) (c : Call) → IsLegal (store s) h → OwnAfter s [] h → ready (store s) h c ≡ true → is_read_at g c ≡ true → All (IsTogether s h g c) (shown (due (store s) h c))
 together_by s is h g (Read region key) l own can here =
     subst (λ (n : ℕ). All (IsTogether s h n (Read region key)) (shown_row s h region key ∷ [])) (eqb-true region g here) (read_together s h region key (Read region key) (λ x. refl) l own)
 together_by s is h g (Poll region key) l own can here =
     subst (λ (n : ℕ). All (IsTogether s h n (Poll region key)) (shown_row s h region key ∷ [])) (eqb-true region g here) (read_together s h region key (Poll region key) (λ x. refl) l own)
 together_by s is h g (Scan region prefix) l own can here =
     subst (λ (n : ℕ). All (IsTogether s h n (Scan region prefix)) (scanned s h region prefix)) (eqb-true region g here)
-    (scan_together s is (scanned_ordered s.kind (and_parts (facts_of s.kind).scanned (is_replica s region) can).0) h l own region prefix)
+    (scan_together s (is (scanned_uncached s.kind (and_parts (facts_of s.kind).scanned (is_replica s region) can).0))
+    (scanned_ordered s.kind (and_parts (facts_of s.kind).scanned (is_replica s region) can).0) h l own region prefix)
 together_by s is h g _ l own can here = absurd (false≢true here)
 
-pub reads_together : (s : Store) → s.shows ≡ shows_of s.kind → ReadsTogether s
+pub reads_together : (s : Store) → ((facts_of s.kind).cached ≡ false → s.shows ≡ shows_of s.kind) → ReadsTogether s
 reads_together s is h g c reading own = together_by s is h g c reading.legal own reading.is_ready reading.is_read
 
--- The laws together.
+-- The laws together, of a store whose regions show what was written and never less, and where there are no caches what is whole.
+pub laws_of_shows : (s : Store) → NeverFalls s → ShowsWritten s → ((facts_of s.kind).cached ≡ false → s.shows ≡ shows_of s.kind) → KeepsLaws s
+laws_of_shows s falls written is = record {
+  never_falls = falls;
+  shows_written = written;
+  looks_right = looks_right s;
+  reads_right = reads_right s written;
+  reads_together = reads_together s is;
+  rows_have_sources = rows_have_sources s;
+  versions_grow = versions_grow s;
+  calls_name_own = calls_name_own s;
+}
+
 pub keeps_laws : (s : Store) → s.shows ≡ shows_of s.kind → KeepsLaws s
-keeps_laws s is =
-    let written : ShowsWritten s = shows_written s is in
-    record {
-      never_falls = never_falls s is;
-      shows_written = written;
-      looks_right = looks_right s;
-      reads_right = reads_right s written;
-      reads_together = reads_together s is;
-      rows_have_sources = rows_have_sources s;
-      versions_grow = versions_grow s;
-      calls_name_own = calls_name_own s;
-    }
+keeps_laws s is = laws_of_shows s (never_falls s is) (shows_written s is) (λ _. is)
 
 -- A start is that of one store alone: so what a machine's store keeps, each store keeps that its start is.
 pub laws_of_start : (s t : Store) → store s ≡ store t → KeepsLaws s → KeepsLaws t

@@ -23,6 +23,7 @@ pub mod Scans
 pub mod Tables
 pub mod Sources
 pub mod Keeping
+pub mod Caching
 -- cells of a channel, and who pulled them
 pub mod Cells
 pub mod Pulls
@@ -30,6 +31,7 @@ pub mod Pulls
 pub mod Whole
 pub mod Freed
 pub mod Waiting
+pub mod Staleness
 -- ports
 pub mod Making
 mod Worked

@@ -1,5 +1,5 @@
 -- Scans: what they show, and that they never show fewer rows later.
-use Rattle.std.proofs.Common.{◌≡◌, Option, ℕ, ◌+◌, ◌<◌, ◌≤◌, Bool, true, false, cond, ◌&&◌, List, [], ◌∷◌, ◌++◌, length, get_or, map, filter, take, All, sym, ap, ◌∙◌, ⊎_elim, ◌==◌, eqb-true, eq-eqb, arith, unwrap_or}
+use Rattle.std.proofs.Common.{◌≡◌, Option, ℕ, ◌+◌, ◌<◌, ◌≤◌, Bool, true, false, cond, ◌&&◌, List, [], ◌∷◌, ◌++◌, ◌⊎◌, length, get_or, map, filter, take, All, sym, ap, ◌∙◌, ⊎_elim, ◌==◌, eqb-true, eq-eqb, arith, unwrap_or}
 use Rattle.std.specs.Prelude.{bytes_eq, Contains}
 use Rattle.std.specs.Ordering.{nat_cmp, is_lt}
 use Rattle.std.specs.Cmp.Lexicographic.{slice_cmp}
@@ -46,7 +46,7 @@ sorted_permutes (r ∷ rs) =
 length_sorted : (rs : List Row) → length (sorted rs) ≡ length rs
 length_sorted rs = length_permutation rs (sorted rs) (sorted_permutes rs)
 
--- The rows of a scan have different keys.
+-- The rows of a scan have different keys. What its regions show is all that counts of the store s: the history is one of the store t.
 
 abbrev in_scan : Store → List Entry → ℕ → List ℕ → Row → Bool
 in_scan s h g prefix r = bytes_eq prefix (take (length prefix) r.key) && (s.shows h g r.key == r.version)
@@ -57,7 +57,11 @@ scan_rows s h g prefix = filter (in_scan s h g prefix) (rows h)
 abbrev scan_keys : Store → List Entry → ℕ → List ℕ → List (List ℕ)
 scan_keys s h g prefix = map (λ r. r.key) (scan_rows s h g prefix)
 
-module _ (s : Store) (h : List Entry) (l : IsLegal (store s) h) (g : ℕ) (prefix : List ℕ) where
+-- what a store shows for a key is 0 or the version of a write with that key
+abbrev pub HasWritten : Store → List Entry → ℕ → Type 0
+HasWritten s h g = (k : List ℕ) → (s.shows h g k ≡ 0) ⊎ (is_written h (id_of s k (s.shows h g k)) ≡ true)
+
+module _ (t : Store) (h : List Entry) (l : IsLegal (store t) h) (s : Store) (g : ℕ) (prefix : List ℕ) where
   is_version : (i : ℕ) (d : Row) → i < length (scan_rows s h g prefix) → s.shows h g (get_or (scan_rows s h g prefix) i d).key ≡ (get_or (scan_rows s h g prefix) i d).version
   is_version i d short =
       let on : in_scan s h g prefix (get_or (scan_rows s h g prefix) i d) ≡ true = filter_passes (in_scan s h g prefix) (rows h) i d short in
@@ -69,7 +73,7 @@ module _ (s : Store) (h : List Entry) (l : IsLegal (store s) h) (g : ℕ) (prefi
       let first : get_or (scan_keys s h g prefix) i d ≡ (get_or (scan_rows s h g prefix) i (absent [])).key = get_or-map (λ (r : Row). r.key) (scan_rows s h g prefix) i (absent []) d (omega arith) in
       let second : get_or (scan_keys s h g prefix) j d ≡ (get_or (scan_rows s h g prefix) j (absent [])).key = get_or-map (λ (r : Row). r.key) (scan_rows s h g prefix) j (absent []) d short' in
       let rise : (get_or (scan_rows s h g prefix) i (absent [])).version < (get_or (scan_rows s h g prefix) j (absent [])).version =
-      AllPairs-filter (λ (x y : Row). x.version < y.version) (in_scan s h g prefix) (rows h) (versions_grow s h l) i j (absent []) less short' in
+      AllPairs-filter (λ (x y : Row). x.version < y.version) (in_scan s h g prefix) (rows h) (versions_grow t h l) i j (absent []) less short' in
       false_from_ne_true _ (λ same.
       let keys : (get_or (scan_rows s h g prefix) i (absent [])).key ≡ (get_or (scan_rows s h g prefix) j (absent [])).key =
       sym first ∙ bytes_same (get_or (scan_keys s h g prefix) i d) (get_or (scan_keys s h g prefix) j d) same ∙ second in
@@ -89,7 +93,7 @@ module _ (s : Store) (h : List Entry) (l : IsLegal (store s) h) (g : ℕ) (prefi
       let key : r.key ≡ k = sym (get_or-map (λ (x : Row). x.key) (scan_rows s h g prefix) in'.0 (absent []) k short) ∙ in'.2 in
       let on : in_scan s h g prefix r ≡ true = filter_passes (in_scan s h g prefix) (rows h) in'.0 (absent []) short in
       let both = and_parts (bytes_eq prefix (take (length prefix) r.key)) (s.shows h g r.key == r.version) on in
-      let first : 1 ≤ r.version = All-filter (in_scan s h g prefix) (λ (x : Row). 1 ≤ x.version) (rows h) (λ i d within. omega (arith, version_at s h l i d within)) in'.0 (absent []) short in
+      let first : 1 ≤ r.version = All-filter (in_scan s h g prefix) (λ (x : Row). 1 ≤ x.version) (rows h) (λ i d within. omega (arith, version_at t h l i d within)) in'.0 (absent []) short in
       record {
         prefixed = ap (λ (x : List ℕ). bytes_eq prefix (take (length prefix) x)) (sym key) ∙ both.0;
         some = omega (arith, first, eqb-true (s.shows h g r.key) r.version both.1, ap (λ (x : List ℕ). s.shows h g x) key);
@@ -101,20 +105,20 @@ module _ (s : Store) (h : List Entry) (l : IsLegal (store s) h) (g : ℕ) (prefi
     here : Contains (scan_rows s h g prefix) row
     key : row.key ≡ k
 
-  row_scanned : ShowsWritten s → (k : List ℕ) → IsScanned k → HasRow k
+  row_scanned : HasWritten s h g → (k : List ℕ) → IsScanned k → HasRow k
   row_scanned written k is =
       ⊎_elim (λ (none : s.shows h g k ≡ 0). absurd (omega (arith, is.some)))
       (λ (some : is_written h (id_of s k (s.shows h g k)) ≡ true).
-      let found : (r : Row) × IsWritten h (id_of s k (s.shows h g k)) r = row_written s h l (id_of s k (s.shows h g k)) some in
+      let found : (r : Row) × IsWritten h (id_of s k (s.shows h g k)) r = row_written t h l (id_of s k (s.shows h g k)) some in
       let at : Found (λ x. x.version == s.shows h g k) (rows h) found.0 = find_found (λ x. x.version == s.shows h g k) (rows h) found.0 found.1.row in
       let passes : in_scan s h g prefix found.0 ≡ true =
       and_from (bytes_eq prefix (take (length prefix) found.0.key)) (s.shows h g found.0.key == found.0.version)
       (ap (λ (x : List ℕ). bytes_eq prefix (take (length prefix) x)) found.1.key ∙ is.prefixed)
       (eq-eqb (s.shows h g found.0.key) found.0.version (ap (λ (x : List ℕ). s.shows h g x) found.1.key ∙ sym found.1.version)) in
       record { row = found.0; here = (filter_contains (in_scan s h g prefix) (rows h) found.0).1 ((at.index, at.within, at.at found.0), passes); key = found.1.key })
-      (written h l g k)
+      (written k)
 
-  key_scanned : ShowsWritten s → (k : List ℕ) → IsScanned k → Contains (scan_keys s h g prefix) k
+  key_scanned : HasWritten s h g → (k : List ℕ) → IsScanned k → Contains (scan_keys s h g prefix) k
   key_scanned written k is =
       let has : HasRow k = row_scanned written k is in (
         has.here.0,
@@ -122,6 +126,7 @@ module _ (s : Store) (h : List Entry) (l : IsLegal (store s) h) (g : ℕ) (prefi
         get_or-map (λ (x : Row). x.key) (scan_rows s h g prefix) has.here.0 has.row k has.here.1 ∙ ap (λ (x : Row). x.key) has.here.2 ∙ has.key,
       )
 
+module _ (s : Store) (h : List Entry) (l : IsLegal (store s) h) (g : ℕ) (prefix : List ℕ) where
   -- What holds of each row of the history that has the prefix and whose version its key shows holds of each row of the scan.
   pub all_scanned : (P : Row → Type 0) → ((r : Row) → Contains (rows h) r → bytes_eq prefix (take (length prefix) r.key) ≡ true → s.shows h g r.key ≡ r.version → P r) → All P (scanned s h g prefix)
   all_scanned P holds =
@@ -143,7 +148,7 @@ module _ (s : Store) (h : List Entry) (l : IsLegal (store s) h) (g : ℕ) (prefi
   scan_right written = record {
     rows_are = all_scanned (λ r. (speaks_of r.key (Scan g prefix) ≡ true) × (r ≡ shown_row s h g r.key)) row_right;
     absent = λ k spoken none. some_or_none (s.shows h g k) (λ some.
-        let has : HasRow k = row_scanned written k (record { prefixed = spoken; some = some }) in
+        let has : HasRow s h l s g prefix k = row_scanned s h l s g prefix (written h l g) k (record { prefixed = spoken; some = some }) in
         let here : Contains (rows h) has.row = ((filter_contains (in_scan s h g prefix) (rows h) has.row).0 has.here).0 in
         let version : has.row.version ≡ here.0 + 1 = ap (λ (x : Row). x.version) (sym here.2) ∙ version_at s h l here.0 has.row here.1 in
         let none' : has.row.version ≡ 0 =
@@ -152,13 +157,25 @@ module _ (s : Store) (h : List Entry) (l : IsLegal (store s) h) (g : ℕ) (prefi
         absurd (omega arith));
   }
 
+-- A scan shows no more rows than another that shows something for each key for which it does.
+no_more : (t u : Store) (h k : List Entry) (l : IsLegal (store t) h) (m : IsLegal (store u) k) (s r : Store) (g : ℕ) (prefix : List ℕ) → HasWritten r k g
+    → ((key : List ℕ) → 1 ≤ s.shows h g key → 1 ≤ r.shows k g key) → length (scanned s h g prefix) ≤ length (scanned r k g prefix)
+no_more t u h k l m s r g prefix written some =
+    let keys : length (scan_keys s h g prefix) ≤ length (scan_keys r k g prefix) =
+    length-le_from_is_member nat_list_eq_equiv (scan_keys s h g prefix) (scan_keys r k g prefix)
+    (IsDistinct-from_apart bytes_eq (scan_keys s h g prefix) (apart t h l s g prefix))
+    (λ key in'.
+    let was : IsScanned t h l s g prefix key = scanned_key t h l s g prefix key ((is_member-Decides bytes_eq-Decides (scan_keys s h g prefix) key).0 in') in
+    (is_member-Decides bytes_eq-Decides (scan_keys r k g prefix) key).1 (key_scanned u k m r g prefix written key (record { prefixed = was.prefixed; some = some key was.some }))) in
+    omega (arith, length_sorted (scan_rows s h g prefix), length_sorted (scan_rows r k g prefix), length-map (scan_rows s h g prefix) (λ (r : Row). r.key), length-map (scan_rows r k g prefix) (λ (r : Row). r.key))
+
 pub scan_grows : (s : Store) → NeverFalls s → ShowsWritten s → (h rest : List Entry) → IsLegal (store s) (h ++ rest) → (g : ℕ) (prefix : List ℕ) → length (scanned s h g prefix) ≤ length (scanned s (h ++ rest) g prefix)
 scan_grows s rises written h rest l g prefix =
-    let front : IsLegal (store s) h = legal_front (store s) h rest l in
-    let keys : length (scan_keys s h g prefix) ≤ length (scan_keys s (h ++ rest) g prefix) =
-    length-le_from_is_member nat_list_eq_equiv (scan_keys s h g prefix) (scan_keys s (h ++ rest) g prefix)
-    (IsDistinct-from_apart bytes_eq (scan_keys s h g prefix) (apart s h front g prefix))
-    (λ k in'.
-    let was : IsScanned s h front g prefix k = scanned_key s h front g prefix k ((is_member-Decides bytes_eq-Decides (scan_keys s h g prefix) k).0 in') in
-    (is_member-Decides bytes_eq-Decides (scan_keys s (h ++ rest) g prefix) k).1 (key_scanned s (h ++ rest) l g prefix written k (record { prefixed = was.prefixed; some = omega (arith, was.some, rises h rest l g k) }))) in
-    omega (arith, length_sorted (scan_rows s h g prefix), length_sorted (scan_rows s (h ++ rest) g prefix), length-map (scan_rows s h g prefix) (λ (r : Row). r.key), length-map (scan_rows s (h ++ rest) g prefix) (λ (r : Row). r.key))
+    no_more s s h (h ++ rest) (legal_front (store s) h rest l) l s s g prefix (written (h ++ rest) l g) (λ k some. omega (arith, some, rises h rest l g k))
+
+-- After a legal history two stores that show something for the same keys show as many rows.
+pub scans_alike : (s r : Store) (h : List Entry) → IsLegal (store s) h → (g : ℕ) (prefix : List ℕ) → HasWritten s h g → HasWritten r h g
+    → ((k : List ℕ) → 1 ≤ s.shows h g k → 1 ≤ r.shows h g k) → ((k : List ℕ) → 1 ≤ r.shows h g k → 1 ≤ s.shows h g k)
+    → length (scanned s h g prefix) ≡ length (scanned r h g prefix)
+scans_alike s r h l g prefix written has there back =
+    omega (arith, no_more s s h h l l s r g prefix has there, no_more s s h h l l r s g prefix written back)

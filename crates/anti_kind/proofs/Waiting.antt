@@ -50,7 +50,7 @@ waiting_is_not_ready (inbox requests) h (TakeReply number) (Reply to) w =
     and_left (has_reply h number) (not (reply_is_taken h number)) (ap (has_reply h) (eqb-true number to both.0) ∙ not-true (has_reply h to) both.1)
 waiting_is_not_ready (store s) h (Pull sub) (Handout to) w = not-true (store_ready s h (Pull sub)) (and_parts (sub == to) _ w).1
 waiting_is_not_ready (store s) h (Look g ids dry) (Version region v) w =
-    let first = and_parts (g == region) _ w in
+    let first = and_parts (g == region) _ (and_parts (not (facts_of s.kind).cached) _ w).1 in
     let second = and_parts (not dry) _ first.1 in
     let third = and_parts (list_all (is_written h) ids) (list_any (lacks s h g v) ids) second.1 in
     and_right (is_replica s g) _ (and_right (list_all (λ (id : WriteId). id.store == s.number) ids) _
@@ -127,7 +127,7 @@ pull_waits s h e n l ships nacks was =
 
 -- A look waits for a version of an id that it lacks.
 
-ships_below : (c : Call) (g v : ℕ) → reaches (brought c) (Version g v) ≡ false → (w : ℕ) → v ≤ w → (p : ℕ) → is_ship g w p c ≡ false
+pub ships_below : (c : Call) (g v : ℕ) → reaches (brought c) (Version g v) ≡ false → (w : ℕ) → v ≤ w → (p : ℕ) → is_ship g w p c ≡ false
 ships_below (Ship region version part) g v off w above p =
     false_from_ne_true (is_ship g w p (Ship region version part)) (λ on.
     let first = and_parts (region == g) _ on in
@@ -157,15 +157,17 @@ all_written h rest ids was =
     list_all-from_AllPass (is_written (h ++ rest)) ids
     (All-weaker (λ (id : WriteId). is_written h id ≡ true) (λ (id : WriteId). is_written (h ++ rest) id ≡ true) (written_stays h rest) ids (AllPass-from_list_all (is_written h) ids was))
 
-look_waits : (s : Store) → s.shows ≡ shows_of s.kind → (h : List Entry) (e : Entry) → IsLegal (store s) (h ++ e ∷ []) → (g : ℕ) (ids : List WriteId) (dry : Bool) (region v : ℕ)
+look_waits : (s : Store) → ((facts_of s.kind).cached ≡ false → s.shows ≡ shows_of s.kind) → (h : List Entry) (e : Entry) → IsLegal (store s) (h ++ e ∷ []) → (g : ℕ) (ids : List WriteId) (dry : Bool) (region v : ℕ)
     → reaches (brought e.call) (Version region v) ≡ false → waits (store s) h (Look g ids dry) (Version region v) ≡ true → waits (store s) (h ++ e ∷ []) (Look g ids dry) (Version region v) ≡ true
-look_waits s is h e l g ids dry region v off was =
-    let first = and_parts (g == region) _ was in
+look_waits s whole h e l g ids dry region v off was =
+    let outer = and_parts (not (facts_of s.kind).cached) _ was in
+    let is : s.shows ≡ shows_of s.kind = whole (not-true (facts_of s.kind).cached outer.0) in
+    let first = and_parts (g == region) _ outer.1 in
     let second = and_parts (not dry) _ first.1 in
     let third = and_parts (list_all (is_written h) ids) (list_any (lacks s h g v) ids) second.1 in
     let off' : reaches (brought e.call) (Version g v) ≡ false = ap (λ (at : ℕ). reaches (brought e.call) (Version at v)) (eqb-true g region first.0) ∙ off in
-    and_from (g == region) _ first.0 (and_from (not dry) _ second.0
-    (and_from (list_all (is_written (h ++ e ∷ [])) ids) _ (all_written h (e ∷ []) ids third.0) (any_lacks s is h e l g v off' ids third.1)))
+    and_from (not (facts_of s.kind).cached) _ outer.0 (and_from (g == region) _ first.0 (and_from (not dry) _ second.0
+    (and_from (list_all (is_written (h ++ e ∷ [])) ids) _ (all_written h (e ∷ []) ids third.0) (any_lacks s is h e l g v off' ids third.1))))
 
 -- So what waits goes on to wait.
 pub waiting_goes_on : WaitingGoesOn

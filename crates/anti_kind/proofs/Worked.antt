@@ -15,16 +15,18 @@ use Rattle.anti_kind.specs.declared.message.Message.{Message}
 use Rattle.anti_kind.specs.declared.message.MessageKind.{MessageKind}
 use Rattle.anti_kind.specs.declared.message.MessageKind.TheVariants as kinds
 use Rattle.anti_kind.specs.declared.row.Row.{Row}
-use Rattle.anti_kind.specs.declared.store_kind.StoreKind.TheVariants.{Kv, Table, Blob, Queue, Topic}
+use Rattle.anti_kind.specs.declared.store_kind.StoreKind.TheVariants.{Kv, Table, Blob, Queue, Topic, Cached}
 use Rattle.anti_kind.specs.Stored.{parts_of}
 use Rattle.anti_kind.specs.Shipments.{upto_of, next_ship}
 use Rattle.anti_kind.specs.Store.{store_of, is_visible}
-use Rattle.anti_kind.specs.Starts.{kv_store, table_store}
+use Rattle.anti_kind.specs.Starts.{cached_store, kv_store, table_store}
+use Rattle.anti_kind.specs.Caches.{cache, stale}
 use Rattle.anti_kind.specs.Inbox.{free}
 use Rattle.anti_kind.specs.Replies.{speaks_of, shown}
 use Rattle.anti_kind.specs.Laws.{KeepsLaws}
 use Rattle.anti_kind.specs.Fulls.{is_asking}
 use Rattle.anti_kind.proofs.Keeping.{keeps_laws}
+use Rattle.anti_kind.proofs.Caching.{kinds_keep_laws}
 use Rattle.anti_kind.specs.Objects.{Start, store, inbox, ready, due, need, held, owed, fits, last_stamp}
 
 -- the entry that a carrier's call makes
@@ -238,6 +240,76 @@ look_clear = refl
 
 look_goes : goes kv kv_written (Ship 0 1 1 ∷ Look 0 (id k 1 ∷ []) false ∷ []) ≡ true
 look_goes = refl
+
+-- A cached store with one region, whose cache holds one key: it goes on to show the first version that was read, until the second comes
+-- again, and a look waits for the cache too. What is read next puts the key out.
+
+abbrev cached : Start
+cached = store (cached_store 0 (0 ∷ []) 1)
+
+abbrev cached_behind : Run
+cached_behind =
+    (Write k a [], Written k 1 None)
+    ∷ (Ship 0 1 1, Moved)
+    ∷ (Read 0 k, shows (row k 1 a []))
+    ∷ (Write k b [], Written k 2 (Some kv_over))
+    ∷ (Ship 0 2 1, Moved)
+    ∷ (Read 0 k, shows (row k 1 a []))
+    ∷ []
+
+abbrev cached_refreshed : Run
+cached_refreshed = cached_behind ++ (Again 0 2 1, Moved) ∷ []
+
+abbrev cached_run : Run
+cached_run =
+    cached_refreshed
+    ++ (Read 0 k, shows (row k 2 b kv_over))
+    ∷ (Write j a [], Written j 3 None)
+    ∷ (Ship 0 3 1, Moved)
+    ∷ (Read 0 j, shows (row j 3 a []))
+    ∷ []
+
+abbrev cached_at : Run → List Entry
+cached_at run = after cached [] (calls_of run)
+
+cached_goes : goes cached [] (calls_of cached_run) ≡ true
+cached_goes = refl
+
+cached_replies : replies cached (calls_of cached_run) ≡ replies_of cached_run
+cached_replies = refl
+
+cached_look_waits : ready cached (cached_at cached_behind) (Look 0 (id k 2 ∷ []) false) ≡ false
+cached_look_waits = refl
+
+cached_stale : stale cached (cached_at cached_behind) 0 ≡ Some 2
+cached_stale = refl
+
+cached_fresh : stale cached (cached_at cached_refreshed) 0 ≡ None
+cached_fresh = refl
+
+cached_look_goes : ready cached (cached_at cached_refreshed) (Look 0 (id k 2 ∷ []) false) ≡ true
+cached_look_goes = refl
+
+cached_held : held (cached_at cached_run) ≡ 11
+cached_held = refl
+
+cached_owed : owed cached (cached_at cached_run) ≡ 0
+cached_owed = refl
+
+-- the last read put the other key out
+cached_last : cache Cached 1 (cached_at cached_run) 0 ≡ (j, 3) ∷ []
+cached_last = refl
+
+-- with room for two both are there, and a read brings its key to the front
+cached_two : cache Cached 2 (cached_at cached_run) 0 ≡ (j, 3) ∷ (k, 2) ∷ []
+cached_two = refl
+
+cached_front : cache Cached 2 (after cached (cached_at cached_run) (Read 0 k ∷ [])) 0 ≡ (k, 2) ∷ (j, 3) ∷ []
+cached_front = refl
+
+-- what nothing is whole of comes into no cache
+cached_absent : cache Cached 2 (after cached [] (Read 0 k ∷ [])) 0 ≡ []
+cached_absent = refl
 
 -- A table: shipments come in the order of the store, and a scan shows the rows by key.
 
@@ -642,6 +714,9 @@ laws_queue = keeps_laws (store_of Queue 2 (0 ∷ []) [] 3) refl
 
 laws_topic : KeepsLaws (store_of Topic 3 (0 ∷ []) [] 0)
 laws_topic = keeps_laws (store_of Topic 3 (0 ∷ []) [] 0) refl
+
+laws_cached : KeepsLaws (cached_store 5 (0 ∷ 1 ∷ []) 8)
+laws_cached = kinds_keep_laws (cached_store 5 (0 ∷ 1 ∷ []) 8) refl
 
 -- A write whose lineage names a version that comes after it: a read then shows it without that version.
 

@@ -7,11 +7,17 @@ use Rattle.anti_kind.specs.declared.call.Reply.{Reply}
 use Rattle.anti_kind.specs.declared.call.Reply.TheVariants.{Shown, Pulled}
 use Rattle.anti_kind.specs.declared.entry.Entry.{Entry}
 use Rattle.anti_kind.specs.declared.row.Row.{Row}
+use Rattle.anti_kind.specs.Kinds.{facts_of}
 use Rattle.anti_kind.specs.Stored.{stored, rows, row_of}
+use Rattle.anti_kind.specs.Caches.{shows_by}
 use Rattle.anti_kind.specs.Store.{Store, is_visible, is_written, absent, shown_row}
 use Rattle.anti_kind.specs.Objects.{store, ready, due, IsLegal}
 use Rattle.anti_kind.specs.Shipments.{next_ship}
 use Rattle.anti_kind.specs.Replies.{named_missing, speaks_of, shown}
+
+-- The regions of a store show what its kind has them show.
+abbrev pub ShowsAsItsKind : Store → Type 0
+ShowsAsItsKind s = s.shows ≡ shows_by (facts_of s.kind).cached s.kind s.room
 
 -- What a region shows for a key never falls as a legal history grows.
 abbrev pub NeverFalls : Store → Type 0

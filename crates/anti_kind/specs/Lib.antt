@@ -4,6 +4,7 @@ pub mod Store
 pub mod Cells
 pub mod Inbox
 pub mod Objects
+pub mod Caches
 pub mod Starts
 pub mod Shipments
 pub mod Machines

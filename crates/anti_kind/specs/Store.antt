@@ -1,4 +1,4 @@
--- The tables of the five kinds of store: which calls are ready after a history, what they are due, and the units that they need.
+-- The tables of the kinds of store: which calls are ready after a history, what they are due, and the units that they need.
 use Rattle.std.specs.Prelude.{ℕ, ◌+◌, ◌*◌, max, Bool, true, false, cond, not, ◌&&◌, ◌||◌, List, [], ◌∷◌, ◌++◌, length, take, ◌==◌, nat_lt, nat_le, bytes_eq, Option, None, Some, is_some, unwrap_or, option_and_then, find, filter, count_by, sum_by, slice_get, decimal}
 use Rattle.std.specs.List.{list_any, list_all}
 use Rattle.std.specs.Option.{option_map_or}
@@ -22,19 +22,20 @@ use Rattle.anti_kind.specs.Kinds.{facts_of}
 use Rattle.anti_kind.specs.Stored.{rows, row_of, is_shipped, parts_of, parts, is_whole, greatest, shows_of, is_in}
 
 -- What a store starts as: its kind, its number, the regions of its replicas, its subscriptions, how many times a message of a
--- queue is handed out at most, and what a region of it shows for a key after a history, 0 for nothing.
+-- queue is handed out at most, how many keys a cache of it holds, and what a region of it shows for a key after a history, 0 for nothing.
 pub record Store : Type 0 where
   pub kind : StoreKind
   pub number : ℕ
   pub regions : List ℕ
   pub subs : List Sub
   pub tries : ℕ
+  pub room : ℕ
   pub shows : List Entry → ℕ → List ℕ → ℕ
 
 -- the stores whose regions show the greatest version that is whole there
 abbrev pub store_of : StoreKind → ℕ → List ℕ → List Sub → ℕ → Store
 store_of kind number regions subs tries =
-    record { kind = kind; number = number; regions = regions; subs = subs; tries = tries; shows = shows_of kind }
+    record { kind = kind; number = number; regions = regions; subs = subs; tries = tries; room = 0; shows = shows_of kind }
 
 -- Writing.
 

@@ -1,17 +1,15 @@
 // Laws of the tables, each proved once for all objects. The functions do nothing: what they say is in their contracts.
-ghost use Rattle.std.specs.Prelude.{◌≡◌, List, []};
+ghost use Rattle.std.specs.Prelude.{List, []};
 ghost use Rattle.anti_kind.specs.declared.entry.Entry.{Entry};
-ghost use Rattle.anti_kind.specs.Stored.{shows_of};
 ghost use Rattle.anti_kind.specs.Store.{Store};
 ghost use Rattle.anti_kind.specs.Objects.{store};
-ghost use Rattle.anti_kind.specs.Laws.{LooksRight, OwnAfter, OwnIdsWritten, RowsHaveSources, VersionsGrow, CallsNameOwn, NextIsReady, NoneIsReady, KeepsLaws};
-ghost use Rattle.anti_kind.specs.Waiting.{NoneLeftGoesOn, WaitingGoesOn, WaitingIsNotReady};
+ghost use Rattle.anti_kind.specs.Laws.{LooksRight, OwnAfter, OwnIdsWritten, RowsHaveSources, VersionsGrow, CallsNameOwn, NextIsReady, NoneIsReady, KeepsLaws, ShowsAsItsKind};
+ghost use Rattle.anti_kind.specs.Waiting.{NoneLeftGoesOn, NoneStaleGoesOn, StaleIsReady, WaitingGoesOn, WaitingIsNotReady};
 ghost use Rattle.anti_kind.specs.Fulls.{ShowsStay, UnitsAddUp, UnitsSuffice, NeedNeverFalls, FullStaysFull, AskingStaysReady};
 
-/// Where the regions of a store show the greatest version that is whole there, what they show is what was written, and it never
-/// falls. This holds of all kinds.
+/// Where the regions of a store show what its kind has them show, that is what was written, and it never falls.
 pub fn shows_stay()
-    ensures { (s : Store) → s.shows ≡ shows_of s.kind → ShowsStay (store s) }
+    ensures { (s : Store) → ShowsAsItsKind s → ShowsStay (store s) }
 {}
 
 /// Looks are right at every store, whatever its regions show.
@@ -19,9 +17,9 @@ pub fn looks_are_right()
     ensures { (s : Store) → LooksRight s }
 {}
 
-/// The laws of a kind hold of each store whose regions show the greatest version that is whole there.
+/// The laws of a kind hold of each store whose regions show what its kind has them show.
 pub fn stores_keep_laws()
-    ensures { (s : Store) → s.shows ≡ shows_of s.kind → KeepsLaws s }
+    ensures { (s : Store) → ShowsAsItsKind s → KeepsLaws s }
 {}
 
 /// What is held and owed after an entry is what it was before and what the entry's call needed.
@@ -87,7 +85,8 @@ pub fn waiting_is_not_ready()
     ensures { WaitingIsNotReady }
 {}
 
-/// A call that waits for something waits for it behind each entry that does not bring it, where regions show what is whole there.
+/// A call that waits for something waits for it behind each entry that does not bring it, where regions without caches show what is
+/// whole there.
 pub fn waiting_goes_on()
     ensures { WaitingGoesOn }
 {}
@@ -95,4 +94,14 @@ pub fn waiting_goes_on()
 /// Where nothing is left to be shipped to a region, nothing is behind each entry that is no write.
 pub fn none_left_goes_on()
     ensures { NoneLeftGoesOn }
+{}
+
+/// What is told to come again next to a region, so that its cache is not behind, can.
+pub fn stale_is_ready()
+    ensures { StaleIsReady }
+{}
+
+/// Where no cache of a region is behind, none is behind each entry that ships nothing there.
+pub fn none_stale_goes_on()
+    ensures { NoneStaleGoesOn }
 {}

@@ -27,9 +27,9 @@ pub use handle::Handle;
 pub use kind::Kind;
 pub use laws::{
     asking_stays_ready, calls_name_own, full_stays_full, looks_are_right, need_never_falls,
-    next_is_ready, none_is_ready, none_left_goes_on, own_after, rows_have_sources, shows_stay,
-    stores_keep_laws, units_add_up, units_suffice, versions_grow, waiting_goes_on,
-    waiting_is_not_ready,
+    next_is_ready, none_is_ready, none_left_goes_on, none_stale_goes_on, own_after,
+    rows_have_sources, shows_stay, stale_is_ready, stores_keep_laws, units_add_up, units_suffice,
+    versions_grow, waiting_goes_on, waiting_is_not_ready,
 };
 pub use lone::Lone;
 pub use machine::Machine;

@@ -11,6 +11,7 @@ pub enum StoreKind {
     Blob,
     Queue,
     Topic,
+    Cached,
 }
 
 /// What the stores of a kind do.
@@ -30,6 +31,8 @@ pub struct Facts {
     pub ordered: bool,
     /// A value comes to a replica in parts.
     pub parted: bool,
+    /// A read goes through a cache of its replica, which may be behind what came there.
+    pub cached: bool,
 }
 
 // A kind of which nothing holds.
@@ -41,6 +44,7 @@ const NOTHING: Facts = Facts {
     tried: false,
     ordered: false,
     parted: false,
+    cached: false,
 };
 
 impl StoreKind {
@@ -74,6 +78,11 @@ impl StoreKind {
                 pulled: true,
                 ..NOTHING
             },
+            StoreKind::Cached => Facts {
+                keyed: true,
+                cached: true,
+                ..NOTHING
+            },
         }
     }
 
@@ -95,6 +104,9 @@ impl StoreKind {
         }
         if word == "topic" {
             return Some(StoreKind::Topic);
+        }
+        if word == "cached" {
+            return Some(StoreKind::Cached);
         }
         None
     }

@@ -18,10 +18,10 @@ use Rattle.anti_app.specs.Parts.{body_in}
 -- ---- stores, services and the subscription
 
 abbrev pub posts : StoreDef
-posts = record { name = codes "posts"; kind = Kv; replicas = plain (0 ∷ 1 ∷ []); tries = 3 }
+posts = record { name = codes "posts"; kind = Kv; replicas = plain (0 ∷ 1 ∷ []); tries = 3; room = 8 }
 
 abbrev pub notes : StoreDef
-notes = record { name = codes "notes"; kind = Queue; replicas = plain (1 ∷ []); tries = 3 }
+notes = record { name = codes "notes"; kind = Queue; replicas = plain (1 ∷ []); tries = 3; room = 8 }
 
 -- the poster's handler: it reads the post of the key that it is given, writes the next one, and a note of it
 abbrev pub post_lines : List (List ℕ)

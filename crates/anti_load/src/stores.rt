@@ -25,6 +25,7 @@ fn posts(alloc: Global) -> Result<StoreDef, NoMemory>
         kind: StoreKind::Kv,
         replicas,
         tries: 3,
+        room: 8,
     })
 }
 
@@ -38,6 +39,7 @@ fn notes(alloc: Global) -> Result<StoreDef, NoMemory>
         kind: StoreKind::Queue,
         replicas,
         tries: 3,
+        room: 8,
     })
 }
 

@@ -13,14 +13,13 @@ use Rattle.anti_kind.specs.declared.message.Message.{Message}
 use Rattle.anti_kind.specs.declared.message.MessageKind.TheVariants as kinds
 use Rattle.anti_kind.specs.declared.store_kind.Sub.{Sub}
 use Rattle.anti_ids.specs.Names.{is_plain}
-use Rattle.anti_kind.specs.declared.store_kind.StoreKind.{StoreKind}
-use Rattle.anti_kind.proofs.FactLaws.{keyed_or_pulled, tries_fit}
-use Rattle.anti_kind.specs.Store.{store_of}
+use Rattle.anti_kind.proofs.FactLaws.{keyed_or_pulled, room_fits, tries_fit}
+use Rattle.anti_kind.specs.Caches.{store_with}
 use Rattle.anti_kind.specs.Starts.{is_pulled, IsStart, IsStore}
-use Rattle.anti_kind.specs.Objects.{Start, store}
+use Rattle.anti_kind.specs.Objects.{Start}
 use Rattle.anti_kind.specs.Fulls.{ShowsStay}
 use Rattle.anti_kind.specs.Lones.{IsNumbered}
-use Rattle.anti_kind.proofs.Fullness.{shown_stays}
+use Rattle.anti_kind.proofs.Caching.{shows_stay_by_kind}
 use Rattle.anti_app.specs.declared.app.App.{App}
 use Rattle.anti_app.specs.declared.app.StoreDef.{StoreDef}
 use Rattle.anti_app.specs.declared.app.ServiceDef.{ServiceDef}
@@ -32,8 +31,7 @@ use Rattle.anti_app.specs.Objects.{inbox_at}
 use Rattle.anti_app.specs.Subs.{subs_on, sub_of, is_on}
 use Rattle.anti_app.specs.Sound.{is_sound}
 use Rattle.anti_app.proofs.SoundLemmas.{SoundApp, SoundStore, SoundSub, app_known}
-use Rattle.anti_object.specs.Standing.{start_with}
-use Rattle.anti_object.specs.Starts.{start_at, start_of, store_start, tries_of, inbox_start, message_to, message_of}
+use Rattle.anti_object.specs.Starts.{start_at, start_of, store_start, room_of, tries_of, inbox_start, message_to, message_of}
 
 -- ---- numbers
 
@@ -94,7 +92,7 @@ abbrev IsHeld : StoreDef → Sub → Type 0
 IsHeld s sub = Contains s.replicas.items sub.region × (is_plain sub.channel ≡ true)
 
 store_is : (regions number : ℕ) (s : StoreDef) (subs : List Sub) → regions ≤ 8 → SoundStore regions s → All (IsHeld s) subs
-    → IsStore (store_of s.kind number s.replicas.items subs (tries_of s))
+    → IsStore (store_with s.kind number s.replicas.items subs (tries_of s) (room_of s))
 store_is regions number s subs few sound held = record {
   some = sound.some;
   few = sound.few;
@@ -102,6 +100,7 @@ store_is regions number s subs few sound held = record {
   distinct = sound.distinct;
   subscribed = held;
   tries = tries_fit s.kind s.tries sound.tried sound.few_tries;
+  room = room_fits s.kind s.room sound.some_room sound.few_room;
 }
 
 -- the store with a number
@@ -146,18 +145,6 @@ module _ (app : App) (o : ℕ) (s : StoreDef) (sound : IsTrue (is_sound app)) (f
   none_on keyed =
       ap (map (sub_of app)) (no_elements (filter (is_on o) app.subs.items)
       (All-weaker IsOn (λ (sub : SubDef). ⊥) (λ sub on. keyed_or_pulled s.kind keyed on.1) (filter (is_on o) app.subs.items) all_on))
-
--- the start of a store, by its kind
-pub start_by : (kind : StoreKind) (number : ℕ) (s : StoreDef) (subs : List Sub) → s.kind ≡ kind
-    → start_with number s subs ≡ store (store_of kind number s.replicas.items subs (cond (facts_of kind).tried s.tries 0))
-start_by kind number s subs is = ap (λ (k : StoreKind). store (store_of k number s.replicas.items subs (cond (facts_of k).tried s.tries 0))) is
-
--- the same of one without subscriptions
-pub start_alone : (kind : StoreKind) (number : ℕ) (s : StoreDef) (subs : List Sub) → s.kind ≡ kind → (facts_of kind).keyed ≡ true → ((facts_of s.kind).keyed ≡ true → subs ≡ [])
-    → start_with number s subs ≡ store (store_of kind number s.replicas.items [] (cond (facts_of kind).tried s.tries 0))
-start_alone kind number s subs is keyed none =
-    start_by kind number s subs is
-    ∙ ap (λ (xs : List Sub). store (store_of kind number s.replicas.items xs (cond (facts_of kind).tried s.tries 0))) (none (ap (λ (k : StoreKind). (facts_of k).keyed) is ∙ keyed))
 
 -- ---- inboxes
 
@@ -211,7 +198,7 @@ start_sound app o start sound there = each_start IsStart app o start there (λ s
 
 -- and what its regions show stays
 pub start_stays : (app : App) (o : ℕ) (start : Start) → start_of app o ≡ Some start → ShowsStay start
-start_stays app o start there = each_start ShowsStay app o start there (λ s at. shown_stays (store_of s.kind o s.replicas.items (subs_on app o) (tries_of s)) refl) (λ service s. tt)
+start_stays app o start there = each_start ShowsStay app o start there (λ s at. shows_stay_by_kind (store_with s.kind o s.replicas.items (subs_on app o) (tries_of s) (room_of s)) refl) (λ service s. tt)
 
 -- and a store has the number of its object
 pub start_numbered : (app : App) (o : ℕ) (start : Start) → start_of app o ≡ Some start → IsNumbered start o

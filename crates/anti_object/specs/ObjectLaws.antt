@@ -8,6 +8,7 @@ use Rattle.anti_table.specs.TableLaws.{table_keeps}
 use Rattle.anti_blob.specs.BlobLaws.{blob_keeps}
 use Rattle.anti_queue.specs.QueueLaws.{queue_keeps}
 use Rattle.anti_topic.specs.TopicLaws.{topic_keeps}
+use Rattle.anti_cache.specs.CachedLaws.{cached_keeps}
 use Rattle.anti_object.specs.declared.object.Object.{Object}
 use Rattle.anti_object.specs.declared.object.Object.TheVariants as machines
 use Rattle.anti_object.specs.Standing.{object_start}
@@ -18,4 +19,5 @@ object_keeps (machines.Table m) s is = table_keeps m s is
 object_keeps (machines.Blob m) s is = blob_keeps m s is
 object_keeps (machines.Queue m) s is = queue_keeps m s is
 object_keeps (machines.Topic m) s is = topic_keeps m s is
+object_keeps (machines.Cached m) s is = cached_keeps m s is
 object_keeps (machines.Inbox m) s is = absurd (cc)

@@ -5,7 +5,7 @@ use Rattle.anti_ids.specs.List.{plain}
 use Rattle.anti_kind.specs.Kinds.{facts_of}
 use Rattle.anti_kind.specs.declared.message.Message.{Message}
 use Rattle.anti_kind.specs.declared.message.MessageKind.TheVariants as kinds
-use Rattle.anti_kind.specs.Store.{store_of}
+use Rattle.anti_kind.specs.Caches.{store_with}
 use Rattle.anti_kind.specs.Objects.{Start, store, inbox}
 use Rattle.anti_app.specs.declared.app.App.{App}
 use Rattle.anti_app.specs.declared.app.StoreDef.{StoreDef}
@@ -34,8 +34,12 @@ requests_to app s service = flat_map (message_of s service) app.requests.items
 abbrev pub tries_of : StoreDef → ℕ
 tries_of s = cond (facts_of s.kind).tried s.tries 0
 
+-- only a store with caches has room
+abbrev pub room_of : StoreDef → ℕ
+room_of s = cond (facts_of s.kind).cached s.room 0
+
 abbrev pub store_start : App → ℕ → StoreDef → Start
-store_start app number s = store (store_of s.kind number s.replicas.items (subs_on app number) (tries_of s))
+store_start app number s = store (store_with s.kind number s.replicas.items (subs_on app number) (tries_of s) (room_of s))
 
 abbrev pub inbox_start : App → ℕ → ServiceDef → Start
 inbox_start app service s = inbox (requests_to app s service)

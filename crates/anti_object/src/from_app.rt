@@ -10,6 +10,7 @@ use crate::object::Object;
 use anti_app::{App, HandlerDef, ObjectAt, RequestDef, ServiceDef, StoreDef, object_at, subs_on};
 use anti_baggage::Baggage;
 use anti_blob::Blob;
+use anti_cache::CachedKv;
 use anti_ids::{Bytes, Copies, List, NoMemory};
 use anti_inbox::Inbox;
 use anti_kind::{Handle, Message, MessageKind, Messages, StoreKind, Sub};
@@ -69,6 +70,10 @@ fn store_of(alloc: Global, number: u32, store: &StoreDef, subs: &[Sub]) -> Resul
         StoreKind::Topic => {
             let topic = Topic::new(alloc, number, regions, subs)?;
             Ok(Object::Topic(topic))
+        }
+        StoreKind::Cached => {
+            let cached = CachedKv::new(alloc, number, regions, store.room)?;
+            Ok(Object::Cached(cached))
         }
     }
 }

@@ -1,9 +1,11 @@
 ghost use Rattle.std.specs.Prelude.{◌≡◌, List};
 ghost use Rattle.anti_kind.specs.declared.entry.Entry.{Entry};
+ghost use Rattle.anti_kind.specs.Caches.{stale};
 ghost use Rattle.anti_kind.specs.Objects.{fits};
 ghost use Rattle.anti_object.specs.Standing.{object_start, ObjectAt};
 
 use anti_blob::Blob;
+use anti_cache::CachedKv;
 use anti_ids::{MOST_UNITS, NoMemory};
 use anti_inbox::Inbox;
 use anti_kind::{Awaited, Call, Kind, Machine, Reply};
@@ -24,6 +26,8 @@ pub enum Object {
     Queue(Queue),
     /// A store of cells, which each subscription pulls in their order.
     Topic(Topic),
+    /// A store of keys whose replicas read through caches.
+    Cached(CachedKv),
     /// The inbox of a service.
     Inbox(Inbox),
 }
@@ -37,6 +41,7 @@ impl Drop for Object {
             Object::Blob(machine) => drop(machine),
             Object::Queue(machine) => drop(machine),
             Object::Topic(machine) => drop(machine),
+            Object::Cached(machine) => drop(machine),
             Object::Inbox(machine) => drop(machine),
         }
     }
@@ -51,6 +56,7 @@ macro_rules! each {
             Object::Blob($machine) => $does,
             Object::Queue($machine) => $does,
             Object::Topic($machine) => $does,
+            Object::Cached($machine) => $does,
             Object::Inbox($machine) => $does,
         }
     };
@@ -113,5 +119,16 @@ impl Object {
     {
         let units = self.held() as u64 + self.owed() as u64 + self.need(call) as u64;
         units <= MOST_UNITS as u64
+    }
+
+    /// The version that is to come again next to a region, so that its cache is not behind. There is none where it is behind in nothing, nor
+    /// of an object that has no caches. It takes no memory.
+    pub fn stale(&self, region: u32) -> Option<u64>
+        ensures { (h : List Entry) → ObjectAt self.now h → result ≡ stale (object_start self.now) h region }
+    {
+        match self {
+            Object::Cached(machine) => machine.stale(region),
+            _ => None,
+        }
     }
 }

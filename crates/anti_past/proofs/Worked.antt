@@ -70,7 +70,7 @@ service_with body = record { name = codes "v"; region = 0; handlers = plain (rec
 abbrev app_of : Block → App
 app_of body = record {
   regions = plain (codes "eu" ∷ []);
-  stores = plain (record { name = codes "s"; kind = Kv; replicas = plain (0 ∷ []); tries = 3 } ∷ []);
+  stores = plain (record { name = codes "s"; kind = Kv; replicas = plain (0 ∷ []); tries = 3; room = 8 } ∷ []);
   services = plain (service_with body ∷ []);
   subs = plain [];
   requests = plain (record { service = 0; handler = 0; value = [] } ∷ []);

@@ -14,7 +14,7 @@ use Rattle.anti_trace.proofs.AreBorn.{no_birth}
 use Rattle.anti_trace.proofs.Living.{decide}
 use Rattle.anti_trace.proofs.OfLegal.{unborn_of_legal}
 use Rattle.anti_agenda.specs.declared.offer.Offer.{Offer}
-use Rattle.anti_agenda.specs.declared.offer.Offer.TheVariants.{Go, Take, Pull, Ship}
+use Rattle.anti_agenda.specs.declared.offer.Offer.TheVariants.{Go, Take, Pull, Ship, Again}
 use Rattle.anti_play.specs.inner.Attending.{IsOffer}
 
 -- ---- offers of the trace behind an entry
@@ -37,6 +37,7 @@ module _ (app : App) (trace after : List Entry) (e : Entry) (gets : Gets app tra
   adds_none (Take service) is = is
   adds_none (Pull sub) is = is
   adds_none (Ship store replica) is = is
+  adds_none (Again store replica) is = is
 
 -- ---- entries by which no process is born
 

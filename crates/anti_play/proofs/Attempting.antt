@@ -71,6 +71,6 @@ own_go app trace e b by is o at d there same =
     ∙ ap (λ (x : Birth). option_and_then (made_at app trace) (next_call app trace x)) (sym names) ∙ is
 
 -- the carrier, which is no process
-pub own_ship : (app : App) (trace : List Entry) (e : Entry) → e.actor ≡ Carrier 0
+pub own_carrier : (app : App) (trace : List Entry) (e : Entry) → e.actor ≡ Carrier 0
     → (o at : ℕ) (d : Entry) → birth_in trace o at ≡ Some d → e.actor ≡ Acting (birth_at d) → entry_by_offer app trace (Go o at) ≡ Some e
-own_ship app trace e by o at d there same = absurd (let both : Carrier 0 ≡ Acting (birth_at d) = sym by ∙ same in cc)
+own_carrier app trace e by o at d there same = absurd (let both : Carrier 0 ≡ Acting (birth_at d) = sym by ∙ same in cc)

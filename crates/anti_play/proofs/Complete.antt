@@ -1,13 +1,13 @@
 -- Where no choice that is offered makes an entry, nothing is left to make: each next call is blocked, each delivery is taken, no subscription
--- can pull, and each write is everywhere.
-use Rattle.std.proofs.Common.{◌≡◌, ℕ, ◌-◌, ◌<◌, ◌≤◌, ◌⊎◌, Bool, true, false, cond, ◌&&◌, List, [], ◌∷◌, ◌++◌, length, map, refl, sym, ap, ◌∙◌, subst, inl, inr, eq-eqb, arith}
-use Rattle.std.specs.Prelude.{Contains, IsTrue, Option, None, Some, flat_map, option_and_then, option_map, slice_get, nat_le}
+-- can pull, each write is everywhere, and no cache is behind but for want of room.
+use Rattle.std.proofs.Common.{◌≡◌, ℕ, ◌-◌, ◌<◌, ◌≤◌, ◌⊎◌, Bool, true, false, cond, ◌&&◌, List, [], ◌∷◌, ◌++◌, length, map, get_or, refl, sym, ap, ◌∙◌, subst, inl, inr, eq-eqb, arith}
+use Rattle.std.specs.Prelude.{All, Contains, IsTrue, Option, None, Some, find, flat_map, option_and_then, option_map, slice_get, nat_le}
 use Rattle.std.specs.List.{range_with_len}
 use Rattle.std.specs.Option.{option_map_or}
 use Rattle.std.proofs.lemmas.Bool.{and_cases, cases_lt, le-leb, true≢false}
 use Rattle.std.proofs.lemmas.List.{get_or-map, length-map}
 use Rattle.std.proofs.lemmas.Option.{slice_get_within}
-use Rattle.std.proofs.lemmas.List.Elements.{All-contains, Contains-append_left, Contains-append_right}
+use Rattle.std.proofs.lemmas.List.Elements.{All-contains, All-contains_itself, Contains-append_left, Contains-append_right}
 use Rattle.std.proofs.lemmas.List.FromFn.{get_or-range_with_len, length-range_with_len}
 use Rattle.anti_kind.specs.declared.actor.Actor.TheVariants.{Process as Acting}
 use Rattle.anti_kind.specs.declared.actor.Birth.{Birth}
@@ -16,11 +16,14 @@ use Rattle.anti_kind.specs.declared.call.Call.TheVariants as calls
 use Rattle.anti_kind.specs.declared.entry.Entry.{Entry}
 use Rattle.anti_kind.specs.declared.message.Message.{Message}
 use Rattle.anti_kind.specs.declared.row.Row.{Row}
+use Rattle.anti_kind.specs.Caches.{Pair, cache, is_behind, stale, stale_in}
 use Rattle.anti_kind.specs.Inbox.{free}
+use Rattle.anti_kind.specs.Kinds.{facts_of}
 use Rattle.anti_kind.specs.Objects.{Start, store, inbox, ready, fits, need}
 use Rattle.anti_kind.specs.Store.{Store, can_ship}
-use Rattle.anti_kind.specs.Stored.{parts, rows}
-use Rattle.anti_kind.proofs.Finding.{filter_contains, in_flat_map}
+use Rattle.anti_kind.specs.Stored.{parts, rows, shows_of}
+use Rattle.anti_kind.proofs.Finding.{filter_contains, in_flat_map, none_passes}
+use Rattle.anti_kind.proofs.Staleness.{stale_is_ready}
 use Rattle.anti_app.specs.declared.app.App.{App}
 use Rattle.anti_app.specs.declared.app.Choice.{Choice}
 use Rattle.anti_app.specs.declared.app.Choice.TheVariants.{Pull, Ship}
@@ -39,8 +42,8 @@ use Rattle.anti_trace.specs.Legal.{IsBirthOf, IsLegalTrace, IsLife}
 use Rattle.anti_trace.proofs.Puts.{same_actor_true}
 use Rattle.anti_trace.proofs.AreBorn.{is_birth_itself}
 use Rattle.anti_play.specs.Complete.{IsComplete}
-use Rattle.anti_play.specs.Over.{IsBlocked, IsEverywhere, IsOver}
-use Rattle.anti_play.specs.Schedule.{asked_by, bearing, carrying, chosen, go_of, goes, made, made_at, next_call, next_entry, objects, offers, pulling, pulling_at, pulls, ships, ships_at, ships_of, ships_to, take_of, takes}
+use Rattle.anti_play.specs.Over.{IsBlocked, IsEverywhere, IsOver, IsRefreshed}
+use Rattle.anti_play.specs.Schedule.{again_of, agains, agains_at, agains_to, asked_by, bearing, carrying, chosen, go_of, goes, made, made_at, next_call, next_entry, objects, offers, pulling, pulling_at, pulls, ships, ships_at, ships_of, ships_to, take_of, takes}
 use Rattle.anti_play.proofs.Arrived.{everywhere}
 use Rattle.anti_play.proofs.MadeAt.{free_fits}
 
@@ -65,6 +68,10 @@ cond_none false e none = refl
 not_both : (a b : Bool) → (a ≡ false) ⊎ (b ≡ false) → b ≡ true → a ≡ false
 not_both a b (inl off) on = off
 not_both a b (inr off) on = absurd (true≢false (sym on ∙ off))
+
+not_second : (a b : Bool) → (a ≡ false) ⊎ (b ≡ false) → a ≡ true → b ≡ false
+not_second a b (inl off) on = absurd (true≢false (sym on ∙ off))
+not_second a b (inr off) on = off
 
 -- ---- where a store stands
 
@@ -128,7 +135,7 @@ module _ (app : App) (trace : List Entry) where
         next_none =
             let none : chosen app trace (go_of birth) ≡ None =
             All-contains (λ (c : Choice). chosen app trace c ≡ None) (offers app trace) (go_of birth) complete
-            (Contains-append_left (goes app trace) (takes app ++ (pulls app ++ ships app trace)) (go_of birth) among_goes) in
+            (Contains-append_left (goes app trace) (takes app ++ (pulls app ++ (ships app trace ++ agains app trace))) (go_of birth) among_goes) in
             sym (ap (λ (x : Birth). option_and_then (made_at app trace) (next_call app trace x)) its.named ∙ ap (option_and_then (made_at app trace)) next) ∙ none
 
       blocked : (b : Birth) (q : Asking) → next_call app trace b ≡ Some q → IsBlocked app trace q
@@ -143,8 +150,8 @@ module _ (app : App) (trace : List Entry) where
       take_none : (service : ℕ) → service < length app.services.items → made_at app trace (bearing trace (inbox_number app service) (calls.Take 1)) ≡ None
       take_none service known =
           All-contains (λ (c : Choice). chosen app trace c ≡ None) (offers app trace) (take_of service) complete
-          (Contains-append_right (goes app trace) (takes app ++ (pulls app ++ ships app trace)) (take_of service)
-          (Contains-append_left (takes app) (pulls app ++ ships app trace) (take_of service)
+          (Contains-append_right (goes app trace) (takes app ++ (pulls app ++ (ships app trace ++ agains app trace))) (take_of service)
+          (Contains-append_left (takes app) (pulls app ++ (ships app trace ++ agains app trace)) (take_of service)
           (in_map take_of (range_with_len 0 (length app.services.items)) service (in_range (length app.services.items) service known))))
 
       none_free : (ns : List ℕ) → (nat_le 1 1 && nat_le 1 (length ns)) ≡ false → ns ≡ []
@@ -178,9 +185,9 @@ module _ (app : App) (trace : List Entry) where
       pull_none : (number : ℕ) → number < length app.subs.items → chosen app trace (Pull number) ≡ None
       pull_none number known =
           All-contains (λ (c : Choice). chosen app trace c ≡ None) (offers app trace) (Pull number) complete
-          (Contains-append_right (goes app trace) (takes app ++ (pulls app ++ ships app trace)) (Pull number)
-          (Contains-append_right (takes app) (pulls app ++ ships app trace) (Pull number)
-          (Contains-append_left (pulls app) (ships app trace) (Pull number)
+          (Contains-append_right (goes app trace) (takes app ++ (pulls app ++ (ships app trace ++ agains app trace))) (Pull number)
+          (Contains-append_right (takes app) (pulls app ++ (ships app trace ++ agains app trace)) (Pull number)
+          (Contains-append_left (pulls app) (ships app trace ++ agains app trace) (Pull number)
           (in_map Pull (range_with_len 0 (length app.subs.items)) number (in_range (length app.subs.items) number known)))))
 
       -- only a subscription that is there asks
@@ -221,13 +228,55 @@ module _ (app : App) (trace : List Entry) where
               let q : Asking = carrying trace o (calls.Ship region r.version p) in
               let none : made_at app trace q ≡ None =
               All-contains (λ (c : Choice). chosen app trace c ≡ None) (offers app trace) ship complete
-              (Contains-append_right (goes app trace) (takes app ++ (pulls app ++ ships app trace)) ship
-              (Contains-append_right (takes app) (pulls app ++ ships app trace) ship
-              (Contains-append_right (pulls app) (ships app trace) ship among_ships))) in
+              (Contains-append_right (goes app trace) (takes app ++ (pulls app ++ (ships app trace ++ agains app trace))) ship
+              (Contains-append_right (takes app) (pulls app ++ (ships app trace ++ agains app trace)) ship
+              (Contains-append_right (pulls app) (ships app trace ++ agains app trace) ship
+              (Contains-append_left (ships app trace) (agains app trace) ship among_ships)))) in
               none_ready q (store s) there refl none
 
         all_arrived : IsEverywhere s (entries_on o trace)
         all_arrived = everywhere s (entries_on o trace) (run.histories o (store s) there) not_ready
 
+      -- ---- caches
+
+      module _ (o : ℕ) (s : Store) (there : start_of app o ≡ Some (store s)) (cached : (facts_of s.kind).cached ≡ true) where
+        abbrev own : List Entry
+        own = entries_on o trace
+
+        module _ (region : ℕ) (replica : Contains s.regions region) where
+          -- what comes again next is offered, and ready: so it does not fit
+          next_unfit : (version : ℕ) → stale (store s) own region ≡ Some version → fits (store s) own (calls.Again region version 1) ≡ false
+          next_unfit version next =
+              let c : Choice = again_of o region version in
+              let q : Asking = carrying trace o (calls.Again region version 1) in
+              let to_region : Contains (agains_to o own (store s) region) c =
+              subst (λ (v : Option ℕ). Contains (option_map_or (λ n. again_of o region n ∷ []) v []) c) (sym next) (0, omega arith, refl) in
+              let at_store : Contains (agains_at o own (store s)) c = given_by (agains_to o own (store s)) s.regions region c replica to_region in
+              let among : Contains (agains app trace) c =
+              given_by (λ (n : ℕ). option_map_or (agains_at n (entries_on n trace)) (start_of app n) []) (range_with_len 0 (length app.stores.items)) o c
+              (in_range (length app.stores.items) o (store_in_front app o s there))
+              (subst (λ (start : Option Start). Contains (option_map_or (agains_at o own) start []) c) (sym there) at_store) in
+              let none : made_at app trace q ≡ None =
+              All-contains (λ (x : Choice). chosen app trace x ≡ None) (offers app trace) c complete
+              (Contains-append_right (goes app trace) (takes app ++ (pulls app ++ (ships app trace ++ agains app trace))) c
+              (Contains-append_right (takes app) (pulls app ++ (ships app trace ++ agains app trace)) c
+              (Contains-append_right (pulls app) (ships app trace ++ agains app trace) c
+              (Contains-append_right (ships app trace) (agains app trace) c among)))) in
+              not_second (ready (store s) own q.call) (fits (store s) own q.call) (none_blocked q none (store s) there)
+              (stale_is_ready (store s) own region version next)
+
+          -- Whatever comes again needs the same units.
+          none_fits : (found : Option Pair) → find (is_behind s.kind own region) (cache s.kind s.room own region) ≡ found
+              → All (λ pair. is_behind s.kind own region pair ≡ true → fits (store s) own (calls.Again region (shows_of s.kind own region pair.0) 1) ≡ false) (cache s.kind s.room own region)
+          none_fits None is = λ i pair low behind. absurd (true≢false (sym behind ∙ none_passes (is_behind s.kind own region) (cache s.kind s.room own region) is i pair low))
+          none_fits (Some first) is = λ i pair low behind.
+              next_unfit (shows_of s.kind own region first.0)
+              (ap (λ (b : Bool). cond b (stale_in s own region) None) cached ∙ ap (option_map (λ (x : Pair). shows_of s.kind own region x.0)) is)
+
+        all_refreshed : IsRefreshed s own
+        all_refreshed = λ i g low.
+            let region : ℕ = get_or s.regions i g in
+            none_fits region (All-contains_itself s.regions i g low) (find (is_behind s.kind own region) (cache s.kind s.room own region)) refl
+
       pub is_over : IsOver app trace
-      is_over = record { processes = blocked; deliveries = all_taken; pulls = no_pull; shipments = all_arrived }
+      is_over = record { processes = blocked; deliveries = all_taken; pulls = no_pull; shipments = all_arrived; caches = all_refreshed }

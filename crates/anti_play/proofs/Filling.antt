@@ -9,11 +9,11 @@ use Rattle.anti_app.specs.declared.app.StoreDef.{StoreDef}
 use Rattle.anti_agenda.specs.Agendas.{IsEmpty, IsWoken, SameRest}
 use Rattle.anti_agenda.specs.declared.agenda.Agenda.{Agenda}
 use Rattle.anti_agenda.specs.declared.offer.Offer.{Offer}
-use Rattle.anti_agenda.specs.declared.offer.Offer.TheVariants.{Go, Take, Pull, Ship}
+use Rattle.anti_agenda.specs.declared.offer.Offer.TheVariants.{Go, Take, Pull, Ship, Again}
 use Rattle.anti_trace.specs.Traces.{entries_on}
 use Rattle.anti_proc.specs.Births.{births}
-use Rattle.anti_play.specs.inner.Attending.{Attends, Below, IsGo, IsGoAt, IsOffer, IsPast, IsPull, IsRouteOf, IsShip, IsTake, Wakes, WakesAll}
-use Rattle.anti_play.proofs.Offers.{born_there, born_within, replica_in, replicas_of, route_there}
+use Rattle.anti_play.specs.inner.Attending.{Attends, Below, IsAgain, IsGo, IsGoAt, IsOffer, IsPast, IsPull, IsShip, IsTake, IsTo, Wakes, WakesAll, caches, replicas}
+use Rattle.anti_play.proofs.Offers.{born_there, born_within, region_there, region_within, regions_of}
 
 -- ---- offers by their numbers
 
@@ -90,14 +90,14 @@ all_as Named Called old new to back w = record {
   rest = w.rest;
 }
 
--- the routes of a store, by the places of its replicas
-pub all_routes_of : (app : App) (store : ℕ) (d : StoreDef) → slice_get app.stores.items store ≡ Some d → (old new : Agenda)
-    → WakesAll (Below (λ replica offer. offer ≡ Ship store replica) (length d.replicas.items)) old new → WakesAll (IsRouteOf app store) old new
-all_routes_of app store d at old new w =
-    let same : replicas_of app store ≡ d.replicas.items = ap (λ (found : Option StoreDef). option_map_or (λ x. x.replicas.items) found []) at in
-    all_as (Below (λ replica offer. offer ≡ Ship store replica) (length d.replicas.items)) (IsRouteOf app store) old new
-    (λ offer is. (is.0, is.2, route_there app [] store is.0 (subst (λ (xs : List ℕ). is.0 < length xs) (sym same) is.1)))
-    (λ offer is. (is.0, subst (λ (xs : List ℕ). is.0 < length xs) same (replica_in app [] store is.0 is.2).1, is.1)) w
+-- what goes to these regions of a store, by their places
+pub all_to_regions : (to : ℕ → ℕ → Offer) (regions : StoreDef → List ℕ) (app : App) (store : ℕ) (d : StoreDef) → slice_get app.stores.items store ≡ Some d → (old new : Agenda)
+    → WakesAll (Below (λ place offer. offer ≡ to store place) (length (regions d))) old new → WakesAll (IsTo to regions app store) old new
+all_to_regions to regions app store d at old new w =
+    let same : regions_of regions app store ≡ regions d = ap (λ (found : Option StoreDef). option_map_or regions found []) at in
+    all_as (Below (λ place offer. offer ≡ to store place) (length (regions d))) (IsTo to regions app store) old new
+    (λ offer is. (is.0, is.2, region_there app [] regions store is.0 (subst (λ (xs : List ℕ). is.0 < length xs) (sym same) is.1)))
+    (λ offer is. (is.0, subst (λ (xs : List ℕ). is.0 < length xs) same (region_within app [] regions store is.0 is.2).1, is.1)) w
 
 -- ---- those that are past may be left out
 
@@ -169,30 +169,41 @@ module _ (app : App) (trace : List Entry) where
 
   -- ---- all kinds of offers
 
+  -- those that go to replicas; with the pulls; and with the takes
+  abbrev IsAtStore : Offer → Type 0
+  IsAtStore offer = IsShip app offer ⊎ IsAgain app offer
+
+  abbrev IsBehind : Offer → Type 0
+  IsBehind offer = IsPull app offer ⊎ IsAtStore offer
+
   abbrev IsRest : Offer → Type 0
-  IsRest offer = IsTake app offer ⊎ (IsPull app offer ⊎ IsShip app offer)
+  IsRest offer = IsTake app offer ⊎ IsBehind offer
 
   kind_of : (offer : Offer) → IsOffer app trace offer → IsGo app trace offer ⊎ IsRest offer
   kind_of (Go object at) is = inl (object, is.0, (at, refl, is.1))
   kind_of (Take service) is = inr (inl (service, is, refl))
   kind_of (Pull sub) is = inr (inr (inl (sub, is, refl)))
-  kind_of (Ship store replica) is = inr (inr (inr (store, (replica_in app trace store replica is).0, (replica, refl, is))))
+  kind_of (Ship store replica) is = inr (inr (inr (inl (store, (region_within app trace replicas store replica is).0, (replica, refl, is)))))
+  kind_of (Again store replica) is = inr (inr (inr (inr (store, (region_within app trace caches store replica is).0, (replica, refl, is)))))
 
   of_kind : (offer : Offer) → IsGo app trace offer ⊎ IsRest offer → IsOffer app trace offer
   of_kind offer (inl (object, low, (at, is, some))) = subst (IsOffer app trace) (sym is) (low, some)
   of_kind offer (inr (inl (service, low, is))) = subst (IsOffer app trace) (sym is) low
   of_kind offer (inr (inr (inl (sub, low, is)))) = subst (IsOffer app trace) (sym is) low
-  of_kind offer (inr (inr (inr (store, low, (replica, is, some))))) = subst (IsOffer app trace) (sym is) some
+  of_kind offer (inr (inr (inr (inl (store, low, (replica, is, some)))))) = subst (IsOffer app trace) (sym is) some
+  of_kind offer (inr (inr (inr (inr (store, low, (replica, is, some)))))) = subst (IsOffer app trace) (sym is) some
 
-  pub attends_filled : (first goes takes pulls all : Agenda) → IsEmpty first → Wakes app trace (IsGo app trace) first goes → WakesAll (IsTake app) goes takes
-      → WakesAll (IsPull app) takes pulls → WakesAll (IsShip app) pulls all → Attends app trace all
-  attends_filled first goes takes pulls all empty go take pull ship =
-      let ships : Wakes app trace (IsShip app) pulls all = wakes_all (IsShip app) pulls all ship in
-      let behind : Wakes app trace (λ offer. IsPull app offer ⊎ IsShip app offer) takes all =
-      wakes_both (IsPull app) (IsShip app) (λ offer. IsPull app offer ⊎ IsShip app offer) takes pulls all (λ offer is. is) (λ offer is. is)
-      (wakes_all (IsPull app) takes pulls pull) ships in
+  pub attends_filled : (first goes takes pulls ships all : Agenda) → IsEmpty first → Wakes app trace (IsGo app trace) first goes → WakesAll (IsTake app) goes takes
+      → WakesAll (IsPull app) takes pulls → WakesAll (IsShip app) pulls ships → WakesAll (IsAgain app) ships all → Attends app trace all
+  attends_filled first goes takes pulls ships all empty go take pull ship again =
+      let at_stores : Wakes app trace IsAtStore pulls all =
+      wakes_both (IsShip app) (IsAgain app) IsAtStore pulls ships all (λ offer is. is) (λ offer is. is)
+      (wakes_all (IsShip app) pulls ships ship) (wakes_all (IsAgain app) ships all again) in
+      let behind : Wakes app trace IsBehind takes all =
+      wakes_both (IsPull app) IsAtStore IsBehind takes pulls all (λ offer is. is) (λ offer is. is)
+      (wakes_all (IsPull app) takes pulls pull) at_stores in
       let rest : Wakes app trace IsRest goes all =
-      wakes_both (IsTake app) (λ offer. IsPull app offer ⊎ IsShip app offer) IsRest goes takes all (λ offer is. is) (λ offer is. is)
+      wakes_both (IsTake app) IsBehind IsRest goes takes all (λ offer is. is) (λ offer is. is)
       (wakes_all (IsTake app) goes takes take) behind in
       filled first all empty (wakes_both (IsGo app trace) IsRest (IsOffer app trace) first goes all kind_of of_kind go rest)
     where

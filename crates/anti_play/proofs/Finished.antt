@@ -61,7 +61,7 @@ module _ (app : App) (sound : IsTrue (is_sound app)) (trace : List Entry) (run :
     go_further e (Over end) at m = absurd (cc)
 
   -- a call of the carrier, or one by which a process is born
-  carry_further : (object : ℕ) (call : Call) (e : Entry) → carries call ≡ true → made_at app trace (carrying trace object call) ≡ Some e → Further app trace e
+  pub carry_further : (object : ℕ) (call : Call) (e : Entry) → carries call ≡ true → made_at app trace (carrying trace object call) ≡ Some e → Further app trace e
   carry_further object call e is m = asked_further (carrying trace object call) e (is, refl) refl m
 
   bear_further : (object : ℕ) (call : Call) (e : Entry) → bears call ≡ true → made_at app trace (bearing trace object call) ≡ Some e → Further app trace e

@@ -21,6 +21,7 @@ pub mod Pulling
 pub mod Tried
 pub mod GoFirst
 pub mod ShipNext
+mod AgainNext
 mod NextShipment
 pub mod Reached
 pub mod FirstAwake
@@ -34,5 +35,7 @@ pub mod Trying
 pub mod Adding
 pub mod Going
 pub mod Newborn
+pub mod Carrying
 pub mod Shipping
+pub mod Refreshing
 mod Worked

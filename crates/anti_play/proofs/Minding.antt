@@ -8,11 +8,15 @@ use Rattle.anti_kind.specs.declared.actor.Actor.TheVariants.{Process as Acting}
 use Rattle.anti_kind.specs.declared.actor.Birth.{Birth}
 use Rattle.anti_kind.specs.declared.asking.Asking.{Asking}
 use Rattle.anti_kind.specs.declared.awaited.Awaited.{Awaited}
+use Rattle.anti_kind.specs.declared.call.Call.TheVariants as calls
 use Rattle.anti_kind.specs.declared.entry.Entry.{Entry}
+use Rattle.anti_kind.specs.Caches.{stale}
 use Rattle.anti_kind.specs.Objects.{Start, IsLegal, last_stamp, ready}
 use Rattle.anti_kind.specs.Shipments.{next_ship}
 use Rattle.anti_kind.specs.Waiting.{ShowsWhole, brought, reaches, waits}
+use Rattle.anti_kind.proofs.Caching.{shows_whole_by_kind}
 use Rattle.anti_kind.proofs.Deliveries.{slice_get_left}
+use Rattle.anti_kind.proofs.Staleness.{none_stale_goes_on}
 use Rattle.anti_kind.proofs.Waiting.{none_left_goes_on, waiting_goes_on, waiting_is_not_ready}
 use Rattle.anti_app.specs.declared.app.App.{App}
 use Rattle.anti_app.specs.declared.app.ServiceDef.{ServiceDef}
@@ -33,12 +37,13 @@ use Rattle.anti_agenda.specs.Agendas.{HasLeft, IsAsleep, IsAwake, IsGone, IsIdle
 use Rattle.anti_agenda.specs.declared.offer.Sleeper.{Sleeper}
 use Rattle.anti_agenda.specs.declared.agenda.Agenda.{Agenda}
 use Rattle.anti_agenda.specs.declared.offer.Offer.{Offer}
-use Rattle.anti_agenda.specs.declared.offer.Offer.TheVariants.{Go, Take, Pull, Ship}
-use Rattle.anti_play.specs.Schedule.{asked_by, made_at, next_call}
-use Rattle.anti_play.specs.inner.Attending.{Attends, CallWaits, IsMinded, IsOffer, IsPast, IsRoute, OfferWaits, RouteWaits, asked_by_offer, birth_in, entry_by_offer}
-use Rattle.anti_play.specs.inner.Finishing.{next_shipped, shipped}
+use Rattle.anti_agenda.specs.declared.offer.Offer.TheVariants.{Go, Take, Pull, Ship, Again}
+use Rattle.anti_play.specs.Schedule.{asked_by, carrying, made_at, next_call}
+use Rattle.anti_play.specs.inner.Attending.{Attends, CacheWaits, CallWaits, IsMinded, IsOffer, IsPast, IsRoute, OfferWaits, RouteWaits, asked_by_offer, birth_in, entry_by_offer}
+use Rattle.anti_play.specs.inner.Finishing.{next_again, next_shipped, shipped}
 use Rattle.anti_play.proofs.FullStays.{full_makes_none}
 use Rattle.anti_play.proofs.MadeAt.{unready}
+use Rattle.anti_play.proofs.ShipNext.{store_at}
 
 -- ---- who is at rest makes none
 
@@ -62,6 +67,11 @@ module _ (app : App) (sound : IsTrue (is_sound app)) (trace : List Entry) (run :
       ap (option_and_then (next_shipped app trace store)) w.to
       ∙ ap (λ (s : Option Start). option_and_then (shipped app trace store w.region) (option_and_then (λ start. next_ship start (entries_on store trace) w.region) s)) w.there
       ∙ ap (option_and_then (shipped app trace store w.region)) w.none
+  waits_none object awaited (Again store replica) w =
+      let call : Option ℕ → Option Entry = λ version. option_and_then (made_at app trace) (option_map (λ v. carrying trace store (calls.Again w.region v 1)) version) in
+      ap (λ (g : Option ℕ). option_and_then (made_at app trace) (option_and_then (next_again app trace store) g)) w.to
+      ∙ ap (λ (s : Option Start). call (option_and_then (λ start. stale start (entries_on store trace) w.region) s)) w.there
+      ∙ ap call w.none
 
   unfit_none : (asked : Option Asking) → ((q : Asking) → asked ≡ Some q → WasFull app trace q.object q.call) → option_and_then (made_at app trace) asked ≡ None
   unfit_none None none = refl
@@ -72,6 +82,7 @@ module _ (app : App) (sound : IsTrue (is_sound app)) (trace : List Entry) (run :
   past_none (Take service) past = unfit_none (asked_by_offer app trace (Take service)) past
   past_none (Pull sub) past = unfit_none (asked_by_offer app trace (Pull sub)) past
   past_none (Ship store replica) past = absurd past
+  past_none (Again store replica) past = absurd past
 
   pub rest_none : (agenda : Agenda) (offer : Offer)
       → ((object : ℕ) × (awaited : Awaited) × IsAsleep agenda object awaited offer × OfferWaits app trace object awaited offer)
@@ -103,7 +114,7 @@ next_same : (app : App) (trace after : List Entry) (b : Birth) → entries_by (A
     → next_call app after b ≡ next_call app trace b
 next_same app trace after b same = next_is app after b ∙ ap (next_by app b) same ∙ sym (next_is app trace b)
 
--- regions of all stores show what is whole there
+-- regions of all stores show what is whole there, but where there are caches
 shows_whole : (app : App) (o : ℕ) (start : Start) → start_of app o ≡ Some start → ShowsWhole start
 shows_whole app o start there =
     elim (cases_lt o (length app.stores.items)) [
@@ -113,7 +124,7 @@ shows_whole app o start there =
   where
     of_store : (found : Option StoreDef) → option_map (store_start app o) found ≡ Some start → ShowsWhole start
     of_store None is = absurd (cc)
-    of_store (Some s) is = let same : store_start app o s ≡ start = cc in subst ShowsWhole same refl
+    of_store (Some s) is = let same : store_start app o s ≡ start = cc in subst ShowsWhole same (shows_whole_by_kind (store_at app o s) refl)
 
     of_inbox : (found : Option ServiceDef) → option_map (inbox_start app (o - length app.stores.items)) found ≡ Some start → ShowsWhole start
     of_inbox None is = absurd (cc)
@@ -159,6 +170,22 @@ module _ (app : App) (sound : IsTrue (is_sound app)) (trace after : List Entry) 
         (subst (λ (a : Awaited). reaches (brought e.call) a ≡ false) w.awaits (left (here ∙ w.at))));
   }
 
+  cache_waits_on : (object : ℕ) (awaited : Awaited) (store replica : ℕ) → (e.object ≡ object → reaches (brought e.call) awaited ≡ false)
+      → CacheWaits app trace object awaited store replica → CacheWaits app after object awaited store replica
+  cache_waits_on object awaited store replica left w = record {
+    at = w.at;
+    region = w.region;
+    to = w.to;
+    awaits = w.awaits;
+    start = w.start;
+    there = w.there;
+    none =
+        over_history (λ (h : List Entry). stale w.start h w.region ≡ None) store w.none
+        (λ here.
+        none_stale_goes_on w.start (entries_on store trace) e w.region (legal_behind store w.start w.there here) w.none
+        (subst (λ (a : Awaited). reaches (brought e.call) a ≡ false) w.awaits (left (here ∙ w.at))));
+  }
+
   unfit_stays : (q : Asking) → WasFull app trace q.object q.call → WasFull app after q.object q.call
   unfit_stays q was = full_later app trace after (goes_on app trace after e gets) q.object q.call was
 
@@ -190,23 +217,26 @@ module _ (app : App) (sound : IsTrue (is_sound app)) (trace after : List Entry) 
             ∙ sym (ap (option_and_then (λ x. next_call app trace (birth_at x))) there)
     asks_same (Take service) is apart none = refl
     asks_same (Pull sub) is apart none = refl
-    asks_same (Ship store replica) is apart none = absurd (apart (store, replica, refl))
+    asks_same (Ship store replica) is apart none = absurd (apart tt)
+    asks_same (Again store replica) is apart none = absurd (apart tt)
 
     waits_on : (object : ℕ) (awaited : Awaited) (offer : Offer) → IsOffer app trace offer → (e.object ≡ object → reaches (brought e.call) awaited ≡ false)
         → OfferWaits app trace object awaited offer → OfferWaits app after object awaited offer
     waits_on object awaited (Go o at) is left w =
         let none : entry_by_offer app trace (Go o at) ≡ None = waits_none app sound trace run object awaited (Go o at) w in
-        (w.0, asks_same (Go o at) is (λ r. absurd (cc (r.2))) none ∙ w.1, call_waits_on object awaited w.0 left w.2)
+        (w.0, asks_same (Go o at) is (λ r. r) none ∙ w.1, call_waits_on object awaited w.0 left w.2)
     waits_on object awaited (Take service) is left w = (w.0, w.1, call_waits_on object awaited w.0 left w.2)
     waits_on object awaited (Pull sub) is left w = (w.0, w.1, call_waits_on object awaited w.0 left w.2)
     waits_on object awaited (Ship store replica) is left w = route_waits_on object awaited store replica left w
+    waits_on object awaited (Again store replica) is left w = cache_waits_on object awaited store replica left w
 
     past_stays : (offer : Offer) → IsOffer app trace offer → IsPast app trace offer → IsPast app after offer
     past_stays (Go o at) is past = λ q asks.
-        unfit_stays q (past q (sym (asks_same (Go o at) is (λ r. absurd (cc (r.2))) (past_none app sound trace run (Go o at) past)) ∙ asks))
+        unfit_stays q (past q (sym (asks_same (Go o at) is (λ r. r) (past_none app sound trace run (Go o at) past)) ∙ asks))
     past_stays (Take service) is past = λ q asks. unfit_stays q (past q asks)
     past_stays (Pull sub) is past = λ q asks. unfit_stays q (past q asks)
     past_stays (Ship store replica) is past = past
+    past_stays (Again store replica) is past = past
 
     -- An offer of the trace is minded behind the entry, once what it brings was told.
     pub minded_stays : (old new : Agenda) → IsStirred e.object (brought e.call) old new → (offer : Offer) → IsOffer app trace offer
@@ -235,6 +265,7 @@ module _ (app : App) (sound : IsTrue (is_sound app)) (trace after : List Entry) 
   offer_stays (Take service) is = is
   offer_stays (Pull sub) is = is
   offer_stays (Ship store replica) is = is
+  offer_stays (Again store replica) is = is
 
   -- The agenda attends to the trace behind the entry, where it starts no process: each offer there is one of the trace before.
   pub attends_over : Own → (old new : Agenda) → IsStirred e.object (brought e.call) old new → ((offer : Offer) → IsOffer app after offer → IsOffer app trace offer)
@@ -300,20 +331,29 @@ same_number make part x a = elim (decide a x) [
 same_or_apart : (offer other : Offer) → (other ≡ offer) ⊎ (other ≡ offer → ⊥)
 same_or_apart (Go x y) (Go a b) = same_numbers Go (λ a b x y is. (cc, cc)) x y a b
 same_or_apart (Ship x y) (Ship a b) = same_numbers Ship (λ a b x y is. (cc, cc)) x y a b
+same_or_apart (Again x y) (Again a b) = same_numbers Again (λ a b x y is. (cc, cc)) x y a b
 same_or_apart (Take x) (Take a) = same_number Take (λ a x is. cc) x a
 same_or_apart (Pull x) (Pull a) = same_number Pull (λ a x is. cc) x a
 same_or_apart (Go x y) (Take a) = inr (λ is. absurd (cc))
 same_or_apart (Go x y) (Pull a) = inr (λ is. absurd (cc))
 same_or_apart (Go x y) (Ship a b) = inr (λ is. absurd (cc))
+same_or_apart (Go x y) (Again a b) = inr (λ is. absurd (cc))
 same_or_apart (Take x) (Go a b) = inr (λ is. absurd (cc))
 same_or_apart (Take x) (Pull a) = inr (λ is. absurd (cc))
 same_or_apart (Take x) (Ship a b) = inr (λ is. absurd (cc))
+same_or_apart (Take x) (Again a b) = inr (λ is. absurd (cc))
 same_or_apart (Pull x) (Go a b) = inr (λ is. absurd (cc))
 same_or_apart (Pull x) (Take a) = inr (λ is. absurd (cc))
 same_or_apart (Pull x) (Ship a b) = inr (λ is. absurd (cc))
+same_or_apart (Pull x) (Again a b) = inr (λ is. absurd (cc))
 same_or_apart (Ship x y) (Go a b) = inr (λ is. absurd (cc))
 same_or_apart (Ship x y) (Take a) = inr (λ is. absurd (cc))
 same_or_apart (Ship x y) (Pull a) = inr (λ is. absurd (cc))
+same_or_apart (Ship x y) (Again a b) = inr (λ is. absurd (cc))
+same_or_apart (Again x y) (Go a b) = inr (λ is. absurd (cc))
+same_or_apart (Again x y) (Take a) = inr (λ is. absurd (cc))
+same_or_apart (Again x y) (Pull a) = inr (λ is. absurd (cc))
+same_or_apart (Again x y) (Ship a b) = inr (λ is. absurd (cc))
 
 module _ (app : App) (trace : List Entry) (offer : Offer) (old new : Agenda) (a : Attends app trace old) where
   -- where the offer is minded by the new agenda, and all others are as they were

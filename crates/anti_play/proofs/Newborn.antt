@@ -27,7 +27,7 @@ use Rattle.anti_trace.proofs.Living.{decide}
 use Rattle.anti_agenda.specs.Agendas.{IsStirred, IsWoken}
 use Rattle.anti_agenda.specs.declared.agenda.Agenda.{Agenda}
 use Rattle.anti_agenda.specs.declared.offer.Offer.{Offer}
-use Rattle.anti_agenda.specs.declared.offer.Offer.TheVariants.{Go, Take, Pull, Ship}
+use Rattle.anti_agenda.specs.declared.offer.Offer.TheVariants.{Go, Take, Pull, Ship, Again}
 use Rattle.anti_play.specs.Schedule.{bearing, made_at}
 use Rattle.anti_play.specs.inner.Attending.{Attends, CallWaits, IsOffer, IsRoute, OfferWaits, asked_by_offer, birth_in, entry_by_offer}
 use Rattle.anti_play.proofs.Attempting.{stirred_by}
@@ -85,6 +85,7 @@ module _ (app : App) (trace after : List Entry) (e : Entry) (run : IsLegalTrace 
   one_more (Take service) is = inr is
   one_more (Pull sub) is = inr is
   one_more (Ship store replica) is = inr is
+  one_more (Again store replica) is = inr is
 
   -- The births before have other names, since it stands behind all entries of its object.
   module _ (place : e.place ≡ length (entries_on e.object trace) + 1) where
@@ -119,7 +120,8 @@ pub asked_makes : (app : App) (trace : List Entry) (offer : Offer) (q : Asking) 
 asked_makes app trace (Go o at) q route is = ap (option_and_then (made_at app trace)) is
 asked_makes app trace (Take service) q route is = ap (option_and_then (made_at app trace)) is
 asked_makes app trace (Pull sub) q route is = ap (option_and_then (made_at app trace)) is
-asked_makes app trace (Ship store replica) q route is = absurd (route (store, replica, refl))
+asked_makes app trace (Ship store replica) q route is = absurd (route tt)
+asked_makes app trace (Again store replica) q route is = absurd (route tt)
 
 -- it waits where the call does
 pub asked_waits : (app : App) (trace : List Entry) (offer : Offer) (q : Asking) (object : ℕ) (awaited : Awaited) → (IsRoute offer → ⊥)
@@ -127,7 +129,8 @@ pub asked_waits : (app : App) (trace : List Entry) (offer : Offer) (q : Asking) 
 asked_waits app trace (Go o at) q object awaited route is w = (q, is, w)
 asked_waits app trace (Take service) q object awaited route is w = (q, is, w)
 asked_waits app trace (Pull sub) q object awaited route is w = (q, is, w)
-asked_waits app trace (Ship store replica) q object awaited route is w = absurd (route (store, replica, refl))
+asked_waits app trace (Ship store replica) q object awaited route is w = absurd (route tt)
+asked_waits app trace (Again store replica) q object awaited route is w = absurd (route tt)
 
 module _ (app : App) (sound : IsTrue (is_sound app)) (trace : List Entry) (run : IsLegalTrace app trace) (object : ℕ) (call : Call) (bearing_is : bears call ≡ true) where
   module _ (e : Entry) (m : made_at app trace (bearing trace object call) ≡ Some e) where

@@ -17,10 +17,11 @@ use Rattle.anti_trace.specs.Legal.{IsLegalTrace}
 use Rattle.anti_proc.specs.Births.{birth_at, births}
 use Rattle.anti_agenda.specs.Agendas.{IsBefore, IsBelow}
 use Rattle.anti_agenda.specs.declared.offer.Offer.{Offer}
-use Rattle.anti_agenda.specs.declared.offer.Offer.TheVariants.{Go, Take, Pull, Ship}
-use Rattle.anti_play.specs.Schedule.{chosen, first_made, first_of, go_of, goes, made_at, next_call, objects, pulls, ships, take_of, takes}
-use Rattle.anti_play.specs.inner.Attending.{IsOffer, birth_in, entry_by_offer, region_at}
-use Rattle.anti_play.specs.inner.Finishing.{next_shipped, ships_from}
+use Rattle.anti_agenda.specs.declared.offer.Offer.TheVariants.{Go, Take, Pull, Ship, Again}
+use Rattle.anti_play.specs.Schedule.{agains, chosen, first_made, first_of, go_of, goes, made_at, next_call, objects, pulls, ships, take_of, takes}
+use Rattle.anti_play.specs.inner.Attending.{IsOffer, birth_in, caches, entry_by_offer, region_in, replicas}
+use Rattle.anti_play.specs.inner.Finishing.{agains_from, next_again, next_shipped, ships_from}
+use Rattle.anti_play.proofs.AgainNext.{again_made, again_from}
 use Rattle.anti_play.proofs.Complete.{given_by, in_map, in_range}
 use Rattle.anti_play.proofs.FirstAwake.{Ascends, all_joined, ascends-append, ascends-lists, ascends-range, range_below}
 use Rattle.anti_play.proofs.FirstOf.{first_of-append, first_of-flat_map, first_of-map, first_of-same}
@@ -40,17 +41,24 @@ all_takes app = map Take (range_with_len 0 (length app.services.items))
 abbrev pub all_pulls : App → List Offer
 all_pulls app = map Pull (range_with_len 0 (length app.subs.items))
 
-abbrev pub replicas_of : App → ℕ → List ℕ
-replicas_of app store = option_map_or (λ s. s.replicas.items) (slice_get app.stores.items store) []
+-- what goes to these regions of a store, and of all stores
+abbrev pub regions_of : (StoreDef → List ℕ) → App → ℕ → List ℕ
+regions_of regions app store = option_map_or regions (slice_get app.stores.items store) []
 
-abbrev pub routes_at : App → ℕ → List Offer
-routes_at app store = map (Ship store) (range_with_len 0 (length (replicas_of app store)))
+abbrev pub all_at : (ℕ → ℕ → Offer) → (StoreDef → List ℕ) → App → ℕ → List Offer
+all_at to regions app store = map (to store) (range_with_len 0 (length (regions_of regions app store)))
+
+abbrev pub all_to : (ℕ → ℕ → Offer) → (StoreDef → List ℕ) → App → List Offer
+all_to to regions app = flat_map (all_at to regions app) (range_with_len 0 (length app.stores.items))
 
 abbrev pub all_routes : App → List Offer
-all_routes app = flat_map (routes_at app) (range_with_len 0 (length app.stores.items))
+all_routes app = all_to Ship replicas app
+
+abbrev pub all_caches : App → List Offer
+all_caches app = all_to Again caches app
 
 abbrev pub all_offers : App → List Entry → List Offer
-all_offers app trace = all_goes app trace ++ (all_takes app ++ (all_pulls app ++ all_routes app))
+all_offers app trace = all_goes app trace ++ (all_takes app ++ (all_pulls app ++ (all_routes app ++ all_caches app)))
 
 -- ---- what it makes
 
@@ -105,70 +113,82 @@ module _ (app : App) (trace : List Entry) where
       let ns : List ℕ = range_with_len 0 (length app.subs.items) in
       first_of-map entry Pull ns ∙ sym (first_of-map (chosen app trace) choices.Pull ns)
 
-  module _ (sound : IsTrue (is_sound app)) (run : IsLegalTrace app trace) where
-    routes_in : (o : ℕ) (found : Option StoreDef) → slice_get app.stores.items o ≡ found → o < length app.stores.items
-        → first_of entry (routes_at app o) ≡ first_of (chosen app trace) (ships_from app trace o)
-    routes_in o None at low = elim ((slice_get_cases app.stores.items o).1) [
+  -- what goes from the stores to some of their regions, by what each region makes
+  module _ (to : ℕ → ℕ → Offer) (regions : StoreDef → List ℕ) (makes : ℕ → ℕ → Option Entry) (from : ℕ → List Choice)
+      (is : (o i : ℕ) → entry (to o i) ≡ option_and_then (makes o) (region_in regions app o i))
+      (firsts : (o : ℕ) (d : StoreDef) → slice_get app.stores.items o ≡ Some d → first_of (makes o) (regions d) ≡ first_of (chosen app trace) (from o)) where
+    first_at : (o : ℕ) (found : Option StoreDef) → slice_get app.stores.items o ≡ found → o < length app.stores.items
+        → first_of entry (all_at to regions app o) ≡ first_of (chosen app trace) (from o)
+    first_at o None at low = elim ((slice_get_cases app.stores.items o).1) [
       | inl is ↦ absurd (let both : Some is.0 ≡ None = sym is.2 ∙ at in cc)
       | inr past ↦ absurd (let le = past.0 in omega arith)
     ]
-    routes_in o (Some d) at low =
-        let gs : List ℕ = d.replicas.items in
-        let same : replicas_of app o ≡ gs = ap (λ (s : Option StoreDef). option_map_or (λ x. x.replicas.items) s []) at in
-        first_of-map entry (Ship o) (range_with_len 0 (length (replicas_of app o)))
-        ∙ ap (λ (xs : List ℕ). first_of (λ i. entry (Ship o i)) (range_with_len 0 (length xs))) same
-        ∙ by_place (next_shipped app trace o) gs (λ i. entry (Ship o i))
-        (λ i. ap (λ (s : Option StoreDef). option_and_then (next_shipped app trace o) (option_and_then (λ x. slice_get x.replicas.items i) s)) at)
-        ∙ first_from app sound trace run o d at
+    first_at o (Some d) at low =
+        let gs : List ℕ = regions d in
+        let same : regions_of regions app o ≡ gs = ap (λ (s : Option StoreDef). option_map_or regions s []) at in
+        first_of-map entry (to o) (range_with_len 0 (length (regions_of regions app o)))
+        ∙ ap (λ (xs : List ℕ). first_of (λ i. entry (to o i)) (range_with_len 0 (length xs))) same
+        ∙ by_place (makes o) gs (λ i. entry (to o i))
+        (λ i. is o i ∙ ap (λ (s : Option StoreDef). option_and_then (makes o) (option_and_then (λ x. slice_get (regions x) i) s)) at)
+        ∙ firsts o d at
 
-    routes_all : (ns : List ℕ) → All (λ o. o < length app.stores.items) ns
-        → first_of (λ o. first_of entry (routes_at app o)) ns ≡ first_of (λ o. first_of (chosen app trace) (ships_from app trace o)) ns
-    routes_all [] low = refl
-    routes_all (o ∷ ns) low =
-        ap (λ (x : Option Entry). option_or x (first_of (λ o. first_of entry (routes_at app o)) ns)) (routes_in o (slice_get app.stores.items o) refl (low 0 o (omega arith)))
-        ∙ ap (option_or (first_of (chosen app trace) (ships_from app trace o))) (routes_all ns (λ i d lt. low (suc i) d (omega (arith, lt))))
+    first_each : (ns : List ℕ) → All (λ o. o < length app.stores.items) ns
+        → first_of (λ o. first_of entry (all_at to regions app o)) ns ≡ first_of (λ o. first_of (chosen app trace) (from o)) ns
+    first_each [] low = refl
+    first_each (o ∷ ns) low =
+        ap (λ (x : Option Entry). option_or x (first_of (λ o. first_of entry (all_at to regions app o)) ns)) (first_at o (slice_get app.stores.items o) refl (low 0 o (omega arith)))
+        ∙ ap (option_or (first_of (chosen app trace) (from o))) (first_each ns (λ i d lt. low (suc i) d (omega (arith, lt))))
 
-    first_routes : first_of entry (all_routes app) ≡ first_of (chosen app trace) (ships app trace)
-    first_routes =
+    first_to : first_of entry (all_to to regions app) ≡ first_of (chosen app trace) (flat_map from (range_with_len 0 (length app.stores.items)))
+    first_to =
         let ns : List ℕ = range_with_len 0 (length app.stores.items) in
-        first_of-flat_map entry (routes_at app) ns ∙ routes_all ns (range_within (length app.stores.items))
-        ∙ sym (first_of-flat_map (chosen app trace) (ships_from app trace) ns)
+        first_of-flat_map entry (all_at to regions app) ns ∙ first_each ns (range_within (length app.stores.items))
+        ∙ sym (first_of-flat_map (chosen app trace) from ns)
+
+  first_caches : first_of entry (all_caches app) ≡ first_of (chosen app trace) (agains app trace)
+  first_caches = first_to Again caches (again_made app trace) (agains_from app trace) (λ o i. again_of_place o (region_in caches app o i)) (again_from app trace)
+    where
+      again_of_place : (o : ℕ) (found : Option ℕ) → option_and_then (made_at app trace) (option_and_then (next_again app trace o) found) ≡ option_and_then (again_made app trace o) found
+      again_of_place o None = refl
+      again_of_place o (Some g) = refl
+
+  module _ (sound : IsTrue (is_sound app)) (run : IsLegalTrace app trace) where
+    first_routes : first_of entry (all_routes app) ≡ first_of (chosen app trace) (ships app trace)
+    first_routes = first_to Ship replicas (next_shipped app trace) (ships_from app trace) (λ o i. refl) (first_from app sound trace run)
 
     -- the first of the choices makes what the first of the offers makes
     pub first_offered : first_of entry (all_offers app trace) ≡ first_made app trace
     first_offered =
-        let f : Offer → Option Entry = entry in
-        let g : Choice → Option Entry = chosen app trace in
-        in_parts entry (all_goes app trace) (all_takes app) (all_pulls app) (all_routes app)
-        ∙ ap (λ (x : Option Entry). option_or x (option_or (first_of entry (all_takes app)) (option_or (first_of entry (all_pulls app)) (first_of entry (all_routes app))))) first_goes
-        ∙ ap (λ (x : Option Entry). option_or (first_of (chosen app trace) (goes app trace)) (option_or x (option_or (first_of entry (all_pulls app)) (first_of entry (all_routes app))))) first_takes
-        ∙ ap (λ (x : Option Entry). option_or (first_of (chosen app trace) (goes app trace)) (option_or (first_of (chosen app trace) (takes app)) (option_or x (first_of entry (all_routes app))))) first_pulls
-        ∙ ap (λ (x : Option Entry). option_or (first_of (chosen app trace) (goes app trace)) (option_or (first_of (chosen app trace) (takes app)) (option_or (first_of (chosen app trace) (pulls app)) x))) first_routes
-        ∙ sym (in_parts (chosen app trace) (goes app trace) (takes app) (pulls app) (ships app trace))
+        in_parts entry (all_goes app trace) (all_takes app) (all_pulls app) (all_routes app) (all_caches app)
+        ∙ (λ i. option_or (first_goes i) (option_or (first_takes i) (option_or (first_pulls i) (option_or (first_routes i) (first_caches i)))))
+        ∙ sym (in_parts (chosen app trace) (goes app trace) (takes app) (pulls app) (ships app trace) (agains app trace))
       where
-        in_parts : {T : Type 0} (f : T → Option Entry) (ws bs cs ds : List T)
-            → first_of f (ws ++ (bs ++ (cs ++ ds))) ≡ option_or (first_of f ws) (option_or (first_of f bs) (option_or (first_of f cs) (first_of f ds)))
-        in_parts f ws bs cs ds =
-            first_of-append f ws (bs ++ (cs ++ ds))
-            ∙ ap (option_or (first_of f ws)) (first_of-append f bs (cs ++ ds) ∙ ap (option_or (first_of f bs)) (first_of-append f cs ds))
+        in_parts : {T : Type 0} (f : T → Option Entry) (ws bs cs ds es : List T)
+            → first_of f (ws ++ (bs ++ (cs ++ (ds ++ es)))) ≡ option_or (first_of f ws) (option_or (first_of f bs) (option_or (first_of f cs) (option_or (first_of f ds) (first_of f es))))
+        in_parts f ws bs cs ds es =
+            first_of-append f ws (bs ++ (cs ++ (ds ++ es)))
+            ∙ ap (option_or (first_of f ws))
+            (first_of-append f bs (cs ++ (ds ++ es))
+            ∙ ap (option_or (first_of f bs)) (first_of-append f cs (ds ++ es) ∙ ap (option_or (first_of f cs)) (first_of-append f ds es)))
 
   -- ---- who is in it
 
-  pub replica_in : (store replica : ℕ) → IsSome (region_at app store replica) → (store < length app.stores.items) × (replica < length (replicas_of app store))
-  replica_in store replica some = by_store (slice_get app.stores.items store) refl some
+  pub region_within : (regions : StoreDef → List ℕ) (store place : ℕ) → IsSome (region_in regions app store place)
+      → (store < length app.stores.items) × (place < length (regions_of regions app store))
+  region_within regions store place some = by_store (slice_get app.stores.items store) refl some
     where
-      by_region : (d : StoreDef) → slice_get app.stores.items store ≡ Some d → (g : Option ℕ) → slice_get d.replicas.items replica ≡ g → IsSome g
-          → (store < length app.stores.items) × (replica < length (replicas_of app store))
+      by_region : (d : StoreDef) → slice_get app.stores.items store ≡ Some d → (g : Option ℕ) → slice_get (regions d) place ≡ g → IsSome g
+          → (store < length app.stores.items) × (place < length (regions_of regions app store))
       by_region d at None there some = absurd (cc)
       by_region d at (Some g) there some = (
         slice_get_within app.stores.items store d at,
-        subst (λ (s : Option StoreDef). replica < length (option_map_or (λ x. x.replicas.items) s [])) (sym at) (slice_get_within d.replicas.items replica g there),
+        subst (λ (s : Option StoreDef). place < length (option_map_or regions s [])) (sym at) (slice_get_within (regions d) place g there),
       )
 
-      by_store : (found : Option StoreDef) → slice_get app.stores.items store ≡ found → IsSome (option_and_then (λ s. slice_get s.replicas.items replica) found)
-          → (store < length app.stores.items) × (replica < length (replicas_of app store))
+      by_store : (found : Option StoreDef) → slice_get app.stores.items store ≡ found → IsSome (option_and_then (λ s. slice_get (regions s) place) found)
+          → (store < length app.stores.items) × (place < length (regions_of regions app store))
       by_store None at some = absurd (cc)
-      by_store (Some d) at some = by_region d at (slice_get d.replicas.items replica) refl some
+      by_store (Some d) at some = by_region d at (slice_get (regions d) place) refl some
 
   pub born_within : (object at : ℕ) → IsSome (birth_in trace object at) → at < length (births (entries_on object trace))
   born_within object at some = elim ((slice_get_cases (births (entries_on object trace)) at).1) [
@@ -176,30 +196,40 @@ module _ (app : App) (trace : List Entry) where
     | inr past ↦ absurd (let none : birth_in trace object at ≡ None = past.1 in cc (none, some))
   ]
 
+  -- among those that go to these regions
+  among : (to : ℕ → ℕ → Offer) (regions : StoreDef → List ℕ) (store place : ℕ) → IsSome (region_in regions app store place) → Contains (all_to to regions app) (to store place)
+  among to regions store place is =
+      let low = region_within regions store place is in
+      let many : ℕ = length (regions_of regions app store) in
+      given_by (all_at to regions app) (range_with_len 0 (length app.stores.items)) store (to store place) (in_range (length app.stores.items) store low.0)
+      (in_map (to store) (range_with_len 0 many) place (in_range many place low.1))
+
+  at_stores : (offer : Offer) → Contains (all_routes app ++ all_caches app) offer → Contains (all_offers app trace) offer
+  at_stores offer is =
+      Contains-append_right (all_goes app trace) (all_takes app ++ (all_pulls app ++ (all_routes app ++ all_caches app))) offer
+      (Contains-append_right (all_takes app) (all_pulls app ++ (all_routes app ++ all_caches app)) offer
+      (Contains-append_right (all_pulls app) (all_routes app ++ all_caches app) offer is))
+
   -- each offer of the trace
   pub offer_in : (offer : Offer) → IsOffer app trace offer → Contains (all_offers app trace) offer
   offer_in (Go object at) is =
       let many : ℕ = length (births (entries_on object trace)) in
-      Contains-append_left (all_goes app trace) (all_takes app ++ (all_pulls app ++ all_routes app)) (Go object at)
+      Contains-append_left (all_goes app trace) (all_takes app ++ (all_pulls app ++ (all_routes app ++ all_caches app))) (Go object at)
       (given_by (goes_at trace) (objects app) object (Go object at) (in_range (object_count app) object is.0)
       (in_map (Go object) (range_with_len 0 many) at (in_range many at (born_within object at is.1))))
   offer_in (Take service) is =
-      Contains-append_right (all_goes app trace) (all_takes app ++ (all_pulls app ++ all_routes app)) (Take service)
-      (Contains-append_left (all_takes app) (all_pulls app ++ all_routes app) (Take service)
+      Contains-append_right (all_goes app trace) (all_takes app ++ (all_pulls app ++ (all_routes app ++ all_caches app))) (Take service)
+      (Contains-append_left (all_takes app) (all_pulls app ++ (all_routes app ++ all_caches app)) (Take service)
       (in_map Take (range_with_len 0 (length app.services.items)) service (in_range (length app.services.items) service is)))
   offer_in (Pull sub) is =
-      Contains-append_right (all_goes app trace) (all_takes app ++ (all_pulls app ++ all_routes app)) (Pull sub)
-      (Contains-append_right (all_takes app) (all_pulls app ++ all_routes app) (Pull sub)
-      (Contains-append_left (all_pulls app) (all_routes app) (Pull sub)
+      Contains-append_right (all_goes app trace) (all_takes app ++ (all_pulls app ++ (all_routes app ++ all_caches app))) (Pull sub)
+      (Contains-append_right (all_takes app) (all_pulls app ++ (all_routes app ++ all_caches app)) (Pull sub)
+      (Contains-append_left (all_pulls app) (all_routes app ++ all_caches app) (Pull sub)
       (in_map Pull (range_with_len 0 (length app.subs.items)) sub (in_range (length app.subs.items) sub is))))
   offer_in (Ship store replica) is =
-      let low = replica_in store replica is in
-      let many : ℕ = length (replicas_of app store) in
-      Contains-append_right (all_goes app trace) (all_takes app ++ (all_pulls app ++ all_routes app)) (Ship store replica)
-      (Contains-append_right (all_takes app) (all_pulls app ++ all_routes app) (Ship store replica)
-      (Contains-append_right (all_pulls app) (all_routes app) (Ship store replica)
-      (given_by (routes_at app) (range_with_len 0 (length app.stores.items)) store (Ship store replica) (in_range (length app.stores.items) store low.0)
-      (in_map (Ship store) (range_with_len 0 many) replica (in_range many replica low.1)))))
+      at_stores (Ship store replica) (Contains-append_left (all_routes app) (all_caches app) (Ship store replica) (among Ship replicas store replica is))
+  offer_in (Again store replica) is =
+      at_stores (Again store replica) (Contains-append_right (all_routes app) (all_caches app) (Again store replica) (among Again caches store replica is))
 
   some_at : {X : Type 0} (xs : List X) (i : ℕ) → i < length xs → IsSome (slice_get xs i)
   some_at {X} xs i low = elim ((slice_get_cases xs i).1) [
@@ -210,19 +240,28 @@ module _ (app : App) (trace : List Entry) where
   pub born_there : (object at : ℕ) → at < length (births (entries_on object trace)) → IsSome (birth_in trace object at)
   born_there object at low = some_at (births (entries_on object trace)) at low
 
-  pub route_there : (store replica : ℕ) → replica < length (replicas_of app store) → IsSome (region_at app store replica)
-  route_there store replica low = by_store (slice_get app.stores.items store) low
+  pub region_there : (regions : StoreDef → List ℕ) (store place : ℕ) → place < length (regions_of regions app store) → IsSome (region_in regions app store place)
+  region_there regions store place low = by_store (slice_get app.stores.items store) low
     where
-      by_store : (found : Option StoreDef) → replica < length (option_map_or (λ s. s.replicas.items) found [])
-          → IsSome (option_and_then (λ s. slice_get s.replicas.items replica) found)
+      by_store : (found : Option StoreDef) → place < length (option_map_or regions found [])
+          → IsSome (option_and_then (λ s. slice_get (regions s) place) found)
       by_store None low = absurd (omega (arith, low))
-      by_store (Some d) low = some_at d.replicas.items replica low
+      by_store (Some d) low = some_at (regions d) place low
+
+  all_to_are : (to : ℕ → ℕ → Offer) (regions : StoreDef → List ℕ) → ((store place : ℕ) → IsSome (region_in regions app store place) → IsOffer app trace (to store place))
+      → All (IsOffer app trace) (all_to to regions app)
+  all_to_are to regions are =
+      all_joined (IsOffer app trace) (all_at to regions app) (range_with_len 0 (length app.stores.items))
+      (λ i d lt.
+      let o : ℕ = get_or (range_with_len 0 (length app.stores.items)) i d in
+      let many : ℕ = length (regions_of regions app o) in
+      All-map (IsOffer app trace) (to o) (range_with_len 0 many)
+      (All-weaker (λ (r : ℕ). r < many) (λ (r : ℕ). IsOffer app trace (to o r)) (λ r low. are o r (region_there regions o r low)) (range_with_len 0 many) (range_within many)))
 
   -- and no others
   pub all_are : All (IsOffer app trace) (all_offers app trace)
   all_are =
-      let is : Offer → Type 0 = IsOffer app trace in
-      All-append (IsOffer app trace) (all_goes app trace) (all_takes app ++ (all_pulls app ++ all_routes app))
+      All-append (IsOffer app trace) (all_goes app trace) (all_takes app ++ (all_pulls app ++ (all_routes app ++ all_caches app)))
       (all_joined (IsOffer app trace) (goes_at trace) (objects app)
       (All-weaker (λ (o : ℕ). o < object_count app) (λ (o : ℕ). All (IsOffer app trace) (goes_at trace o))
       (λ o low.
@@ -230,56 +269,67 @@ module _ (app : App) (trace : List Entry) where
       All-map (IsOffer app trace) (Go o) (range_with_len 0 (length bs))
       (All-weaker (λ (i : ℕ). i < length bs) (λ (i : ℕ). IsOffer app trace (Go o i)) (λ i lt. (low, born_there o i lt)) (range_with_len 0 (length bs)) (range_within (length bs))))
       (objects app) (range_within (object_count app))))
-      (All-append (IsOffer app trace) (all_takes app) (all_pulls app ++ all_routes app)
+      (All-append (IsOffer app trace) (all_takes app) (all_pulls app ++ (all_routes app ++ all_caches app))
       (All-map (IsOffer app trace) Take (range_with_len 0 (length app.services.items)) (range_within (length app.services.items)))
-      (All-append (IsOffer app trace) (all_pulls app) (all_routes app)
+      (All-append (IsOffer app trace) (all_pulls app) (all_routes app ++ all_caches app)
       (All-map (IsOffer app trace) Pull (range_with_len 0 (length app.subs.items)) (range_within (length app.subs.items)))
-      (all_joined (IsOffer app trace) (routes_at app) (range_with_len 0 (length app.stores.items))
-      (λ i d lt.
-      let o : ℕ = get_or (range_with_len 0 (length app.stores.items)) i d in
-      let many : ℕ = length (replicas_of app o) in
-      All-map (IsOffer app trace) (Ship o) (range_with_len 0 many)
-      (All-weaker (λ (r : ℕ). r < many) (λ (r : ℕ). IsOffer app trace (Ship o r)) (λ r low. route_there o r low) (range_with_len 0 many) (range_within many))))))
+      (All-append (IsOffer app trace) (all_routes app) (all_caches app)
+      (all_to_are Ship replicas (λ store place some. some)) (all_to_are Again caches (λ store place some. some)))))
 
   -- ---- its order
 
   pub ascending : Ascends IsBefore (all_offers app trace)
   ascending =
-      ascends-append IsBefore (all_goes app trace) (all_takes app ++ (all_pulls app ++ all_routes app))
+      ascends-append IsBefore (all_goes app trace) (all_takes app ++ (all_pulls app ++ (all_routes app ++ all_caches app)))
       (ascends-lists IsBefore (goes_at trace) (λ o. ascends-range IsBefore (Go o) (λ i j lt. inr (refl, lt)) 0 (length (births (entries_on o trace))))
       (λ i j lt.
       all_made (Go i) (length (births (entries_on i trace))) (λ x. All (IsBefore x) (goes_at trace j))
       (λ a. all_made (Go j) (length (births (entries_on j trace))) (IsBefore (Go i a)) (λ b. inl lt)))
       0 (object_count app))
-      (ascends-append IsBefore (all_takes app) (all_pulls app ++ all_routes app)
+      (ascends-append IsBefore (all_takes app) (all_pulls app ++ (all_routes app ++ all_caches app))
       (ascends-range IsBefore Take (λ i j lt. lt) 0 (length app.services.items))
-      (ascends-append IsBefore (all_pulls app) (all_routes app)
+      (ascends-append IsBefore (all_pulls app) (all_routes app ++ all_caches app)
       (ascends-range IsBefore Pull (λ i j lt. lt) 0 (length app.subs.items))
-      (ascends-lists IsBefore (routes_at app) (λ o. ascends-range IsBefore (Ship o) (λ i j lt. inr (refl, lt)) 0 (length (replicas_of app o)))
-      (λ i j lt.
-      all_made (Ship i) (length (replicas_of app i)) (λ x. All (IsBefore x) (routes_at app j))
-      (λ a. all_made (Ship j) (length (replicas_of app j)) (IsBefore (Ship i a)) (λ b. inl lt)))
-      0 (length app.stores.items))
-      (all_made Pull (length app.subs.items) (λ x. All (IsBefore x) (all_routes app)) (λ a. of_routes (IsBefore (Pull a)) (λ x y. tt))))
-      (all_made Take (length app.services.items) (λ x. All (IsBefore x) (all_pulls app ++ all_routes app))
-      (λ a. All-append (IsBefore (Take a)) (all_pulls app) (all_routes app) (all_made Pull (length app.subs.items) (IsBefore (Take a)) (λ b. tt)) (of_routes (IsBefore (Take a)) (λ x y. tt)))))
-      (all_joined (λ x. All (IsBefore x) (all_takes app ++ (all_pulls app ++ all_routes app))) (goes_at trace) (objects app)
+      (ascends-append IsBefore (all_routes app) (all_caches app)
+      (all_to_ascend Ship replicas (λ o i j lt. inr (refl, lt)) (λ i j a b lt. inl lt))
+      (all_to_ascend Again caches (λ o i j lt. inr (refl, lt)) (λ i j a b lt. inl lt))
+      (of_each Ship replicas (λ x. All (IsBefore x) (all_caches app)) (λ o a. of_each Again caches (IsBefore (Ship o a)) (λ x y. tt))))
+      (all_made Pull (length app.subs.items) (λ x. All (IsBefore x) (all_routes app ++ all_caches app)) (λ a. of_stores (IsBefore (Pull a)) (λ x y. tt) (λ x y. tt))))
+      (all_made Take (length app.services.items) (λ x. All (IsBefore x) (all_pulls app ++ (all_routes app ++ all_caches app)))
+      (λ a.
+      All-append (IsBefore (Take a)) (all_pulls app) (all_routes app ++ all_caches app) (all_made Pull (length app.subs.items) (IsBefore (Take a)) (λ b. tt))
+      (of_stores (IsBefore (Take a)) (λ x y. tt) (λ x y. tt)))))
+      (all_joined (λ x. All (IsBefore x) (all_takes app ++ (all_pulls app ++ (all_routes app ++ all_caches app)))) (goes_at trace) (objects app)
       (λ i d low.
       let o : ℕ = get_or (objects app) i d in
-      all_made (Go o) (length (births (entries_on o trace))) (λ x. All (IsBefore x) (all_takes app ++ (all_pulls app ++ all_routes app)))
+      all_made (Go o) (length (births (entries_on o trace))) (λ x. All (IsBefore x) (all_takes app ++ (all_pulls app ++ (all_routes app ++ all_caches app))))
       (λ a.
-      All-append (IsBefore (Go o a)) (all_takes app) (all_pulls app ++ all_routes app) (all_made Take (length app.services.items) (IsBefore (Go o a)) (λ b. tt))
-      (All-append (IsBefore (Go o a)) (all_pulls app) (all_routes app) (all_made Pull (length app.subs.items) (IsBefore (Go o a)) (λ b. tt)) (of_routes (IsBefore (Go o a)) (λ x y. tt))))))
+      All-append (IsBefore (Go o a)) (all_takes app) (all_pulls app ++ (all_routes app ++ all_caches app)) (all_made Take (length app.services.items) (IsBefore (Go o a)) (λ b. tt))
+      (All-append (IsBefore (Go o a)) (all_pulls app) (all_routes app ++ all_caches app) (all_made Pull (length app.subs.items) (IsBefore (Go o a)) (λ b. tt))
+      (of_stores (IsBefore (Go o a)) (λ x y. tt) (λ x y. tt))))))
     where
       -- all items of a range
       all_made : (f : ℕ → Offer) (n : ℕ) (P : Offer → Type 0) → ((i : ℕ) → P (f i)) → All P (map f (range_with_len 0 n))
       all_made f n P each = All-map P f (range_with_len 0 n) (λ i d low. each (get_or (range_with_len 0 n) i d))
 
-      of_routes : (P : Offer → Type 0) → ((store replica : ℕ) → P (Ship store replica)) → All P (all_routes app)
-      of_routes P each =
-          all_joined P (routes_at app) (range_with_len 0 (length app.stores.items))
+      -- all that go to these regions
+      of_each : (to : ℕ → ℕ → Offer) (regions : StoreDef → List ℕ) (P : Offer → Type 0) → ((store place : ℕ) → P (to store place)) → All P (all_to to regions app)
+      of_each to regions P each =
+          all_joined P (all_at to regions app) (range_with_len 0 (length app.stores.items))
           (λ i d low.
-          let o : ℕ = get_or (range_with_len 0 (length app.stores.items)) i d in all_made (Ship o) (length (replicas_of app o)) P (each o))
+          let o : ℕ = get_or (range_with_len 0 (length app.stores.items)) i d in all_made (to o) (length (regions_of regions app o)) P (each o))
+
+      of_stores : (P : Offer → Type 0) → ((store replica : ℕ) → P (Ship store replica)) → ((store replica : ℕ) → P (Again store replica)) → All P (all_routes app ++ all_caches app)
+      of_stores P routes again = All-append P (all_routes app) (all_caches app) (of_each Ship replicas P routes) (of_each Again caches P again)
+
+      all_to_ascend : (to : ℕ → ℕ → Offer) (regions : StoreDef → List ℕ) → ((o i j : ℕ) → i < j → IsBefore (to o i) (to o j))
+          → ((i j a b : ℕ) → i < j → IsBefore (to i a) (to j b)) → Ascends IsBefore (all_to to regions app)
+      all_to_ascend to regions within across =
+          ascends-lists IsBefore (all_at to regions app) (λ o. ascends-range IsBefore (to o) (λ i j lt. within o i j lt) 0 (length (regions_of regions app o)))
+          (λ i j lt.
+          all_made (to i) (length (regions_of regions app i)) (λ x. All (IsBefore x) (all_at to regions app j))
+          (λ a. all_made (to j) (length (regions_of regions app j)) (IsBefore (to i a)) (λ b. across i j a b lt)))
+          0 (length app.stores.items)
 
 -- no two come before each other
 below_one_way : (a b x y : ℕ) → IsBelow a b x y → IsBelow x y a b → ⊥
@@ -293,15 +343,24 @@ one_way (Go a b) (Go x y) one two = below_one_way a b x y one two
 one_way (Go a b) (Take x) one two = two
 one_way (Go a b) (Pull x) one two = two
 one_way (Go a b) (Ship x y) one two = two
+one_way (Go a b) (Again x y) one two = two
 one_way (Take a) (Go x y) one two = one
 one_way (Take a) (Take x) one two = omega (arith, one, two)
 one_way (Take a) (Pull x) one two = two
 one_way (Take a) (Ship x y) one two = two
+one_way (Take a) (Again x y) one two = two
 one_way (Pull a) (Go x y) one two = one
 one_way (Pull a) (Take x) one two = one
 one_way (Pull a) (Pull x) one two = omega (arith, one, two)
 one_way (Pull a) (Ship x y) one two = two
+one_way (Pull a) (Again x y) one two = two
 one_way (Ship a b) (Go x y) one two = one
 one_way (Ship a b) (Take x) one two = one
 one_way (Ship a b) (Pull x) one two = one
 one_way (Ship a b) (Ship x y) one two = below_one_way a b x y one two
+one_way (Ship a b) (Again x y) one two = two
+one_way (Again a b) (Go x y) one two = one
+one_way (Again a b) (Take x) one two = one
+one_way (Again a b) (Pull x) one two = one
+one_way (Again a b) (Ship x y) one two = one
+one_way (Again a b) (Again x y) one two = below_one_way a b x y one two

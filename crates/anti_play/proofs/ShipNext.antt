@@ -10,9 +10,10 @@ use Rattle.anti_kind.specs.declared.call.Call.TheVariants as calls
 use Rattle.anti_kind.specs.declared.row.Row.{Row}
 use Rattle.anti_kind.specs.declared.store_kind.StoreKind.{StoreKind}
 use Rattle.anti_kind.specs.declared.entry.Entry.{Entry}
+use Rattle.anti_kind.specs.Caches.{store_with}
 use Rattle.anti_kind.specs.Objects.{Start, store, fits}
 use Rattle.anti_kind.specs.Shipments.{next_ship, shipment, shipments, next_shipment}
-use Rattle.anti_kind.specs.Store.{Store, store_of, can_ship}
+use Rattle.anti_kind.specs.Store.{Store, can_ship}
 use Rattle.anti_kind.specs.Stored.{parts, rows}
 use Rattle.anti_app.specs.declared.app.App.{App}
 use Rattle.anti_app.specs.declared.app.Choice.{Choice}
@@ -20,7 +21,7 @@ use Rattle.anti_app.specs.declared.app.Choice.TheVariants.{Ship}
 use Rattle.anti_app.specs.declared.app.StoreDef.{StoreDef}
 use Rattle.anti_app.specs.Sound.{is_sound}
 use Rattle.anti_app.specs.Subs.{subs_on}
-use Rattle.anti_object.specs.Starts.{start_of, store_start, tries_of}
+use Rattle.anti_object.specs.Starts.{room_of, start_of, store_start, tries_of}
 use Rattle.anti_object.proofs.Starts.{start_of-store, start_sound}
 use Rattle.anti_trace.specs.Traces.{entries_on}
 use Rattle.anti_play.specs.Schedule.{carrying, chosen, first_of, next_entry, ships_at, ships_of, ships_to}
@@ -46,6 +47,14 @@ module _ {X : Type 0} (test : X → Bool) (entry : X → Option Entry) (none : (
           let made : (e : Entry) × (entry x ≡ Some e) = some x on in
           ap (λ (o : Option Entry). option_or o (first_of entry xs)) made.1 ∙ sym made.1
       by_test false off later = ap (λ (o : Option Entry). option_or o (first_of entry xs)) (none x off) ∙ later
+
+-- ---- a store
+
+abbrev pub store_at : App → ℕ → StoreDef → Store
+store_at app o d = store_with d.kind o d.replicas.items (subs_on app o) (tries_of d) (room_of d)
+
+pub start_is : (app : App) (o : ℕ) (d : StoreDef) → slice_get app.stores.items o ≡ Some d → start_of app o ≡ Some (store (store_at app o d))
+start_is app o d found = start_of-store app o (slice_get_within app.stores.items o d found) ∙ ap (option_map (store_start app o)) found
 
 -- ---- the shipments to a region
 
@@ -93,9 +102,8 @@ module _ (app : App) (sound : IsTrue (is_sound app)) (trace : List Entry) (run :
   -- the shipments of a store, to each of its replicas
   pub first_from : (d : StoreDef) → slice_get app.stores.items o ≡ Some d → first_of (next_shipped app trace o) d.replicas.items ≡ first_of (chosen app trace) (ships_from app trace o)
   first_from d found =
-      let s : Store = store_of d.kind o d.replicas.items (subs_on app o) (tries_of d) in
-      let there : start_of app o ≡ Some (store s) =
-      start_of-store app o (slice_get_within app.stores.items o d found) ∙ ap (option_map (store_start app o)) found in
+      let s : Store = store_at app o d in
+      let there : start_of app o ≡ Some (store s) = start_is app o d found in
       first_of-same (next_shipped app trace o) (λ g. first_of (chosen app trace) (ships_to s.kind o h g)) (λ g. sym (first_to s there g)) d.replicas.items
       ∙ sym (first_of-flat_map (chosen app trace) (ships_to s.kind o h) s.regions)
       ∙ ap (λ (start : Option Start). first_of (chosen app trace) (option_map_or (ships_at o h) start [])) (sym there)

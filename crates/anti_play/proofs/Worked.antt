@@ -1,6 +1,6 @@
 -- A worked run. A store `s` has replicas in `eu` and `us`. The handler of the service `w` in `eu` writes to it, that of `r` in `us` reads it,
 -- and each has a request. The choices are replayed one by one, by computation.
-use Rattle.std.proofs.Common.{◌≡◌, ℕ, suc, List, [], ◌∷◌, false, refl, ap, ◌∙◌}
+use Rattle.std.proofs.Common.{◌≡◌, ℕ, suc, List, [], ◌∷◌, ◌++◌, false, refl, ap, ◌∙◌}
 use Rattle.std.specs.Prelude.{Option, None, Some, codes, drop, option_and_then}
 use Rattle.std.specs.Option.{option_map_or, option_or}
 use Rattle.anti_ids.specs.List.{plain}
@@ -82,7 +82,7 @@ choices =
 abbrev app : App
 app = record {
   regions = plain (codes "eu" ∷ codes "us" ∷ []);
-  stores = plain (record { name = codes "s"; kind = kind_of (codes "kv"); replicas = plain (eu ∷ us ∷ []); tries = 3 } ∷ []);
+  stores = plain (record { name = codes "s"; kind = kind_of (codes "kv"); replicas = plain (eu ∷ us ∷ []); tries = 3; room = 8 } ∷ []);
   services = plain (service_with (codes "w") eu writes ∷ service_with (codes "r") us reads ∷ []);
   subs = plain [];
   requests = plain (request_to 0 ∷ request_to 1 ∷ []);
@@ -283,7 +283,7 @@ taken_before = refl
 abbrev topics : App
 topics = record {
   regions = plain (codes "eu" ∷ codes "us" ∷ []);
-  stores = plain (record { name = codes "t"; kind = kind_of (codes "topic"); replicas = plain (us ∷ []); tries = 3 } ∷ []);
+  stores = plain (record { name = codes "t"; kind = kind_of (codes "topic"); replicas = plain (us ∷ []); tries = 3; room = 8 } ∷ []);
   services = plain (service_with (codes "r") us reads ∷ []);
   subs = plain (record { name = codes "n"; store = 0; channel = codes "c"; service = 0; handler = 0 } ∷ []);
   requests = plain [];
@@ -319,3 +319,46 @@ pulled_again = entry 4 0 4 (Process (record { object = 0; place = 4 })) 1 (calls
 
 pulls_again : chosen topics (published ∷ arrived ∷ pulled ∷ []) (Repull 0 1) ≡ Some pulled_again
 pulls_again = refl
+
+-- ---- a store with caches
+
+-- It has one replica, in `eu`. The first version of `k` was read there before the second arrived.
+abbrev cached : App
+cached = record {
+  regions = plain (codes "eu" ∷ codes "us" ∷ []);
+  stores = plain (record { name = codes "c"; kind = kind_of (codes "cached"); replicas = plain (eu ∷ []); tries = 3; room = 1 } ∷ []);
+  services = plain [];
+  subs = plain [];
+  requests = plain [];
+  choices = plain [];
+  seed = 1;
+  workers = 1;
+}
+
+abbrev two_written : List Entry
+two_written =
+    entry 1 0 1 (Process writer) 1 (calls.Write k a []) (replies.Written k 1 None)
+    ∷ entry 2 0 2 (Carrier 0) 0 (calls.Ship eu 1 1) replies.Moved
+    ∷ entry 3 0 3 (Process reader) 1 (calls.Read eu k) (replies.Shown (plain (row 1 a ∷ [])))
+    ∷ entry 4 0 4 (Process writer) 1 (calls.Write k a []) (replies.Written k 2 None)
+    ∷ []
+
+abbrev second_arrives : Entry
+second_arrives = entry 5 0 5 (Carrier 0) 0 (calls.Ship eu 2 1) replies.Moved
+
+-- It is shipped first.
+not_behind : first_made cached two_written ≡ Some second_arrives
+not_behind = refl
+
+-- Now the cache is behind, so it comes again. Then nothing is left.
+abbrev both_arrived : List Entry
+both_arrived = two_written ++ second_arrives ∷ []
+
+abbrev comes_again : Entry
+comes_again = entry 6 0 6 (Carrier 0) 0 (calls.Again eu 2 1) replies.Moved
+
+is_behind : first_made cached both_arrived ≡ Some comes_again
+is_behind = refl
+
+no_more : first_made cached (both_arrived ++ comes_again ∷ []) ≡ None
+no_more = refl

@@ -5,6 +5,7 @@ use Rattle.std.specs.Option.{option_or, option_map_or}
 use Rattle.anti_ids.specs.declared.limits.TheConstants.{MOST_UNITS}
 use Rattle.anti_kind.specs.declared.row.Row.{Row}
 use Rattle.anti_kind.specs.declared.store_kind.StoreKind.{StoreKind}
+use Rattle.anti_kind.specs.Caches.{stale}
 use Rattle.anti_kind.specs.Stored.{rows, parts}
 use Rattle.anti_kind.specs.declared.asking.Asking.{Asking}
 use Rattle.anti_kind.specs.declared.actor.Actor.{Actor}
@@ -132,9 +133,26 @@ ships_at o history (inbox requests) = []
 abbrev pub ships : App → List Entry → List Choice
 ships app trace = flat_map (λ o. option_map_or (ships_at o (entries_on o trace)) (start_of app o) []) (range_with_len 0 (length app.stores.items))
 
+-- what comes again to a region: its first part, and so what is whole of the first key that is behind in the region's cache
+abbrev pub again_of : ℕ → ℕ → ℕ → Choice
+again_of o region version = Again o region version (Some 1)
+
+-- none where nothing is behind
+abbrev pub agains_to : ℕ → List Entry → Start → ℕ → List Choice
+agains_to o history start region = option_map_or (λ version. again_of o region version ∷ []) (stale start history region) []
+
+-- to each replica of a store, in their order
+abbrev pub agains_at : ℕ → List Entry → Start → List Choice
+agains_at o history (store s) = flat_map (agains_to o history (store s)) s.regions
+agains_at o history (inbox requests) = []
+
+-- of each store, in their order
+abbrev pub agains : App → List Entry → List Choice
+agains app trace = flat_map (λ o. option_map_or (agains_at o (entries_on o trace)) (start_of app o) []) (range_with_len 0 (length app.stores.items))
+
 -- all of them
 abbrev pub offers : App → List Entry → List Choice
-offers app trace = goes app trace ++ (takes app ++ (pulls app ++ ships app trace))
+offers app trace = goes app trace ++ (takes app ++ (pulls app ++ (ships app trace ++ agains app trace)))
 
 -- What `finish` makes: the first of them that makes an entry makes it, again and again, until none makes one.
 

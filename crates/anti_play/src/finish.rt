@@ -8,7 +8,7 @@ ghost use Rattle.anti_trace.specs.Legal.{bears};
 ghost use Rattle.anti_agenda.specs.Agendas.{IsAwake};
 ghost use Rattle.anti_play.specs.Complete.{IsComplete};
 ghost use Rattle.anti_play.specs.Schedule.{bearing, finished, first_made};
-ghost use Rattle.anti_play.specs.inner.Attempts.{AttendsBehind, HasFewer, IsRouteTo, MakesEntry, made_by};
+ghost use Rattle.anti_play.specs.inner.Attempts.{AttendsBehind, HasFewer, IsCacheTo, IsRouteTo, MakesEntry, made_by};
 ghost use Rattle.anti_play.specs.inner.Attending.{CallWaits, IsAttended, IsRoute, asked_by_offer};
 ghost use Rattle.anti_play.specs.inner.Finishing.{WentOn};
 ghost use Rattle.anti_play.specs.inner.Standing.{IsSoundWorld, IsWorldOf, WorldStands};
@@ -21,8 +21,9 @@ use anti_kind::{Awaited, Brought, Call, Machine};
 
 impl World {
     /// Makes all that can still be made: the next call of each process, ascending by object and place of its birth, the first free
-    /// delivery of each service, the next pull of each subscription, and the shipments of each store. The first of these that makes an
-    /// entry makes it, again and again, until none does. Where there is no memory some of the entries were made.
+    /// delivery of each service, the next pull of each subscription, the shipments of each store, and what comes again to each of its
+    /// caches that is behind. The first of these that makes an entry makes it, again and again, until none does. Where there is no memory
+    /// some of the entries were made.
     pub fn finish(&mut self, app: &App) -> Result<(), NoMemory>
         requires sound { IsTrue (is_sound app.now) }
         requires world { IsWorldOf app.now self.old }
@@ -79,6 +80,10 @@ impl World {
             Offer::Ship { store, replica } => {
                 let region = *app.stores.at(store as usize).replicas.at(replica);
                 self.attempt_ship(agenda, offer, store, region)
+            }
+            Offer::Again { store, replica } => {
+                let region = *app.stores.at(store as usize).replicas.at(replica);
+                self.attempt_again(agenda, offer, store, region)
             }
         }
     }
@@ -173,6 +178,39 @@ impl World {
         self.ship(store, region, version, part)?;
         let brought = Brought::Shipped { region, version };
         agenda.stir(store, brought).and(Ok(true))
+    }
+
+    // What comes again next from a store to a region, whose cache is behind. Once none is, only a shipment there makes one so.
+    fn attempt_again(
+        &mut self,
+        agenda: &mut Agenda,
+        offer: Offer,
+        store: u32,
+        region: u32,
+    ) -> Result<bool, NoMemory>
+        requires world { IsSoundWorld self.old }
+        requires store { store < vec_len self.old.objects }
+        requires awake { IsAwake agenda.old offer }
+        ensures chose { (app : App) → IsCacheTo app offer store region
+            → MakesEntry app self.old agenda.old (made_by app offer) result self.new }
+        ensures attends { (app : App) → IsCacheTo app offer store region
+            → AttendsBehind app self.old agenda.old (made_by app offer) result agenda.new }
+        ensures fewer { HasFewer agenda.old result agenda.new }
+    {
+        let recorded = &self.objects[store as usize];
+        let Some(version) = recorded.machine().stale(region) else {
+            let awaited = Awaited::Version { region, version: 0 };
+            return agenda.sleep(offer, store, awaited).and(Ok(false));
+        };
+        let call = Call::Again {
+            region,
+            version,
+            part: 1,
+        };
+        if !self.carry(store, call)? {
+            return agenda.idle(offer).and(Ok(false));
+        }
+        agenda.stir(store, Brought::Nothing).and(Ok(true))
     }
 
     // What a call waits for at its object, where that is known.

@@ -13,8 +13,8 @@ ghost use Rattle.anti_play.specs.Pulls.{StartsHandlerOf};
 ghost use Rattle.anti_trace.specs.Histories.{Entries, GoesOn};
 
 /// What `finish` makes of a legal trace of a sound application is a legal trace, in which the history of each object goes on from what it
-/// was, and after which nothing is left to make. What it makes has no seat. This means that no process can go on, no message waits to be taken or can be pulled, and no
-/// write is on its way.
+/// was, and after which nothing is left to make. What it makes has no seat. This means that no process can go on, no message waits to be
+/// taken or can be pulled, no write is on its way, and no cache is behind that could be refreshed.
 pub fn finish_completes()
     ensures run { (app : App) (trace : Entries) → IsTrue (is_sound app) → IsLegalTrace app trace
         → IsLegalTrace app (finished app trace) }

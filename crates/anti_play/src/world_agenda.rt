@@ -3,7 +3,7 @@ ghost use Rattle.anti_trace.specs.Histories.{Entries};
 ghost use Rattle.anti_app.specs.Numbers.{IsStore};
 ghost use Rattle.anti_app.specs.declared.app.App.{App};
 ghost use Rattle.anti_app.specs.Sound.{is_sound};
-ghost use Rattle.anti_play.specs.inner.Attending.{Attends, IsGo, IsGoAt, IsPull, IsRouteOf, IsShip, IsTake, Wakes, WakesAll};
+ghost use Rattle.anti_play.specs.inner.Attending.{Attends, IsAgain, IsCacheOf, IsGo, IsGoAt, IsPull, IsRouteOf, IsShip, IsTake, Wakes, WakesAll};
 ghost use Rattle.anti_play.specs.inner.Standing.{IsWorldOf, WorldStands};
 
 use crate::world::World;
@@ -24,6 +24,7 @@ impl World {
         wake_services(&mut agenda, app)?;
         wake_subs(&mut agenda, app)?;
         wake_stores(&mut agenda, app)?;
+        wake_caches(&mut agenda, app)?;
         Ok(agenda)
     }
 
@@ -98,6 +99,32 @@ fn wake_routes(agenda: &mut Agenda, app: &App, store: u32) -> Result<(), NoMemor
 {
     for replica in 0..app.stores.at(store as usize).replicas.len() {
         agenda.wake(Offer::Ship { store, replica })?;
+    }
+    Ok(())
+}
+
+// Wakes what comes again to the caches of all stores.
+fn wake_caches(agenda: &mut Agenda, app: &App) -> Result<(), NoMemory>
+    requires sound { IsTrue (is_sound app.now) }
+    ensures { OnOk result (WakesAll (IsAgain app.now) agenda.old agenda.new) }
+{
+    for store in 0..app.stores.len() {
+        wake_agains(agenda, app, store as u32)?;
+    }
+    Ok(())
+}
+
+// Wakes what comes again to the caches of a store. Mostly it has none, and then nobody is woken.
+fn wake_agains(agenda: &mut Agenda, app: &App, store: u32) -> Result<(), NoMemory>
+    requires { IsStore app.now store }
+    ensures { OnOk result (WakesAll (IsCacheOf app.now store) agenda.old agenda.new) }
+{
+    let stored = app.stores.at(store as usize);
+    if !stored.kind.facts().cached {
+        return Ok(());
+    }
+    for replica in 0..stored.replicas.len() {
+        agenda.wake(Offer::Again { store, replica })?;
     }
     Ok(())
 }

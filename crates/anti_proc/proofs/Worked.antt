@@ -64,7 +64,7 @@ abbrev read : Step
 read = statements.Read (codes "s") (keys.Plain key) x
 
 abbrev store_in : List ℕ → List ℕ → StoreDef
-store_in name regions = record { name = name; kind = Kv; replicas = plain regions; tries = 3 }
+store_in name regions = record { name = name; kind = Kv; replicas = plain regions; tries = 3; room = 8 }
 
 abbrev empty_handler : List ℕ → HandlerDef
 empty_handler name = record { name = name; body = plain [] }
@@ -498,7 +498,7 @@ foreign_row = refl
 -- An application with a queue `q`, a topic `t` and a store `s`, and with a service `w` that writes, refuses and does nothing: it writes and
 -- refuses messages of the queue, and does nothing with those of the topic. Its second subscription is the first one of the topic.
 abbrev store_of_kind : List ℕ → StoreKind → StoreDef
-store_of_kind name kind = record { name = name; kind = kind; replicas = plain (0 ∷ []); tries = 3 }
+store_of_kind name kind = record { name = name; kind = kind; replicas = plain (0 ∷ []); tries = 3; room = 8 }
 
 abbrev handler_with : List ℕ → List Step → HandlerDef
 handler_with name steps = record { name = name; body = body_of (block_from steps) }

@@ -37,12 +37,11 @@ impl Replicas {
         }
     }
 
-    // The reply to a write of the key.
-    fn written(&self, key: &Handle<Name>, lineage: &Lineage) -> Result<Reply, NoMemory>
+    /// The reply to a write of the key, in a store that is read by keys.
+    pub fn written(&self, key: &Handle<Name>, lineage: &Lineage) -> Result<Reply, NoMemory>
         requires { MayKeep self.now key.now lineage.now }
-        ensures { (kind : StoreKind) (number : ℕ) (regions : List ℕ) (h : List Entry) (value : List ℕ)
-            → At self.now (keyed kind number regions) h → (facts_of kind).keyed ≡ true
-            → IfOk result (λ r. r ≡ store_due (keyed kind number regions) h (Write key.now value lineage.now)) }
+        ensures { (s : Store) (h : List Entry) (value : List ℕ) → At self.now s h → (facts_of s.kind).keyed ≡ true
+            → IfOk result (λ r. r ≡ store_due s h (Write key.now value lineage.now)) }
     {
         let over = self.told_over(key.get(), lineage)?;
         let key = key.share()?;

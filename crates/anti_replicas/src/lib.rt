@@ -22,4 +22,5 @@ mod writes;
 
 pub use cells::cell_key;
 pub use channels::Channels;
+pub use looks::add_id;
 pub use replicas::Replicas;

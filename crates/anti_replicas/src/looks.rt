@@ -28,8 +28,8 @@ struct Found {
     written: bool,
 }
 
-// Adds an id to a lineage that has it or has room for it.
-pub(crate) fn add(ids: &mut Lineage, id: WriteId) -> Result<(), NoMemory>
+/// Adds an id to a lineage that has it or has room for it.
+pub fn add_id(ids: &mut Lineage, id: WriteId) -> Result<(), NoMemory>
     requires version { 1 ≤ id.version }
     requires room { length (with_id id ids.old) ≤ MOST_IDS }
     ensures { OnOk result (ids.new ≡ with_id id ids.old) }
@@ -62,8 +62,8 @@ impl Replicas {
         }
     }
 
-    // Whether the id is that of a write of this store.
-    fn is_written(&self, id: &WriteId) -> bool
+    /// Whether the id is that of a write of this store.
+    pub fn is_written(&self, id: &WriteId) -> bool
         ensures { (s : Store) (h : List Entry) → At self.now s h → result ≡ is_written h id.now }
     {
         match self.kept_of(id) {
@@ -99,7 +99,7 @@ impl Replicas {
         let mut found = Lineage::root(self.alloc);
         for id in ids.iter() {
             if !self.sight(region, id).visible {
-                add(&mut found, *id)?;
+                add_id(&mut found, *id)?;
             }
         }
         Ok(found)
@@ -122,6 +122,18 @@ impl Replicas {
         Ok(all)
     }
 
+    /// Whether each id is that of a write of this store.
+    pub fn are_written(&self, ids: &Lineage) -> bool
+        ensures { (s : Store) (h : List Entry) → At self.now s h → result ≡ list_all (is_written h) ids.now }
+    {
+        for id in ids.iter() {
+            if !self.is_written(id) {
+                return false;
+            }
+        }
+        true
+    }
+
     /// The ids that are not visible at the region. Where none is visible, as before anything is shipped, they are all, and take no memory.
     pub fn missing(&self, region: u32, ids: &Lineage) -> Result<Lineage, NoMemory>
         ensures { (s : Store) (h : List Entry) → At self.now s h
@@ -138,7 +150,7 @@ impl Replicas {
         let mut found = Lineage::root(self.alloc);
         for id in ids.iter() {
             if !self.is_written(id) {
-                add(&mut found, *id)?;
+                add_id(&mut found, *id)?;
             }
         }
         Ok(found)
@@ -182,8 +194,8 @@ impl Replicas {
         found
     }
 
-    // Whether all ids are of this store.
-    fn are_own(&self, ids: &Lineage) -> bool
+    /// Whether all ids are of this store.
+    pub fn are_own(&self, ids: &Lineage) -> bool
         ensures { result ≡ list_all (λ id. id.store == number_of self.now) ids.now }
     {
         for id in ids.iter() {

@@ -6,7 +6,7 @@ ghost use Rattle.anti_ids.specs.declared.limits.TheConstants.{MOST_IDS};
 ghost use Rattle.anti_kind.specs.declared.entry.Entry.{Entry};
 ghost use Rattle.anti_kind.specs.Store.{Store, left_by, over, replaced, told_over, with_left, with_replaced};
 
-use crate::looks::add;
+use crate::looks::add_id;
 use crate::replicas::Replicas;
 use anti_ids::{Copies, Lineage, LineageRefused, MOST_IDS, Name, NoMemory, WriteId};
 use anti_kind::{Handle, Row};
@@ -38,7 +38,7 @@ fn union(
 {
     let mut ids = lineage.copy(alloc)?;
     add_all(&mut ids, further)?;
-    add(&mut ids, id)?;
+    add_id(&mut ids, id)?;
     Ok(ids)
 }
 

@@ -1,4 +1,5 @@
-ghost use Rattle.std.specs.Prelude.{◌≡◌, ℕ, true, List, [], ◌∷◌, ◌++◌, IfOk, IfSome, IsOk};
+ghost use Rattle.std.specs.Prelude.{◌≡◌, ℕ, true, false, List, [], ◌∷◌, ◌++◌, IfOk, IfSome, IsOk};
+ghost use Rattle.anti_kind.specs.Kinds.{facts_of};
 ghost use Rattle.anti_kind.specs.declared.entry.Entry.{Entry};
 ghost use Rattle.anti_kind.specs.declared.store_kind.StoreKind.{StoreKind};
 ghost use Rattle.anti_kind.specs.declared.store_kind.Sub.{Sub};
@@ -39,10 +40,10 @@ impl Replicas {
         }
     }
 
-    /// What such a call waits for that is not ready, where that is known. Of others it is not.
+    /// What such a call waits for that is not ready, where that is known, in a store without caches. Of others it is not.
     pub fn shared_awaits(&self, c: &Call) -> Option<Awaited>
         ensures { (kind : StoreKind) (number : ℕ) (regions : List ℕ) (subs : List Sub) (tries : ℕ) (h : List Entry)
-            → At self.now (store_of kind number regions subs tries) h
+            → At self.now (store_of kind number regions subs tries) h → (facts_of kind).cached ≡ false
             → IfSome result (λ awaited. waits (store (store_of kind number regions subs tries)) h c.now awaited ≡ true) }
     {
         match c {

@@ -1,5 +1,6 @@
-ghost use Rattle.std.specs.Prelude.{◌≡◌, ◌&&◌, true, List, IfSome};
+ghost use Rattle.std.specs.Prelude.{◌≡◌, ◌&&◌, true, false, List, IfSome};
 ghost use Rattle.std.specs.List.{list_all, list_any};
+ghost use Rattle.anti_kind.specs.Kinds.{facts_of};
 ghost use Rattle.anti_kind.specs.declared.call.Call.TheVariants.{Look};
 ghost use Rattle.anti_kind.specs.declared.entry.Entry.{Entry};
 ghost use Rattle.anti_kind.specs.Store.{Store, is_written};
@@ -32,10 +33,10 @@ impl Replicas {
         last
     }
 
-    /// What a look waits for that is not dry, and whose ids were all written: the version of its last id that is not visible at the
-    /// region. The ids of a store ascend by their versions, so it is the greatest that is missing.
+    /// What a look waits for that is not dry, and whose ids were all written, in a store without caches: the version of its last id
+    /// that is not visible at the region. The ids of a store ascend by their versions, so it is the greatest that is missing.
     pub fn look_awaits(&self, region: u32, ids: &Lineage, dry: bool) -> Option<Awaited>
-        ensures { (s : Store) (h : List Entry) → At self.now s h
+        ensures { (s : Store) (h : List Entry) → At self.now s h → (facts_of s.kind).cached ≡ false
             → IfSome result (λ awaited. waits (store (showing_whole s)) h (Look region ids.now dry) awaited ≡ true) }
     {
         if dry {

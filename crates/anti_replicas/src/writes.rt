@@ -1,4 +1,4 @@
-ghost use Rattle.std.specs.Prelude.{◌≡◌, ℕ, ◌+◌, ◌-◌, ◌*◌, ◌≤◌, ◌⊎◌, ◌<◌, List, [], ◌∷◌, ◌++◌, length, IfOk, OnOk, OnErr, IfSome, IfNone, slice_get, is_some, unwrap_or};
+ghost use Rattle.std.specs.Prelude.{◌≡◌, ℕ, ◌+◌, ◌-◌, ◌*◌, ◌≤◌, ◌⊎◌, ◌<◌, List, [], ◌∷◌, ◌++◌, length, IfOk, OnOk, OnErr, IfSome, IfNone, slice_get, is_some, unwrap_or, None, Some};
 ghost use Rattle.anti_kind.specs.declared.call.Call.TheVariants.{Write};
 ghost use Rattle.anti_kind.specs.declared.entry.Entry.{Entry};
 ghost use Rattle.anti_ids.specs.declared.limits.TheConstants.{MOST_UNITS};
@@ -61,15 +61,23 @@ impl Replicas {
     }
 
     /// The row of a version.
+    pub fn row_at(&self, version: u64) -> Option<&Row>
+        ensures some { (s : Store) (h : List Entry) → At self.now s h → IfSome result (λ row. row_of h version ≡ Some row.now) }
+        ensures none { (s : Store) (h : List Entry) → At self.now s h → IfNone result (row_of h version ≡ None) }
+    {
+        match self.kept_at(version) {
+            Some(kept) => Some(&kept.row),
+            None => None,
+        }
+    }
+
+    /// A copy of the row of a version.
     pub fn written_row(&self, version: u64) -> Result<Option<Row>, NoMemory>
         ensures { (s : Store) (h : List Entry) → At self.now s h
             → IfOk result (λ row. row ≡ row_of h version) }
     {
-        match self.kept_at(version) {
-            Some(kept) => {
-                let row = kept.row.copy(self.alloc)?;
-                Ok(Some(row))
-            }
+        match self.row_at(version) {
+            Some(row) => Ok(Some(row.copy(self.alloc)?)),
             None => Ok(None),
         }
     }

@@ -25,7 +25,7 @@ use Rattle.anti_rules.specs.Walk.{placed, passed, first_from, first_at, first_ha
 use Rattle.anti_rules.specs.Order.{rules, breach_from, first_breach}
 use Rattle.anti_rules.specs.declared.breach.Breach.{Breach}
 use Rattle.anti_rules.specs.declared.rule.Rule.{Rule}
-use Rattle.anti_rules.specs.declared.rule.Rule.TheVariants.{Listed, There, Typed, Counted, Ranged, PlainNames, DistinctRegions, DistinctObjects, DistinctHandlers, DistinctSubs, StoreKinds, Replicas, QueueTries, ServiceRegions, SubStores, SubHandlers, SubReplicas, RequestHandlers, RequestValues, Statements, Blocks, Variables, StatementStores, StatementHandlers}
+use Rattle.anti_rules.specs.declared.rule.Rule.TheVariants.{Listed, There, Typed, Counted, Ranged, PlainNames, DistinctRegions, DistinctObjects, DistinctHandlers, DistinctSubs, StoreKinds, Replicas, KindKeys, ServiceRegions, SubStores, SubHandlers, SubReplicas, RequestHandlers, RequestValues, Statements, Blocks, Variables, StatementStores, StatementHandlers}
 use Rattle.anti_rules.specs.declared.place.Part.{Part}
 use Rattle.anti_rules.specs.declared.place.Part.TheVariants.{Top, Region, Store, Service, Handler, Sub, Request, Choice}
 use Rattle.anti_rules.specs.declared.place.Place.{Place}
@@ -74,7 +74,7 @@ holds DistinctHandlers doc all = all.1.1.1.1.1.1.1.1.0
 holds DistinctSubs doc all = all.1.1.1.1.1.1.1.1.1.0
 holds StoreKinds doc all = all.1.1.1.1.1.1.1.1.1.1.0
 holds Replicas doc all = all.1.1.1.1.1.1.1.1.1.1.1.0
-holds QueueTries doc all = all.1.1.1.1.1.1.1.1.1.1.1.1.0
+holds KindKeys doc all = all.1.1.1.1.1.1.1.1.1.1.1.1.0
 holds ServiceRegions doc all = all.1.1.1.1.1.1.1.1.1.1.1.1.1.0
 holds SubStores doc all = all.1.1.1.1.1.1.1.1.1.1.1.1.1.1.0
 holds SubHandlers doc all = all.1.1.1.1.1.1.1.1.1.1.1.1.1.1.1.0

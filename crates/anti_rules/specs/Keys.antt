@@ -4,7 +4,7 @@ use Rattle.std.specs.Option.{option_map_or}
 use Rattle.std.specs.List.{list_all, list_any}
 use Rattle.std.specs.Str.{bytes_eq}
 use Rattle.toml.specs.Data.{Data, Members, get_member, as_str, as_integer, as_array}
-use Rattle.anti_ids.specs.declared.limits.TheConstants.{GREATEST_SEED, MOST_CHOICES, MOST_HANDLERS, MOST_LINES, MOST_REGIONS, MOST_REPLICAS, MOST_REQUESTS, MOST_SERVICES, MOST_STORES, MOST_SUBS, MOST_TRIES, MOST_WORKERS}
+use Rattle.anti_ids.specs.declared.limits.TheConstants.{GREATEST_SEED, MOST_CHOICES, MOST_HANDLERS, MOST_LINES, MOST_REGIONS, MOST_REPLICAS, MOST_REQUESTS, MOST_ROOM, MOST_SERVICES, MOST_STORES, MOST_SUBS, MOST_TRIES, MOST_WORKERS}
 use Rattle.anti_rules.specs.Trees.{names, elements}
 use Rattle.anti_rules.specs.declared.table_keys.KeyKind.{KeyKind}
 use Rattle.anti_rules.specs.declared.table_keys.KeyKind.TheVariants.{Text, Number, Texts, Things}
@@ -37,7 +37,8 @@ keys_of Top =
     ∷ optional (codes "request") (Things 0 MOST_REQUESTS) ∷ []
 keys_of Store =
     needed (codes "name") Text ∷ needed (codes "kind") Text
-    ∷ needed (codes "replicas") (Texts 1 MOST_REPLICAS) ∷ optional (codes "tries") (Number (pos 1) (pos MOST_TRIES)) ∷ []
+    ∷ needed (codes "replicas") (Texts 1 MOST_REPLICAS) ∷ optional (codes "tries") (Number (pos 1) (pos MOST_TRIES))
+    ∷ optional (codes "room") (Number (pos 1) (pos MOST_ROOM)) ∷ []
 keys_of Service = needed (codes "name") Text ∷ needed (codes "region") Text ∷ optional (codes "handler") (Things 0 MOST_HANDLERS) ∷ []
 keys_of Handler = needed (codes "name") Text ∷ needed (codes "body") (Things 0 MOST_LINES) ∷ []
 keys_of Sub =

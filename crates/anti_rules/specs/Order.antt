@@ -4,7 +4,7 @@ use Rattle.std.specs.Option.{option_or}
 use Rattle.toml.specs.Data.{Members}
 use Rattle.anti_rules.specs.Walk.{first_place}
 use Rattle.anti_rules.specs.declared.rule.Rule.{Rule}
-use Rattle.anti_rules.specs.declared.rule.Rule.TheVariants.{Listed, There, Typed, Counted, Ranged, PlainNames, DistinctRegions, DistinctObjects, DistinctHandlers, DistinctSubs, StoreKinds, Replicas, QueueTries, ServiceRegions, SubStores, SubHandlers, SubReplicas, RequestHandlers, RequestValues, Statements, Blocks, Variables, StatementStores, StatementHandlers}
+use Rattle.anti_rules.specs.declared.rule.Rule.TheVariants.{Listed, There, Typed, Counted, Ranged, PlainNames, DistinctRegions, DistinctObjects, DistinctHandlers, DistinctSubs, StoreKinds, Replicas, KindKeys, ServiceRegions, SubStores, SubHandlers, SubReplicas, RequestHandlers, RequestValues, Statements, Blocks, Variables, StatementStores, StatementHandlers}
 use Rattle.anti_rules.specs.declared.breach.Breach.{Breach}
 
 -- The rules in the order of the format, so that the k-th is number k.
@@ -12,7 +12,7 @@ unfoldable pub rules : List Rule
 rules =
     Listed ∷ There ∷ Typed ∷ Counted ∷ Ranged
     ∷ PlainNames ∷ DistinctRegions ∷ DistinctObjects ∷ DistinctHandlers ∷ DistinctSubs
-    ∷ StoreKinds ∷ Replicas ∷ QueueTries ∷ ServiceRegions ∷ SubStores
+    ∷ StoreKinds ∷ Replicas ∷ KindKeys ∷ ServiceRegions ∷ SubStores
     ∷ SubHandlers ∷ SubReplicas ∷ RequestHandlers ∷ RequestValues ∷ Statements
     ∷ Blocks ∷ Variables ∷ StatementStores ∷ StatementHandlers ∷ []
 

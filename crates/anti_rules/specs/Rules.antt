@@ -6,13 +6,14 @@ use Rattle.toml.specs.Data.{Data, Members, as_table}
 use Rattle.anti_ids.specs.declared.limits.TheConstants.{LONGEST_VALUE}
 use Rattle.anti_ids.specs.Names.{is_plain}
 use Rattle.anti_lang.specs.declared.fault.LangCode.TheVariants.{Unknown, Block, Variable}
+use Rattle.anti_kind.specs.declared.store_kind.Facts.{Facts}
 use Rattle.anti_kind.specs.Kinds.{kind_named}
 use Rattle.anti_rules.specs.Trees.{text_of, text_at, member_in, things_in, is_among, are_among, are_distinct, name_in, is_named, named, stores_in, services_in, regions_in}
 use Rattle.anti_rules.specs.Keys.{TableKey, keys_of, are_listed, are_there, all_fit, has_type, has_count, has_range, is_text}
 use Rattle.anti_rules.specs.StoreFacts.{kind_is}
 use Rattle.anti_rules.specs.Statements.{fault_line, bad_line, line_passes, has_store, has_replica, store_fits, has_handler, handler_exists}
 use Rattle.anti_rules.specs.declared.rule.Rule.{Rule}
-use Rattle.anti_rules.specs.declared.rule.Rule.TheVariants.{Listed, There, Typed, Counted, Ranged, PlainNames, DistinctRegions, DistinctObjects, DistinctHandlers, DistinctSubs, StoreKinds, Replicas, QueueTries, ServiceRegions, SubStores, SubHandlers, SubReplicas, RequestHandlers, RequestValues, Statements, Blocks, Variables, StatementStores, StatementHandlers}
+use Rattle.anti_rules.specs.declared.rule.Rule.TheVariants.{Listed, There, Typed, Counted, Ranged, PlainNames, DistinctRegions, DistinctObjects, DistinctHandlers, DistinctSubs, StoreKinds, Replicas, KindKeys, ServiceRegions, SubStores, SubHandlers, SubReplicas, RequestHandlers, RequestValues, Statements, Blocks, Variables, StatementStores, StatementHandlers}
 use Rattle.anti_rules.specs.declared.place.Part.{Part}
 use Rattle.anti_rules.specs.declared.place.Part.TheVariants.{Region, Store, Service, Handler, Sub, Request, Choice}
 
@@ -48,6 +49,10 @@ form_line rule part d = None
 abbrev pub home_of : Members → Data → List ℕ
 home_of doc sub = option_map_or (text_at (codes "region")) (named (text_at (codes "service") sub) (services_in doc)) []
 
+-- whether a store has a key only where what stores of its kind do passes a test
+abbrev pub has_only : List ℕ → (Facts → Bool) → Data → Bool
+has_only key test d = not (is_some (member_in key d)) || kind_is test d
+
 -- All rules on a thing of a part, for a document. The region of the service goes with a handler, and the things of its part before it
 -- go with each; for a handler those of its service.
 abbrev pub rule_line : Rule → Members → List ℕ → Part → List Data → Data → Option ℕ
@@ -71,8 +76,8 @@ rule_line StoreKinds doc home Store earlier d = wants (is_some (kind_named (text
 -- 12. The replicas of a store are regions, each named once.
 rule_line Replicas doc home Store earlier d =
     wants (are_among (regions_in doc) (things_in (codes "replicas") d) && are_distinct (things_in (codes "replicas") d))
--- 13. Only a store that hands a message out again has `tries`.
-rule_line QueueTries doc home Store earlier d = wants (not (is_some (member_in (codes "tries") d)) || kind_is (λ facts. facts.tried) d)
+-- 13. Only a store that hands a message out again has `tries`, and only one with caches has `room`.
+rule_line KindKeys doc home Store earlier d = wants (has_only (codes "tries") (λ facts. facts.tried) d && has_only (codes "room") (λ facts. facts.cached) d)
 -- 14. The region of a service is one of the regions.
 rule_line ServiceRegions doc home Service earlier d = wants (is_among (text_at (codes "region") d) (regions_in doc))
 -- 15. The store of a sub is there, and of a kind that subscriptions pull from.

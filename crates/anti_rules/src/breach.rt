@@ -34,7 +34,7 @@ static RULES: [Rule; 24] = [
     Rule::DistinctSubs,
     Rule::StoreKinds,
     Rule::Replicas,
-    Rule::QueueTries,
+    Rule::KindKeys,
     Rule::ServiceRegions,
     Rule::SubStores,
     Rule::SubHandlers,

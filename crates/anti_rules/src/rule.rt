@@ -25,8 +25,8 @@ pub enum Rule {
     StoreKinds,
     /// The replicas of a store are regions, each named once.
     Replicas,
-    /// Only a store that hands a message out again has `tries`.
-    QueueTries,
+    /// Only a store that hands a message out again has `tries`, and only one with caches has `room`.
+    KindKeys,
     /// The region of a service is one of the regions.
     ServiceRegions,
     /// The store of a sub is there, and of a kind that subscriptions pull from.

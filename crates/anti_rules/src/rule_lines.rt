@@ -3,7 +3,8 @@ ghost use Rattle.toml.specs.View.{view, table_view};
 ghost use Rattle.anti_ids.specs.Names.{is_plain};
 ghost use Rattle.anti_rules.specs.Trees.{text_at};
 ghost use Rattle.anti_rules.specs.Statements.{has_handler};
-ghost use Rattle.anti_rules.specs.Rules.{home_of, rule_line};
+ghost use Rattle.anti_rules.specs.Rules.{has_only, home_of, rule_line};
+ghost use Rattle.anti_rules.specs.inner.Facts.{holds};
 ghost use Rattle.anti_rules.specs.inner.Things.{line_of};
 
 use crate::body::{bad_line, fault_line};
@@ -55,6 +56,13 @@ fn region_line(rule: Rule, thing: &Thing) -> Option<u32>
     }
 }
 
+// Whether a store has a key only where a fact is so of the stores of its kind.
+fn has_only(key: &str, fact: Fact, store: &Value) -> bool
+    ensures { result ≡ has_only key.now (holds fact) (view store.now) }
+{
+    member_in(store, key).is_none() || kind_is(fact, store)
+}
+
 // The rules on a store.
 fn store_line(rule: Rule, thing: &Thing) -> Option<u32>
     ensures { result ≡ line_of rule Part.Store thing.now }
@@ -68,8 +76,8 @@ fn store_line(rule: Rule, thing: &Thing) -> Option<u32>
             let replicas = things_in(store, "replicas");
             wants(are_among(regions_in(thing.doc), replicas) && are_distinct(replicas))
         },
-        Rule::QueueTries => {
-            wants(member_in(store, "tries").is_none() || kind_is(Fact::Tried, store))
+        Rule::KindKeys => {
+            wants(has_only("tries", Fact::Tried, store) && has_only("room", Fact::Cached, store))
         },
         _ => form_line(rule, Part::Store, store),
     }

@@ -22,6 +22,8 @@ pub enum Fact {
     Pulled,
     /// What was pulled is handed out again.
     Tried,
+    /// A read goes through a cache of its replica.
+    Cached,
 }
 
 // Whether a fact is so of the stores of a kind.
@@ -34,6 +36,7 @@ fn holds(fact: Fact, facts: Facts) -> bool
         Fact::Polled => facts.polled,
         Fact::Pulled => facts.pulled,
         Fact::Tried => facts.tried,
+        Fact::Cached => facts.cached,
     }
 }
 

@@ -5,7 +5,7 @@ ghost use Rattle.anti_rules.specs.Keys.{keys_of};
 use crate::place::Part;
 use anti_ids::{
     GREATEST_SEED, MOST_CHOICES, MOST_HANDLERS, MOST_LINES, MOST_REGIONS, MOST_REPLICAS,
-    MOST_REQUESTS, MOST_SERVICES, MOST_STORES, MOST_SUBS, MOST_TRIES, MOST_WORKERS,
+    MOST_REQUESTS, MOST_ROOM, MOST_SERVICES, MOST_STORES, MOST_SUBS, MOST_TRIES, MOST_WORKERS,
 };
 
 /// What stands at a key of a table.
@@ -81,11 +81,12 @@ static TOP: [TableKey; 8] = [
     key!(optional "request" things!(0 to MOST_REQUESTS)),
 ];
 
-static STORE: [TableKey; 4] = [
+static STORE: [TableKey; 5] = [
     key!(needed "name" KeyKind::Text),
     key!(needed "kind" KeyKind::Text),
     key!(needed "replicas" KeyKind::Texts { least: 1, most: MOST_REPLICAS }),
     key!(optional "tries" number!(1 to MOST_TRIES)),
+    key!(optional "room" number!(1 to MOST_ROOM)),
 ];
 
 static SERVICE: [TableKey; 3] = [

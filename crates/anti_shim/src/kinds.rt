@@ -29,7 +29,7 @@ impl ReadByKey for TableStore {}
 
 impl ReadByKey for BlobStore {}
 
-/// A key-value store, as a caller in a region uses it.
+/// A key-value store, also one whose replicas read through caches, as a caller in a region uses it.
 pub type KvShim = StoreShim<KvStore>;
 
 /// A table, as a caller in a region uses it.

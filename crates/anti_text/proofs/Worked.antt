@@ -47,7 +47,7 @@ use Rattle.anti_text.specs.Spans.{span_line}
 use Rattle.anti_text.specs.Summary.{summary_of}
 
 abbrev store_s : StoreDef
-store_s = record { name = codes "s"; kind = Kv; replicas = plain (0 ∷ []); tries = 3 }
+store_s = record { name = codes "s"; kind = Kv; replicas = plain (0 ∷ []); tries = 3; room = 8 }
 
 abbrev handler_one : HandlerDef
 handler_one = record {
@@ -205,7 +205,7 @@ ids = refl
 -- Scans and subscriptions. The store q has the second and the third sub, which are its first and its second.
 
 abbrev store_q : StoreDef
-store_q = record { name = codes "q"; kind = Queue; replicas = plain (0 ∷ []); tries = 3 }
+store_q = record { name = codes "q"; kind = Queue; replicas = plain (0 ∷ []); tries = 3; room = 8 }
 
 abbrev sub_on_store : List ℕ → ℕ → SubDef
 sub_on_store name store = record { name = name; store = store; channel = codes "c"; service = 0; handler = 0 }

@@ -34,7 +34,8 @@ use Rattle.anti_kind.specs.Inbox.{if_to, free, got_of, handed, inbox_due, listed
 use Rattle.anti_kind.specs.Inbox as inboxes
 use Rattle.anti_kind.specs.Fulls.{HasAscending}
 use Rattle.anti_kind.specs.Objects.{Start, store, IsLegal, ready, due, fits, held, need, owed}
-use Rattle.anti_kind.specs.Store.{Store, store_of, absent, is_visible, is_written, key_for, left_by, next, over, replaced, scanned, shown_row, store_due, store_need, store_ready, told_over, with_left, with_replaced}
+use Rattle.anti_kind.specs.Caches.{store_with}
+use Rattle.anti_kind.specs.Store.{Store, absent, is_visible, is_written, key_for, left_by, next, over, replaced, scanned, shown_row, store_due, store_need, store_ready, told_over, with_left, with_replaced}
 use Rattle.anti_kind.specs.Stored.{greatest, is_in, rows, row_of, wrote}
 use Rattle.anti_kind.proofs.Bounds.{length_within}
 use Rattle.anti_kind.proofs.Finding.{Found, find_found}
@@ -51,7 +52,7 @@ use Rattle.anti_app.specs.declared.app.StoreDef.{StoreDef}
 use Rattle.anti_app.specs.Objects.{has_named, object_at}
 use Rattle.anti_app.specs.Sound.{is_sound}
 use Rattle.anti_app.specs.Subs.{subs_on}
-use Rattle.anti_object.specs.Starts.{start_at, start_of, store_start, inbox_start, message_of, message_to, requests_to, tries_of}
+use Rattle.anti_object.specs.Starts.{start_at, start_of, store_start, inbox_start, message_of, message_to, requests_to, room_of, tries_of}
 use Rattle.anti_object.proofs.Starts.{start_sound}
 use Rattle.anti_proc.specs.Known.{AreIdsOf, IsCallAt, IsMessageTo, IsOverApp, IsReplyAt, IsRowOf}
 use Rattle.anti_proc.specs.Local.{id_at}
@@ -334,7 +335,7 @@ module _ (app : App) (o : ℕ) where
     of_store within (Some s) is =
         let same : store_start app o s ≡ start = cc in
         subst (IsDue h c) same
-        (λ short legal is_ready enough. store_known (store_of s.kind o s.replicas.items (subs_on app o) (tries_of s)) h known within short legal refl c call is_ready enough)
+        (λ short legal is_ready enough. store_known (store_with s.kind o s.replicas.items (subs_on app o) (tries_of s) (room_of s)) h known within short legal refl c call is_ready enough)
 
     of_inbox : (found : Option ServiceDef) → slice_get app.services.items (service_at app o) ≡ found → option_map (inbox_start app (service_at app o)) found ≡ Some start → IsDue h c start
     of_inbox None at is = absurd (cc)

@@ -13,7 +13,8 @@ use Rattle.anti_kind.specs.declared.message.Message.{Message}
 use Rattle.anti_kind.specs.declared.store_kind.Sub.{Sub}
 use Rattle.anti_kind.specs.Inbox.{deliveries, free, got_of, handed, inbox_due, inbox_ready, is_taken, messages, numbered}
 use Rattle.anti_kind.specs.Objects.{Start, store, inbox, Follows, IsLegal, due, ready}
-use Rattle.anti_kind.specs.Store.{Store, next, store_due, store_of, store_ready, was_pulled, absent, next_of}
+use Rattle.anti_kind.specs.Caches.{store_with}
+use Rattle.anti_kind.specs.Store.{Store, next, store_due, store_ready, was_pulled, absent, next_of}
 use Rattle.anti_kind.specs.Stored.{row_of}
 use Rattle.anti_kind.proofs.Deliveries.{counted}
 use Rattle.anti_kind.proofs.Pulls.{no_sub_pulled}
@@ -28,7 +29,7 @@ use Rattle.anti_app.specs.Objects.{object_at}
 use Rattle.anti_app.specs.Sound.{is_sound}
 use Rattle.anti_app.specs.Subs.{sub_on, subs_on}
 use Rattle.anti_app.proofs.SubsOn.{sub_found}
-use Rattle.anti_object.specs.Starts.{inbox_start, requests_to, start_at, start_of, store_start, tries_of}
+use Rattle.anti_object.specs.Starts.{inbox_start, requests_to, start_at, start_of, store_start, room_of, tries_of}
 use Rattle.anti_proc.specs.declared.task.Role.{Role}
 use Rattle.anti_proc.specs.declared.task.Task.{Task}
 use Rattle.anti_proc.specs.Known.{IsReplyAt}
@@ -124,7 +125,7 @@ module _ (app : App) (sound : IsTrue (is_sound app)) where
     at_store : IsStore app e.object → (found : Option StoreDef) → option_map (store_start app e.object) found ≡ Some start → task_of app e ≡ None → ⊥
     at_store there None is none = absurd (cc)
     at_store there (Some s) is none =
-        let it : Store = store_of s.kind e.object s.replicas.items (subs_on app e.object) (tries_of s) in
+        let it : Store = store_with s.kind e.object s.replicas.items (subs_on app e.object) (tries_of s) (room_of s) in
         let same : start ≡ store it = (let both : store it ≡ start = cc in sym both) in
         by_pull it refl there (subst (λ (x : Start). IsLegal x h) same legal) e.call refl bearing
         (subst (λ (x : Start). ready x h e.call ≡ true) same follows.is_ready) (subst (λ (x : Start). e.reply ≡ due x h e.call) same follows.reply) none

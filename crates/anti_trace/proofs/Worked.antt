@@ -48,7 +48,7 @@ request_to service = record { service = service; handler = 0; value = [] }
 abbrev app : App
 app = record {
   regions = plain (codes "eu" ∷ []);
-  stores = plain (record { name = codes "s"; kind = Kv; replicas = plain (0 ∷ []); tries = 3 } ∷ []);
+  stores = plain (record { name = codes "s"; kind = Kv; replicas = plain (0 ∷ []); tries = 3; room = 8 } ∷ []);
   services = plain (service_with (codes "v") (write ∷ []) ∷ service_with (codes "w") [] ∷ []);
   subs = plain [];
   requests = plain (request_to 0 ∷ request_to 1 ∷ []);

@@ -9,16 +9,16 @@ use Rattle.anti_kind.specs.declared.entry.Entry.{Entry}
 use Rattle.anti_kind.specs.declared.message.Message.{Message}
 use Rattle.anti_kind.specs.Objects.{Start, store, inbox, Follows, IsLegal}
 use Rattle.anti_kind.specs.Laws.{KeepsLaws}
-use Rattle.anti_kind.specs.Store.{store_of}
+use Rattle.anti_kind.specs.Caches.{store_with}
 use Rattle.anti_kind.proofs.Histories.{legal_front}
-use Rattle.anti_kind.proofs.Keeping.{keeps_laws}
+use Rattle.anti_kind.proofs.Caching.{kinds_keep_laws}
 use Rattle.anti_app.specs.declared.app.App.{App}
 use Rattle.anti_app.specs.declared.app.StoreDef.{StoreDef}
 use Rattle.anti_app.specs.declared.app.ServiceDef.{ServiceDef}
 use Rattle.anti_app.specs.declared.app.HandlerDef.{HandlerDef}
 use Rattle.anti_app.specs.declared.app.RequestDef.{RequestDef}
 use Rattle.anti_app.specs.Subs.{subs_on}
-use Rattle.anti_object.specs.Starts.{start_of, store_start, tries_of, inbox_start, message_to, message_of}
+use Rattle.anti_object.specs.Starts.{start_of, store_start, room_of, tries_of, inbox_start, message_to, message_of}
 use Rattle.anti_object.proofs.Starts.{start_of-store, start_of-inbox}
 use Rattle.anti_proc.specs.Meaning.{stated_in}
 use Rattle.anti_trace.specs.Legal.{IsLegalTrace}
@@ -29,8 +29,8 @@ use Rattle.law_causal.proofs.Places.{comes}
 -- ---- starts
 
 -- each store of an application keeps the laws, whatever its kind
-store_keeps : (app : App) (o : ℕ) (d : StoreDef) → KeepsLaws (store_of d.kind o d.replicas.items (subs_on app o) (tries_of d))
-store_keeps app o d = keeps_laws (store_of d.kind o d.replicas.items (subs_on app o) (tries_of d)) refl
+store_keeps : (app : App) (o : ℕ) (d : StoreDef) → KeepsLaws (store_with d.kind o d.replicas.items (subs_on app o) (tries_of d) (room_of d))
+store_keeps app o d = kinds_keep_laws (store_with d.kind o d.replicas.items (subs_on app o) (tries_of d) (room_of d)) refl
 
 -- a message that states no lineage, as a request
 abbrev pub StatesNone : App → Message → Type 0

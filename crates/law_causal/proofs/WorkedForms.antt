@@ -42,7 +42,7 @@ read_as store key variable = statements.Read store (Plain key) variable
 
 -- a store with one replica, of the kind that a word names
 abbrev pub store_in : ℕ → List ℕ → List ℕ → StoreDef
-store_in region word name = record { name = name; kind = kind_of word; replicas = plain (region ∷ []); tries = 3 }
+store_in region word name = record { name = name; kind = kind_of word; replicas = plain (region ∷ []); tries = 3; room = 8 }
 
 abbrev pub handler_with : List ℕ → Block → HandlerDef
 handler_with name body = record { name = name; body = body_of body }

@@ -26,12 +26,14 @@ const IN_US: &str = "regions = ['us']
 // The second line where it fails a rule on the keys and what stands at them.
 const SHAPES: &str = "colour = 1 => app 1 top 0 0
 store = [{name = 's', kind = 'kv', replicas = ['us'], size = 1}] => app 1 store 1 0
+service = [{name = 'a', region = 'us', room = 8}] => app 1 service 1 0
 service = [{name = 'a', region = 'us', handler = [{name = 'h', body = []}]}, {name = 'b', region = 'us', handler = [{name = 'h', body = [], size = 1}]}] => app 1 handler 2 0
 sub = [{name = 'n', store = 's', channel = 'c', service = 'a'}] => app 2 sub 1 0
 service = [{name = 'a', region = 'us', handler = [{body = []}]}] => app 2 handler 1 0
 choices = ['finish', 1] => app 3 choice 2 0
 store = {name = 's'} => app 3 top 0 0
 store = [{name = 's', kind = 'kv', replicas = ['us', 1]}] => app 3 store 1 0
+store = [{name = 's', kind = 'cached', replicas = ['us'], room = '8'}] => app 3 store 1 0
 request = [{service = 'a', handler = 'h', value = 1}] => app 3 request 1 0
 service = [{name = 'a', region = 'us'}, 4] => app 3 service 2 0
 service = [{name = 'a', region = 'us', handler = 3}] => app 3 service 1 0
@@ -41,6 +43,8 @@ store = [{name = 's', kind = 'kv', replicas = []}] => app 4 store 1 0
 seed = -1 => app 5 top 0 0
 workers = 9 => app 5 top 0 0
 store = [{name = 's', kind = 'kv', replicas = ['us'], tries = 0}] => app 5 store 1 0
+store = [{name = 's', kind = 'kv', replicas = ['us'], room = 0}] => app 5 store 1 0
+store = [{name = 's', kind = 'cached', replicas = ['us'], room = 65}] => app 5 store 1 0
 ";
 
 // The second line where it fails a rule on names.
@@ -59,6 +63,8 @@ sub = [{name = 'n', store = 's', channel = 'c', service = 'a', handler = 'h'}, {
 const PARTS: &str = "store = [{name = 's', kind = 'set', replicas = ['us']}] => app 11 store 1 0
 store = [{name = 's', kind = 'kv', replicas = ['us', 'eu']}] => app 12 store 1 0
 store = [{name = 's', kind = 'topic', replicas = ['us'], tries = 3}] => app 13 store 1 0
+store = [{name = 's', kind = 'cached', replicas = ['us'], room = 1, tries = 3}] => app 13 store 1 0
+store = [{name = 's', kind = 'cached', replicas = ['us']}, {name = 't', kind = 'kv', replicas = ['us'], room = 8}] => app 13 store 2 0
 service = [{name = 'a', region = 'eu'}] => app 14 service 1 0
 sub = [{name = 'n', store = 's', channel = 'c', service = 'a', handler = 'h'}] => app 15 sub 1 0
 ";
@@ -161,7 +167,7 @@ request = [{service = 'a', handler = 'h', value = '",
 ];
 
 // Documents with too many handlers or statements, with a fault in another handler than the first, or with a wrong choice.
-static HANDLERS: [(&str, &str); 7] = [
+static HANDLERS: [(&str, &str); 9] = [
     (
         eight!(
             "regions = ['us']
@@ -194,6 +200,12 @@ service = [{name = 'a', region = 'us', handler = [{name = 'h', body = ['read s k
     ),
     (
         "regions = ['us']
+store = [{name = 's', kind = 'cached', replicas = ['us'], room = 1}]
+service = [{name = 'a', region = 'us', handler = [{name = 'h', body = ['read s k as x', 'scan s k as y']}]}]",
+        "app 23 handler 1 2\n",
+    ),
+    (
+        "regions = ['us']
 choices = ['finish', ' repost b 1', 'repost a 0']
 service = [{name = 'b', region = 'us', handler = [{name = 'h', body = ['call b h v as x']}]}]",
         "choice 3\n",
@@ -204,6 +216,13 @@ choices = ['repost a 1', 'repost s 1']
 store = [{name = 's', kind = 'kv', replicas = ['us']}]
 service = [{name = 'a', region = 'us', handler = [{name = 'h', body = ['send a h v']}]}]",
         "choice 2\n",
+    ),
+    (
+        "regions = ['us']
+choices = ['again s us 1', 'again t us 1', 'again u us 1']
+store = [{name = 's', kind = 'cached', replicas = ['us'], room = 64}, {name = 't', kind = 'cached', replicas = ['us']}]
+service = [{name = 'a', region = 'us', handler = [{name = 'h', body = ['write s k v', 'read s k as x', 'read t k as y']}]}]",
+        "choice 3\n",
     ),
     (
         "regions = ['us', 'eu']

@@ -1,8 +1,8 @@
 // Stores of each kind that is built, through the top call.
 use crate::call_rows::{PLAYED, assert_texts};
 
-// Documents with tables and blobs, and the record of each.
-static RECORDS: [(&str, &str); 4] = [
+// Documents with tables, blobs and caches, and the record of each.
+static RECORDS: [(&str, &str); 6] = [
     // a scan behind a barrier shows what was shipped
     (
         "regions = ['eu']
@@ -83,9 +83,61 @@ process w.1 w one fine
 end 5
 ",
     ),
+    // a barrier waits until the cache has what was written, and the end of the schedule refreshes it
+    (
+        "regions = ['eu']
+choices = ['finish']
+store = [{name = 's', kind = 'cached', replicas = ['eu']}]
+request = [{service = 'w', handler = 'one'}, {service = 'w', handler = 'two'}]
+service = [{name = 'w', region = 'eu', handler = [{name = 'one', body = ['write s k a', 'barrier', 'read s k as x', 'transfer x', 'write s k b', 'barrier', 'read s k as z']}, {name = 'two', body = []}]}]",
+        "record 1
+1 w.1 w.1/1 take 1 = got 1 request one 0 \"\" 1;
+2 s.1 w.1/1 write k \"a\" 1; = k@1
+2 w.2 w.2/1 take 1 = got 2 request two 0 \"\" 1;
+3 s.2 ~0 ship eu 1 1 = moved
+4 s.3 w.1/1 look eu 1;s/k@1 = clear
+5 s.4 w.1/1 read eu k = k@1 \"a\" 1;
+6 s.5 w.1/1 write k \"b\" 1;s/k@1 = k@2
+7 s.6 ~0 ship eu 2 1 = moved
+8 s.7 ~0 again eu 2 1 = moved
+9 s.8 w.1/1 look eu 1;s/k@1,s/k@2 = clear
+10 s.9 w.1/1 read eu k = k@2 \"b\" 1;s/k@1
+process w.1 w one fine
+process w.2 w two fine
+span w.1/1 order s.1 s.4 s.5 s.9
+end 11
+",
+    ),
+    // with room for one key the second put the first out, so that what is whole of it is shown; the key that is there is behind
+    (
+        "regions = ['eu']
+choices = ['take w 1', 'go w.1', 'ship s eu 1', 'go w.1', 'go w.1', 'ship s eu 2', 'go w.1', 'go w.1', 'ship s eu 3', 'go w.1', 'go w.1', 'ship s eu 4', 'go w.1', 'go w.1']
+store = [{name = 's', kind = 'cached', replicas = ['eu'], room = 1}]
+request = [{service = 'w', handler = 'one'}]
+service = [{name = 'w', region = 'eu', handler = [{name = 'one', body = ['write s a 1', 'read s a as r', 'write s b 2', 'read s b as s', 'write s a 3', 'read s a as t', 'write s a 4', 'read s a as u', 'read s b as v']}]}]",
+        "record 1
+1 w.1 w.1/1 take 1 = got 1 request one 0 \"\" 1;
+2 s.1 w.1/1 write a \"1\" 1; = a@1
+3 s.2 ~0 ship eu 1 1 = moved
+4 s.3 w.1/1 read eu a = a@1 \"1\" 1;
+5 s.4 w.1/1 write b \"2\" 1;s/a@1 = b@2
+6 s.5 ~0 ship eu 2 1 = moved
+7 s.6 w.1/1 read eu b = b@2 \"2\" 1;s/a@1
+8 s.7 w.1/1 write a \"3\" 1;s/a@1,s/b@2 = a@3
+9 s.8 ~0 ship eu 3 1 = moved
+10 s.9 w.1/1 read eu a = a@3 \"3\" 1;s/a@1,s/b@2
+11 s.10 w.1/1 write a \"4\" 1;s/a@1,s/b@2,s/a@3 = a@4
+12 s.11 ~0 ship eu 4 1 = moved
+13 s.12 w.1/1 read eu a = a@3 \"3\" 1;s/a@1,s/b@2
+14 s.13 w.1/1 read eu b = b@2 \"2\" 1;s/a@1
+process w.1 w one fine
+span w.1/1 unguarded s.3
+end 14
+",
+    ),
 ];
 
 #[test]
-fn tables_and_blobs_are_played(rt: HostRuntime) {
+fn tables_blobs_and_caches_are_played(rt: HostRuntime) {
     assert_texts(&rt, rt.alloc(), &PLAYED, &RECORDS);
 }

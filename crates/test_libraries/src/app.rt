@@ -270,14 +270,15 @@ fn faults_come_in_their_order(rt: HostRuntime) {
     }
 }
 
-// A store: its name, its kind, the regions of its replicas, and how often it gives a message out.
-type Store = (&'static [u8], StoreKind, &'static [u32], u32);
+// A store: its name, its kind, the regions of its replicas, how often it gives a message out, and how many keys a cache of it holds.
+type Store = (&'static [u8], StoreKind, &'static [u32], u32, u32);
 
 // The stores of the document `WHOLE`.
-static STORES: [Store; 3] = [
-    (b"s", StoreKind::Kv, &[1, 0], 3),
-    (b"t", StoreKind::Kv, &[1], 3),
-    (b"q", StoreKind::Queue, &[1], 5),
+static STORES: [Store; 4] = [
+    (b"s", StoreKind::Kv, &[1, 0], 3, 8),
+    (b"t", StoreKind::Kv, &[1], 3, 8),
+    (b"q", StoreKind::Queue, &[1], 5, 8),
+    (b"c", StoreKind::Cached, &[0], 3, 2),
 ];
 
 // Whether a store is the one that is wanted.
@@ -286,6 +287,7 @@ fn is_store(store: &StoreDef, wanted: &Store) -> bool {
         && store.kind == wanted.1
         && store.replicas.as_slice() == wanted.2
         && store.tries == wanted.3
+        && store.room == wanted.4
 }
 
 // Whether the stores are those of the test's document.
@@ -368,7 +370,7 @@ fn has_body(app: &App) -> bool {
 const WHOLE: &[u8] = b"regions = ['us', 'eu']
 seed = 9223372036854775807
 workers = 8
-store = [{name = 's', kind = 'kv', replicas = ['eu', 'us']}, {name = 't', kind = 'kv', replicas = ['eu']}, {name = 'q', kind = 'queue', replicas = ['eu'], tries = 5}]
+store = [{name = 's', kind = 'kv', replicas = ['eu', 'us']}, {name = 't', kind = 'kv', replicas = ['eu']}, {name = 'q', kind = 'queue', replicas = ['eu'], tries = 5}, {name = 'c', kind = 'cached', replicas = ['us'], room = 2}]
 sub = [{name = 'p', store = 'q', channel = 'c', service = 'w', handler = 'two'}]
 request = [{service = 'w', handler = 'two', value = 'a.1'}, {service = 'v', handler = 'two'}]
 [[service]]

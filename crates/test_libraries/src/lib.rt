@@ -9,6 +9,8 @@ mod baggage;
 #[cfg(test)]
 mod blob;
 #[cfg(test)]
+mod cached;
+#[cfg(test)]
 mod cells;
 #[cfg(test)]
 mod edge;

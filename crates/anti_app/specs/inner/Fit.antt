@@ -13,9 +13,11 @@ use Rattle.anti_app.specs.Places.{region_place}
 unfoldable pub is_fit_region : Data → Bool
 is_fit_region d = is_plain (text_of d)
 
--- a store has a plain name, and tries that four bytes hold
+-- a store has a plain name, and tries and room that four bytes hold
 unfoldable pub is_fit_store : Data → Bool
-is_fit_store d = is_plain (name_in d) && nat_lt (number_or 3 (option_and_then as_integer (member_in (codes "tries") d))) (2 ^ 32)
+is_fit_store d =
+    is_plain (name_in d) && (nat_lt (number_or 3 (option_and_then as_integer (member_in (codes "tries") d))) (2 ^ 32)
+    && nat_lt (number_or 8 (option_and_then as_integer (member_in (codes "room") d))) (2 ^ 32))
 
 -- a handler has a plain name, and so has a service, with each of its handlers
 unfoldable pub is_fit_handler : Data → Bool

@@ -7,9 +7,9 @@ use Rattle.anti_app.specs.declared.app.App.{App}
 use Rattle.anti_app.specs.Sound.{is_sound}
 use Rattle.anti_agenda.specs.declared.agenda.Agenda.{Agenda}
 use Rattle.anti_agenda.specs.declared.offer.Offer.{Offer}
-use Rattle.anti_agenda.specs.declared.offer.Offer.TheVariants.{Ship}
+use Rattle.anti_agenda.specs.declared.offer.Offer.TheVariants.{Ship, Again}
 use Rattle.anti_play.specs.declared.world.World.{World}
-use Rattle.anti_play.specs.inner.Attending.{Attends, Turned, entry_by_offer, region_at, with_entry}
+use Rattle.anti_play.specs.inner.Attending.{Attends, Turned, cache_at, entry_by_offer, region_at, with_entry}
 use Rattle.anti_play.specs.inner.Standing.{WorldStands}
 
 -- the entry of an offer, by the trace
@@ -36,3 +36,10 @@ pub record IsRouteTo (app : App) (offer : Offer) (store region : ℕ) : Type 0 w
   pub replica : ℕ
   pub is : offer ≡ Ship store replica
   pub to : region_at app store replica ≡ Some region
+
+-- the offer is what comes again from a store to a region that has a cache
+pub record IsCacheTo (app : App) (offer : Offer) (store region : ℕ) : Type 0 where
+  pub sound : IsTrue (is_sound app)
+  pub replica : ℕ
+  pub is : offer ≡ Again store replica
+  pub to : cache_at app store replica ≡ Some region

@@ -1,15 +1,18 @@
 -- How an agenda attends to a trace: whoever may make an entry is awake.
-use Rattle.std.specs.Prelude.{◌≡◌, ℕ, ◌<◌, ◌⊎◌, true, false, List, length, Option, None, Some, IsSome, option_and_then, slice_get, Result, Ok, MatchResult, Bool}
+use Rattle.std.specs.Prelude.{◌≡◌, ℕ, ◌<◌, ◌⊎◌, true, cond, List, [], length, Option, None, Some, IsSome, option_and_then, slice_get, Result, Ok, MatchResult, Bool}
 use Rattle.std.specs.Option.{option_map_or}
 use Rattle.anti_ids.specs.declared.memory.NoMemory.{NoMemory}
 use Rattle.anti_kind.specs.declared.asking.Asking.{Asking}
 use Rattle.anti_kind.specs.declared.awaited.Awaited.{Awaited}
-use Rattle.anti_kind.specs.declared.awaited.Awaited.TheVariants.{Writing}
+use Rattle.anti_kind.specs.declared.awaited.Awaited.TheVariants.{Version, Writing}
 use Rattle.anti_kind.specs.declared.entry.Entry.{Entry}
+use Rattle.anti_kind.specs.Caches.{stale}
+use Rattle.anti_kind.specs.Kinds.{facts_of}
 use Rattle.anti_kind.specs.Objects.{Start}
 use Rattle.anti_kind.specs.Shipments.{next_ship}
 use Rattle.anti_kind.specs.Waiting.{waits}
 use Rattle.anti_app.specs.declared.app.App.{App}
+use Rattle.anti_app.specs.declared.app.StoreDef.{StoreDef}
 use Rattle.anti_app.specs.declared.app.Choice.TheVariants as choices
 use Rattle.anti_app.specs.Objects.{object_count}
 use Rattle.anti_object.specs.Starts.{start_of}
@@ -19,27 +22,42 @@ use Rattle.anti_trace.specs.inner.Living.{WasFull}
 use Rattle.anti_agenda.specs.Agendas.{IsAsleep, IsAwake, IsIdle, SameRest}
 use Rattle.anti_agenda.specs.declared.agenda.Agenda.{Agenda}
 use Rattle.anti_agenda.specs.declared.offer.Offer.{Offer}
-use Rattle.anti_agenda.specs.declared.offer.Offer.TheVariants.{Go, Take, Pull, Ship}
+use Rattle.anti_agenda.specs.declared.offer.Offer.TheVariants.{Go, Take, Pull, Ship, Again}
 use Rattle.anti_play.specs.declared.world.World.{World}
 use Rattle.anti_play.specs.Schedule.{asked, made_at, next_call, take_of}
-use Rattle.anti_play.specs.inner.Finishing.{WentOn, next_shipped}
+use Rattle.anti_play.specs.inner.Finishing.{WentOn, next_again, next_shipped}
 use Rattle.anti_play.specs.inner.Standing.{Chose, WorldStands}
 
 -- ---- what an offer stands for
 
--- the birth at a place among those at an object, and the region of the replica at a place in the list of a store
+-- the birth at a place among those at an object
 abbrev pub birth_in : List Entry → ℕ → ℕ → Option Entry
 birth_in trace object at = slice_get (births (entries_on object trace)) at
 
-abbrev pub region_at : App → ℕ → ℕ → Option ℕ
-region_at app store replica = option_and_then (λ s. slice_get s.replicas.items replica) (slice_get app.stores.items store)
+-- the regions of a store's replicas, and of those that have a cache: all of them, or none
+abbrev pub replicas : StoreDef → List ℕ
+replicas s = s.replicas.items
 
--- there is such a process, service, subscription or replica
+abbrev pub caches : StoreDef → List ℕ
+caches s = cond (facts_of s.kind).cached s.replicas.items []
+
+-- the region at a place among these
+abbrev pub region_in : (StoreDef → List ℕ) → App → ℕ → ℕ → Option ℕ
+region_in regions app store place = option_and_then (λ s. slice_get (regions s) place) (slice_get app.stores.items store)
+
+abbrev pub region_at : App → ℕ → ℕ → Option ℕ
+region_at app store replica = region_in replicas app store replica
+
+abbrev pub cache_at : App → ℕ → ℕ → Option ℕ
+cache_at app store replica = region_in caches app store replica
+
+-- there is such a process, service, subscription, replica or cache
 abbrev pub IsOffer : App → List Entry → Offer → Type 0
 IsOffer app trace (Go object at) = (object < object_count app) × IsSome (birth_in trace object at)
 IsOffer app trace (Take service) = service < length app.services.items
 IsOffer app trace (Pull sub) = sub < length app.subs.items
 IsOffer app trace (Ship store replica) = IsSome (region_at app store replica)
+IsOffer app trace (Again store replica) = IsSome (cache_at app store replica)
 
 -- the call that it asks for, but for shipments
 abbrev pub asked_by_offer : App → List Entry → Offer → Option Asking
@@ -47,6 +65,7 @@ asked_by_offer app trace (Go object at) = option_and_then (λ e. next_call app t
 asked_by_offer app trace (Take service) = asked app trace (take_of service)
 asked_by_offer app trace (Pull sub) = asked app trace (choices.Pull sub)
 asked_by_offer app trace (Ship store replica) = None
+asked_by_offer app trace (Again store replica) = option_and_then (next_again app trace store) (cache_at app store replica)
 
 -- the entry that it makes
 abbrev pub entry_by_offer : App → List Entry → Offer → Option Entry
@@ -55,7 +74,8 @@ entry_by_offer app trace offer = option_and_then (made_at app trace) (asked_by_o
 
 -- ---- why it makes none
 
--- its call waits for this, at this object; on a route nothing is left to be shipped before something is written
+-- its call waits for this, at this object; on a route nothing is left to be shipped before something is written; and no cache of a region
+-- is behind before something is shipped there
 pub record CallWaits (app : App) (trace : List Entry) (object : ℕ) (awaited : Awaited) (q : Asking) : Type 0 where
   pub at : q.object ≡ object
   pub start : Start
@@ -71,14 +91,26 @@ pub record RouteWaits (app : App) (trace : List Entry) (object : ℕ) (awaited :
   pub there : start_of app store ≡ Some start
   pub none : next_ship start (entries_on store trace) region ≡ None
 
+pub record CacheWaits (app : App) (trace : List Entry) (object : ℕ) (awaited : Awaited) (store replica : ℕ) : Type 0 where
+  pub at : store ≡ object
+  pub region : ℕ
+  pub to : cache_at app store replica ≡ Some region
+  pub awaits : awaited ≡ Version region 0
+  pub start : Start
+  pub there : start_of app store ≡ Some start
+  pub none : stale start (entries_on store trace) region ≡ None
+
 abbrev pub OfferWaits : App → List Entry → ℕ → Awaited → Offer → Type 0
 OfferWaits app trace object awaited (Ship store replica) = RouteWaits app trace object awaited store replica
+OfferWaits app trace object awaited (Again store replica) = CacheWaits app trace object awaited store replica
 OfferWaits app trace object awaited offer =
     (q : Asking) × (asked_by_offer app trace offer ≡ Some q) × CallWaits app trace object awaited q
 
--- it asks for no call, as who has ended, or for one that was ready and did not fit: so it never makes an entry
+-- It asks for no call, as who has ended, or for one that was ready and did not fit: so it never makes an entry. What goes to a replica
+-- may make one later, always.
 abbrev pub IsPast : App → List Entry → Offer → Type 0
 IsPast app trace (Ship store replica) = ⊥
+IsPast app trace (Again store replica) = ⊥
 IsPast app trace offer = (q : Asking) → asked_by_offer app trace offer ≡ Some q → WasFull app trace q.object q.call
 
 -- ---- the agenda
@@ -109,18 +141,28 @@ pub record IsAttended (app : App) (w : World) (agenda : Agenda) : Type 0 where
 abbrev pub IsGoAt : List Entry → ℕ → Offer → Type 0
 IsGoAt trace object offer = (at : ℕ) × (offer ≡ Go object at) × IsSome (birth_in trace object at)
 
--- it is a shipment, or one of the store
+-- it goes to a replica of a store
 abbrev pub IsRoute : Offer → Type 0
-IsRoute offer = (store : ℕ) × (replica : ℕ) × (offer ≡ Ship store replica)
+IsRoute (Ship store replica) = Unit {0}
+IsRoute (Again store replica) = Unit {0}
+IsRoute offer = ⊥
+
+-- it goes from the store to one of these regions; as a shipment, or so that a cache is not behind
+abbrev pub IsTo : (ℕ → ℕ → Offer) → (StoreDef → List ℕ) → App → ℕ → Offer → Type 0
+IsTo to regions app store offer = (place : ℕ) × (offer ≡ to store place) × IsSome (region_in regions app store place)
 
 abbrev pub IsRouteOf : App → ℕ → Offer → Type 0
-IsRouteOf app store offer = (replica : ℕ) × (offer ≡ Ship store replica) × IsSome (region_at app store replica)
+IsRouteOf app store offer = IsTo Ship replicas app store offer
+
+abbrev pub IsCacheOf : App → ℕ → Offer → Type 0
+IsCacheOf app store offer = IsTo Again caches app store offer
 
 -- it is one of these, of which each has a number, and its number is below this one
 abbrev pub Below : (ℕ → Offer → Type 0) → ℕ → Offer → Type 0
 Below Numbered count offer = (number : ℕ) × (number < count) × Numbered number offer
 
--- it is the next call of a process, the first free delivery of a service, the next pull of a subscription, or a shipment of a store
+-- it is the next call of a process, the first free delivery of a service, the next pull of a subscription, a shipment of a store, or what
+-- comes again to one of its caches
 abbrev pub IsGo : App → List Entry → Offer → Type 0
 IsGo app trace offer = Below (IsGoAt trace) (object_count app) offer
 
@@ -132,6 +174,9 @@ IsPull app offer = Below (λ sub other. other ≡ Pull sub) (length app.subs.ite
 
 abbrev pub IsShip : App → Offer → Type 0
 IsShip app offer = Below (IsRouteOf app) (length app.stores.items) offer
+
+abbrev pub IsAgain : App → Offer → Type 0
+IsAgain app offer = Below (IsCacheOf app) (length app.stores.items) offer
 
 -- These are awake, with those that were, and no others; but those that are past may be left out.
 pub record Wakes (app : App) (trace : List Entry) (Named : Offer → Type 0) (old new : Agenda) : Type 0 where

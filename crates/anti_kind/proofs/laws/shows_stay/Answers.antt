@@ -1,5 +1,5 @@
-use Rattle.anti_kind.proofs.Fullness.{shown_stays}
+use Rattle.anti_kind.proofs.Caching.{shows_stay_by_kind}
 use Rattle.anti_kind.proofs.laws.shows_stay.Goals as goal
 
 pub returns : goal.returns
-returns c = shown_stays
+returns c = shows_stay_by_kind

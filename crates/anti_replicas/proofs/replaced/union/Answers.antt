@@ -10,8 +10,8 @@ add_all-requires c =
     let all : with_ids (c.args.id ∷ further) lineage ≡ with_id c.args.id (with_ids further lineage) = with_ids-cons c.args.id further lineage c.requires.ascending in
     omega (arith, ap length all, le-length-with_id c.args.id (with_ids further lineage), ap (λ (l : List WriteId). length (with_ids further l)) c.in_ok-ids.ensures, c.requires.room)
 
-pub add-requires-clause-room : goal.add-requires-clause-room
-add-requires-clause-room c =
+pub add_id-requires-clause-room : goal.add_id-requires-clause-room
+add_id-requires-clause-room c =
     let lineage : List WriteId = c.args.lineage.now in let further : List WriteId = c.args.further.now in
     let all : with_ids (c.args.id ∷ further) lineage ≡ with_id c.args.id (with_ids further lineage) = with_ids-cons c.args.id further lineage c.requires.ascending in
     let ids : c.add_all.new.ids ≡ with_ids further lineage = c.in_ok-add_all.ensures ∙ ap (with_ids further) c.in_ok-ids.ensures in
@@ -21,4 +21,4 @@ pub returns : goal.returns
 returns c =
     let lineage : List WriteId = c.args.lineage.now in let further : List WriteId = c.args.further.now in
     let ids : c.add_all.new.ids ≡ with_ids further lineage = c.in_ok-add_all.ensures ∙ ap (with_ids further) c.in_ok-ids.ensures in
-    c.in_ok-add.ensures ∙ ap (with_id c.args.id) ids ∙ sym (with_ids-cons c.args.id further lineage c.requires.ascending)
+    c.in_ok-add_id.ensures ∙ ap (with_id c.args.id) ids ∙ sym (with_ids-cons c.args.id further lineage c.requires.ascending)

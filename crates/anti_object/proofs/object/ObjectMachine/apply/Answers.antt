@@ -18,5 +18,8 @@ apply-requires-in-Queue c = subst (λ (o : Object). MayApply o c.args.c.now c.ar
 pub apply-requires-in-Topic : goal.apply-requires-in-Topic
 apply-requires-in-Topic c = subst (λ (o : Object). MayApply o c.args.c.now c.args.reply.now) c.in-Topic.is c.requires
 
+pub apply-requires-in-Cached : goal.apply-requires-in-Cached
+apply-requires-in-Cached c = subst (λ (o : Object). MayApply o c.args.c.now c.args.reply.now) c.in-Cached.is c.requires
+
 pub apply-requires-in-Inbox : goal.apply-requires-in-Inbox
 apply-requires-in-Inbox c = subst (λ (o : Object). MayApply o c.args.c.now c.args.reply.now) c.in-Inbox.is c.requires

@@ -3,6 +3,8 @@ use Rattle.std.specs.Prelude.{Bool, Ok, Err, Result, OnOk}
 use Rattle.std.specs.BTreeSet.{keys}
 use Rattle.anti_ids.specs.declared.memory.NoMemory.{NoMemory}
 use Rattle.anti_kind.specs.declared.awaited.Brought.TheVariants.{Shipped}
+use Rattle.anti_kind.specs.declared.call.Call.{Call}
+use Rattle.anti_kind.specs.declared.call.Call.TheVariants as calls
 use Rattle.anti_kind.specs.declared.entry.Entry.{Entry}
 use Rattle.anti_kind.specs.Machines.{StandsFor}
 use Rattle.anti_kind.specs.Shipments.{next_ship}
@@ -15,7 +17,8 @@ use Rattle.anti_play.specs.inner.Attending.{Attends, Turned, entry_by_offer, wit
 use Rattle.anti_play.specs.inner.Standing.{IsObject, WorldStands}
 use Rattle.anti_play.proofs.Attempting.{turned_lost, went_nowhere}
 use Rattle.anti_play.proofs.MakeEntry.{by_and}
-use Rattle.anti_play.proofs.Shipping.{carried_is, route_attends, route_turned, shipped_attends, shipped_lost}
+use Rattle.anti_play.proofs.Carrying.{carried_attends, carried_is, carried_lost}
+use Rattle.anti_play.proofs.Shipping.{route_attends, route_turned, ships}
 use Rattle.anti_play.proofs.world.World.attempt_ship.Goals as goal
 use Rattle.anti_play.proofs.world.World.attempt_ship.Goals.{After-next_ship}
 
@@ -69,26 +72,28 @@ pub returns-clause-chose : goal.returns-clause-chose
 returns-clause-chose c = λ app route trace s a.
     let at = (goal.at.returns-clause-chose c).After-next_ship in
     let came = c.in_ok-ship.ensures.made app trace route.sound s in
+    let call : Call = calls.Ship c.args.region c.in-Some.version c.in-Some.part in
+    let makes =
+    ships app route.sound c.args.self.now trace s c.args.offer c.args.store route.replica c.args.region route.is route.to c.index-recorded.result.now (here at app trace s)
+    c.in-Some.version c.in-Some.part (sym c.in-Some.is ∙ told at) in
     by_and c.stir.result true c.and-2.result c.and-2.ensures
     (λ (r : Result Bool NoMemory). Turned app trace (entry_by_offer app trace c.args.offer) r c.ship.new.self)
     c.stir.ensures
-    (λ stirred.
-    carried_is app route.sound c.args.self.now trace s c.args.offer c.args.store route.replica c.args.region route.is route.to c.index-recorded.result.now (here at app trace s)
-    c.in-Some.version c.in-Some.part (sym c.in-Some.is ∙ told at) (Ok true) c.ship.new.self came)
-    (λ lost.
-    shipped_lost app route.sound c.args.self.now trace s c.args.offer c.args.store route.replica c.args.region route.is route.to c.index-recorded.result.now (here at app trace s)
-    c.in-Some.version c.in-Some.part (sym c.in-Some.is ∙ told at) c.ship.new.self came (Err lost) refl)
+    (λ stirred. carried_is app route.sound c.args.self.now trace s c.args.offer c.args.store call refl makes (Ok true) c.ship.new.self came)
+    (λ lost. carried_lost app route.sound c.args.self.now trace s c.args.offer c.args.store call refl makes c.ship.new.self came (Err lost) refl)
 
 pub returns-clause-attends : goal.returns-clause-attends
 returns-clause-attends c = λ app route trace s a.
     let at = (goal.at.returns-clause-attends c).After-next_ship in
+    let call : Call = calls.Ship c.args.region c.in-Some.version c.in-Some.part in
+    let makes =
+    ships app route.sound c.args.self.now trace s c.args.offer c.args.store route.replica c.args.region route.is route.to c.index-recorded.result.now (here at app trace s)
+    c.in-Some.version c.in-Some.part (sym c.in-Some.is ∙ told at) in
     by_and c.stir.result true c.and-2.result c.and-2.ensures
     (λ (r : Result Bool NoMemory). OnOk r (Attends app (with_entry (entry_by_offer app trace c.args.offer) trace) c.stir.new.self))
     c.stir.ensures
     (λ stirred.
-    shipped_attends app route.sound c.args.self.now trace s c.args.offer c.args.store route.replica c.args.region route.is route.to c.index-recorded.result.now (here at app trace s)
-    c.in-Some.version c.in-Some.part (sym c.in-Some.is ∙ told at) c.ship.new.self
-    (c.in_ok-ship.ensures.made app trace route.sound s)
+    carried_attends app route.sound c.args.self.now trace s c.args.offer c.args.store call refl makes c.ship.new.self (c.in_ok-ship.ensures.made app trace route.sound s)
     c.args.agenda.now c.stir.new.self a (Shipped c.args.region c.in-Some.version) refl stirred)
     (λ lost. tt)
 

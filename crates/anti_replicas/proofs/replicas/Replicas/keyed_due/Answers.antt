@@ -5,4 +5,4 @@ pub returns-in-Read-clause-due : goal.returns-in-Read-clause-due
 returns-in-Read-clause-due c = λ kind number regions h at keys. rw c.in-Read.is (c.read.ensures (keyed kind number regions) h at)
 
 pub returns-in-Write-clause-due : goal.returns-in-Write-clause-due
-returns-in-Write-clause-due c = λ kind number regions h at keys. rw (c.in-Write.is, ← c.get.ensures) (c.written.ensures kind number regions h c.in-Write.value at keys)
+returns-in-Write-clause-due c = λ kind number regions h at keys. rw (c.in-Write.is, ← c.get.ensures) (c.written.ensures (keyed kind number regions) h c.in-Write.value at keys)

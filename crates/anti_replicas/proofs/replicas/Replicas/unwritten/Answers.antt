@@ -5,8 +5,8 @@ use Rattle.anti_kind.specs.Store.{is_written}
 use Rattle.anti_replicas.proofs.Reading.{found_one, length_with}
 use Rattle.anti_replicas.proofs.replicas.Replicas.unwritten.Goals as goal
 
-pub add-requires-clause-room : goal.add-requires-clause-room
-add-requires-clause-room c = omega (arith, c.loop-id.invariant.few, length_with c.in-Some.id.now c.loop-id.found, ap length c.in-Some.ensures.steps)
+pub add_id-requires-clause-room : goal.add_id-requires-clause-room
+add_id-requires-clause-room c = omega (arith, c.loop-id.invariant.few, length_with c.in-Some.id.now c.loop-id.found, ap length c.in-Some.ensures.steps)
 
 pub loop-id-preserved-in-Continue-1 : goal.loop-id-preserved-in-Continue-1
 loop-id-preserved-in-Continue-1 c =
@@ -14,7 +14,7 @@ loop-id-preserved-in-Continue-1 c =
     let found = c.loop-id.found in
     let rest = c.next.new.self in
     let steps = c.in-Some.ensures.steps in
-    let is = c.in_ok-add.ensures in
+    let is = c.in_ok-add_id.ensures in
     record {
       found = λ s h at.
           ap (λ (xs : List WriteId). xs ++ filter (λ (i : WriteId). not (is_written h i)) rest) is

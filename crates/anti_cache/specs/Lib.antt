@@ -1,0 +1,3 @@
+pub mod inner
+pub mod CachedStates
+pub mod CachedLaws
