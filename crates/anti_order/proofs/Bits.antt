@@ -1,11 +1,11 @@
 -- Sets of numbers, by their bits.
-use Rattle.std.proofs.Common.{◌≡◌, ℕ, zero, suc, ◌+◌, ◌-◌, ◌*◌, ◌/◌, ◌%◌, ◌^◌, ◌<◌, ◌≤◌, ◌&&◌, ◌||◌, Bool, true, false, cond, not, List, length, get_or, set, replicate, min, bit_or, bit_and, refl, sym, ap, ap₂, ◌∙◌, subst, inl, inr, arith, w64}
+use Rattle.std.proofs.Common.{◌≡◌, ℕ, zero, suc, ◌+◌, ◌-◌, ◌*◌, ◌/◌, ◌%◌, ◌^◌, ◌<◌, ◌≤◌, ◌&&◌, ◌||◌, Bool, true, false, cond, not, List, length, get_or, set, replicate, min, max, bit_or, bit_and, refl, sym, ap, ap₂, ◌∙◌, inl, inr, arith, w64}
 use Rattle.std.specs.Prelude.{◌==◌, nat_lt}
 use Rattle.std.specs.Int.{bit_at, trailing_zeros}
 use Rattle.std.proofs.lemmas.Bool.{cases_eq, cases_lt, eq-eqb, ne_eqb, le-ltb, lt-ltb}
 use Rattle.std.proofs.lemmas.List.{get_or-replicate, get_or-set_other, get_or-set_same, get_or_past, length-replicate, length-set}
 use Rattle.std.proofs.lemmas.Nat.{shr-shr}
-use Rattle.std.proofs.lemmas.Nat.Bits.{bit_at-lt, bit_at-trailing_zeros, bit_at-zero, bit_at_above, bit_at_and, bit_at_ones, bit_at_ones_above, bit_at_set_other, bit_at_set_same}
+use Rattle.std.proofs.lemmas.Nat.Bits.{bit_at-lt, bit_at-trailing_zeros, bit_at-zero, bit_at_above, bit_at_and, bit_at_ones, bit_at_ones_above, bit_at_or, bit_at_set_other, bit_at_set_same}
 use Rattle.anti_order.specs.inner.NumberSets.{has, is_bit, room}
 
 -- ---- one word
@@ -147,6 +147,14 @@ both_bits (suc zero) (suc zero) one other = refl
 both_bits (suc (suc a)) b one other = absurd (omega (arith, one))
 both_bits a (suc (suc b)) one other = absurd (omega (arith, other))
 
+one_bit : (a b : ℕ) → a < 2 → b < 2 → (max a b == 1) ≡ (a == 1 || b == 1)
+one_bit zero zero one other = refl
+one_bit zero (suc zero) one other = refl
+one_bit (suc zero) zero one other = refl
+one_bit (suc zero) (suc zero) one other = refl
+one_bit (suc (suc a)) b one other = absurd (omega (arith, one))
+one_bit a (suc (suc b)) one other = absurd (omega (arith, other))
+
 other_bit : (b : ℕ) → b < 2 → (1 - b == 1) ≡ not (b == 1)
 other_bit zero low = refl
 other_bit (suc zero) low = refl
@@ -161,6 +169,12 @@ module _ (words others : List ℕ) (k a b n : ℕ) (first : a ≡ get_or words k
 
   pub kept_bits : is_bit (bit_and a b) (n % 64) ≡ (has words n && has others n)
   kept_bits = bits_of_both b ∙ ap (λ (t : Bool). has words n && t) (sym (has_word others k b n here second))
+
+  pub joined_bits : is_bit (bit_or a b) (n % 64) ≡ (has words n || has others n)
+  joined_bits =
+      ap (λ (t : ℕ). t == 1) (bit_at_or a b (n % 64))
+      ∙ one_bit (bit_at a (n % 64)) (bit_at b (n % 64)) (bit_at-lt a (n % 64)) (bit_at-lt b (n % 64))
+      ∙ ap₂ (λ (s t : Bool). s || t) (sym (has_word words k a n here first)) (sym (has_word others k b n here second))
 
   pub removed_bits : (c : ℕ) → ((i : ℕ) → i < 64 → bit_at c i ≡ 1 - bit_at b i) → is_bit (bit_and a c) (n % 64) ≡ (has words n && not (has others n))
   removed_bits c other =

@@ -1,5 +1,5 @@
 mod AnswersMore
-mod Bits
+pub mod Bits
 mod Counted
 mod Explaining
 mod InPast
@@ -7,9 +7,9 @@ mod Kept
 mod Listing
 mod MarksKnown
 mod Noting
-mod Numbers
-mod Places
-mod ReadPlaces
+pub mod Numbers
+pub mod Places
+pub mod ReadPlaces
 mod Unsettled
-mod Versions
+pub mod Versions
 mod Worked

@@ -2,7 +2,7 @@
 use Rattle.std.specs.Prelude.{ℕ, List}
 use Rattle.anti_kind.specs.declared.entry.Entry.{Entry}
 use Rattle.anti_app.specs.declared.app.App.{App}
-use Rattle.law_serial.specs.Chains.{IsChain}
+use Rattle.law_serial.specs.Causes.{IsChain}
 use Rattle.anti_order.specs.declared.answer.OrderAnswer.{OrderAnswer}
 use Rattle.anti_order.specs.Answers.{IsAnswer, IsExplained}
 

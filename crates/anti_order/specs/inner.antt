@@ -1,3 +1,4 @@
+pub mod Arranging
 pub mod Grounds
 pub mod NumberSets
 pub mod PastWrites

@@ -15,6 +15,11 @@ mod writes;
 
 pub use answer::{OrderAnswer, SpanAnswer, SpanAnswers};
 pub use answer_counts::{AnswerCounts, count_answers, count_answers_along};
+pub use grounds::Grounds;
 pub use laws::answered_orders_explain;
-pub use orders::{answers, answers_along, order, order_of};
+pub use marks::mark_at;
+pub use number_set::NumberSet;
+pub use order_listing::Arranging;
+pub use orders::{answers, answers_along, order, order_of, reads_of};
 pub use pieces::{MarkPieces, Marks, Piece};
+pub use writes::Writes;

@@ -96,6 +96,35 @@ impl NumberSet {
         }
     }
 
+    /// Takes the numbers of another set in.
+    pub fn join(&mut self, others: &NumberSet)
+        requires { room self.old ≡ room others.now }
+        ensures joined { (n : ℕ) → has self.new n ≡ (has self.old n || has others.now n) }
+        ensures room { room self.new ≡ room self.old }
+    {
+        for index in 0..self.words.len() {
+            self.words[index] |= others.words[index];
+        }
+    }
+
+    /// Whether a number is in the set.
+    pub fn contains(&self, number: usize) -> bool
+        ensures { result ≡ has self.now number }
+    {
+        match self.words.get(number / 64) {
+            Some(word) => word >> (number % 64) & 1 == 1,
+            None => false,
+        }
+    }
+
+    /// An equal set. The only error is want of memory.
+    pub fn copied(&self, alloc: Global) -> Result<NumberSet, NoMemory>
+        ensures { IfOk result (λ set. set ≡ self.now) }
+    {
+        let words = Vec::from_slice(alloc, self.words.as_slice())?;
+        Ok(NumberSet { words })
+    }
+
     // The first number, from one on, that is in the set or that is not; where none has a bit, how many have one.
     fn next(&self, from: usize, inside: bool) -> usize
         requires { from ≤ room self.now }
@@ -115,8 +144,8 @@ impl NumberSet {
         at
     }
 
-    /// The first run of its numbers from one on.
-    pub fn run_from(&self, from: usize) -> Option<NumberRun>
+    // The first run of its numbers from one on.
+    pub(crate) fn run_from(&self, from: usize) -> Option<NumberRun>
         requires { from ≤ room self.now }
         ensures none { IfNone result ((n : ℕ) → from ≤ n → has self.now n ≡ false) }
         ensures some { IfSome result (IsRunFrom self.now from) }

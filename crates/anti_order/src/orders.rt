@@ -48,8 +48,8 @@ fn is_read_of(birth: Birth, span: u32, entry: &Entry) -> bool
     reads(&entry.call) && is_by(Actor::Process(birth), entry) && entry.span == span
 }
 
-// The places of the reads in a span of a process.
-fn reads_of(alloc: Global, trace: &Trace, birth: Birth, span: u32) -> Result<Vec<u32>, NoMemory>
+/// The places of the reads in a span of a process. The only error is want of memory.
+pub fn reads_of(alloc: Global, trace: &Trace, birth: Birth, span: u32) -> Result<Vec<u32>, NoMemory>
     ensures { IfOk result (λ places. places.items ≡ reads_of trace.now birth span) }
 {
     let mut places = Vec::new(alloc);

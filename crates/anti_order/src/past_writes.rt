@@ -110,7 +110,7 @@ pub fn past_writes(
     ensures members { (app : App) → ArePastsOf app trace.now pasts.now → (i : ℕ) → writes_at trace.now i ≡ true
         → IfOk result (λ numbers. has numbers (number_at trace.now i) ≡ is_in_past app trace.now read i) }
 {
-    let mut numbers = NumberSet::none(alloc, writes.marks.get().len())?;
+    let mut numbers = NumberSet::none(alloc, writes.len())?;
     add_carried(&mut numbers, writes, pasts, read);
     add_shown(&mut numbers, writes, trace.at(read));
     Ok(numbers)

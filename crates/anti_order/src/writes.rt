@@ -139,6 +139,13 @@ impl Writes {
         Ok(Writes { marks, stores })
     }
 
+    /// How many writes there are.
+    pub fn len(&self) -> usize
+        ensures { result ≡ length self.now.marks.items }
+    {
+        self.marks.get().len()
+    }
+
     /// The number of the write of an id.
     pub fn number_of(&self, id: &WriteId) -> Option<usize>
         ensures { result ≡ number_in self.now id.now }

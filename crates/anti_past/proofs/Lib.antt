@@ -3,15 +3,15 @@ mod Asked
 mod CameBefore
 mod Filled
 mod Finding
-mod Fronts
+pub mod Fronts
 mod Grown
 mod Held
-mod InSpan
-mod KeyOrder
+pub mod InSpan
+pub mod KeyOrder
 mod Losing
-mod MarkPlaces
+pub mod MarkPlaces
 pub mod OnePlace
 mod Told
 mod Settledness
-mod SpansRead
+pub mod SpansRead
 mod Worked

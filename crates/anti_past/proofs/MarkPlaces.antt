@@ -41,13 +41,13 @@ one_marked app trace legal mark i j at_i at_j =
 
 -- ---- places that are known
 
-tied_marks : (a b : Mark) → is_eq (pair_cmp (a.object, a.place) (b.object, b.place)) ≡ true → a ≡ b
+pub tied_marks : (a b : Mark) → is_eq (pair_cmp (a.object, a.place) (b.object, b.place)) ≡ true → a ≡ b
 tied_marks a b tie =
     let pairs : (a.object, a.place) ≡ (b.object, b.place) =
     exact_pairs nat_cmp nat_cmp exact_unsigned exact_unsigned (a.object, a.place) (b.object, b.place) ((Equal-is (pair_cmp (a.object, a.place) (b.object, b.place))).0 tie) in
     ap (λ (p : ℕ × ℕ). record { object = p.0; place = p.1 }) pairs
 
-mark_ties : (a : Mark) → is_eq (pair_cmp (a.object, a.place) (a.object, a.place)) ≡ true
+pub mark_ties : (a : Mark) → is_eq (pair_cmp (a.object, a.place) (a.object, a.place)) ≡ true
 mark_ties a = ap is_eq (tied_itself (then_total (on_total (λ (p : ℕ × ℕ). p.0) nat_cmp_total) (on_total (λ (p : ℕ × ℕ). p.1) nat_cmp_total)) (a.object, a.place))
 
 -- with the entry at index k

@@ -28,4 +28,5 @@ pub use course::Course;
 pub use losses::first_loss;
 pub use marks::PlaceByMark;
 pub use settled_reads::settled;
-pub use span_reads::{ReadsOfSpan, Span, Spans, reads_by_span, spans};
+pub use span_keys::{SpanKey, key_of};
+pub use span_reads::{ReadsOfSpan, Span, Spans, note_under, reads_by_span, spans};

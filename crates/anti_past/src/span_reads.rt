@@ -29,7 +29,7 @@ pub struct ReadsOfSpan {
     pub reads: Vec<u32>,
 }
 
-// Notes the place of the first read of a span.
+// Notes the first index of a span.
 fn note_first(
     alloc: Global,
     noted: &mut BTreeMap<SpanKey, Vec<u32>>,
@@ -47,6 +47,25 @@ fn note_first(
     }
 }
 
+/// Notes an index under a span, behind what is noted there. The only error is want of memory.
+pub fn note_under(
+    alloc: Global,
+    noted: &mut BTreeMap<SpanKey, Vec<u32>>,
+    key: SpanKey,
+    index: u32,
+) -> Result<(), NoMemory>
+    ensures { (q : SpanKey) → OnOk result (noted_for noted.new q
+        ≡ with_place (same_key key q) index (noted_for noted.old q)) }
+{
+    match noted.get_mut(&key) {
+        Some(reads) => match reads.push(index) {
+            Ok(()) => Ok(()),
+            Err(_) => Err(NoMemory),
+        },
+        None => note_first(alloc, noted, key, index),
+    }
+}
+
 // Notes the index of an entry under its span, where it is a read of a process.
 fn note_read(
     alloc: Global,
@@ -57,21 +76,15 @@ fn note_read(
     ensures { (q : SpanKey) → OnOk result (noted_for noted.new q
         ≡ with_place (is_read_in q entry.now) index (noted_for noted.old q)) }
 {
-    let Some(key) = read_key(entry) else {
-        return Ok(());
-    };
-    match noted.get_mut(&key) {
-        Some(reads) => match reads.push(index) {
-            Ok(()) => Ok(()),
-            Err(_) => Err(NoMemory),
-        },
-        None => note_first(alloc, noted, key, index),
+    match read_key(entry) {
+        Some(key) => note_under(alloc, noted, key, index),
+        None => Ok(()),
     }
 }
 
 // The places of the reads of a trace, under their spans.
 fn noted_reads(alloc: Global, trace: &Trace) -> Result<BTreeMap<SpanKey, Vec<u32>>, NoMemory>
-    ensures { IfOk result (AreNoted trace.now (length trace.now)) }
+    ensures { IfOk result (AreNoted is_read_in trace.now (length trace.now)) }
 {
     let mut noted = BTreeMap::new(alloc);
     for index in 0..trace.len() {

@@ -28,7 +28,8 @@ use Rattle.law_causal.specs.Words.{hands_all, reads}
 use Rattle.law_causal.proofs.Lists.{kept_between}
 use Rattle.law_causal.proofs.Places.{made_at}
 use Rattle.law_causal.proofs.Processes.{IsAsked, carried_is, hands_asked, tree_asks}
-use Rattle.law_serial.specs.Chains.{IsChain, OrdersAreSerial}
+use Rattle.law_serial.specs.Causes.{IsChain}
+use Rattle.law_serial.specs.Chains.{OrdersAreSerial}
 use Rattle.law_serial.specs.Serial.{IsSettledRead}
 use Rattle.law_placed.specs.Guarded.{AllExplained, AllSettled}
 use Rattle.law_placed.proofs.Arriving.{came_by_name}

@@ -13,7 +13,7 @@ use Rattle.anti_trace.proofs.Puts.{same_actor_true}
 use Rattle.law_causal.specs.Words.{reads}
 use Rattle.law_causal.specs.Reads.{is_at, is_read_of, places, reads_of}
 use Rattle.law_causal.specs.Causal.{Before, is_process, program, through}
-use Rattle.law_serial.specs.Chains.{IsChain}
+use Rattle.law_serial.specs.Causes.{IsChain}
 use Rattle.law_serial.proofs.Cuts.{kept_ascend, pairs_rest}
 
 module _ (trace : List Entry) where

@@ -86,7 +86,7 @@ front_of_places a n zero low = refl
 front_of_places a zero (suc k) low = absurd (omega (arith, low))
 front_of_places a (suc n) (suc k) low = ap (λ zs. a ∷ zs) (front_of_places (a + 1) n k (omega (arith, low)))
 
-is_place : (n x : ℕ) → Contains (range_with_len 0 n) x ↔ (x < n)
+pub is_place : (n x : ℕ) → Contains (range_with_len 0 n) x ↔ (x < n)
 is_place n x = (
   λ in'.
       let short : in'.0 < n = omega (arith, in'.1, length-range_with_len 0 n) in

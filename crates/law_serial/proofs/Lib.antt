@@ -1,4 +1,4 @@
-mod Cuts
+pub mod Cuts
 mod Listing
 mod Placing
 mod Readings
@@ -6,5 +6,6 @@ mod Missed
 pub mod Pasts
 pub mod Chains
 mod Last
+mod Explained
 mod Serial
 pub mod Worked

@@ -60,12 +60,12 @@ pub in_past_of : (app : App) (trace : List Entry) (r : ℕ) (e : Entry) (w : Wri
 in_past_of app trace r e w = in_either w (carried_at app trace r e) (brings app e)
 
 -- the test for some id that passes, and the id
-some_passes : (p : WriteId → Bool) (ids : List WriteId) → list_any p ids ≡ true → (w : WriteId) × (has_id w ids ≡ true) × (p w ≡ true)
+pub some_passes : (p : WriteId → Bool) (ids : List WriteId) → list_any p ids ≡ true → (w : WriteId) × (has_id w ids ≡ true) × (p w ≡ true)
 some_passes p ids some =
     let found = Any-from_list_any p ids some in
     (found.1, has_id-from_Contains found.1 ids (found.0, found.2, found.3), found.4)
 
-passes_some : (p : WriteId → Bool) (ids : List WriteId) (w : WriteId) → has_id w ids ≡ true → p w ≡ true → list_any p ids ≡ true
+pub passes_some : (p : WriteId → Bool) (ids : List WriteId) (w : WriteId) → has_id w ids ≡ true → p w ≡ true → list_any p ids ≡ true
 passes_some p ids w has passes = let at = Contains-from_has_id w ids has in list_any_at p ids at.0 w at.1 (ap p at.2 ∙ passes)
 
 -- A write is in the past of a read just where it is causally before the read.

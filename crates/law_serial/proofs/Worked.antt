@@ -18,7 +18,7 @@ use Rattle.law_causal.proofs.Stores.{IsWrite, write_parts}
 use Rattle.law_causal.proofs.WorkedConcurrent.{app, read, read_x, reader_body, trace, write_u as entry_u, write_v as entry_v, write_x as entry_x}
 use Rattle.law_causal.proofs.WorkedForms.{carried_with}
 use Rattle.law_serial.specs.Order.{listing, order_of, writes_at}
-use Rattle.law_serial.specs.Chains.{IsChain}
+use Rattle.law_serial.specs.Causes.{IsChain}
 use Rattle.law_serial.specs.Serial.{IsLast, IsSerial, WritesNone, id_of, version_shown}
 
 -- the writes: of `k`, of `x`, of `k` once more, and of the cell

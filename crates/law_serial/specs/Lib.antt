@@ -1,3 +1,4 @@
 pub mod Order
 pub mod Serial
 pub mod Chains
+pub mod Causes

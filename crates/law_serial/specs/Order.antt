@@ -32,5 +32,9 @@ listing writes past all [] listed = filter (λ i. writes i && not (listed i)) al
 listing writes past all (r ∷ rs) listed =
     filter (λ i. writes i && (past r i && not (listed i))) all ++ r ∷ listing writes past all rs (λ i. listed i || past r i)
 
+-- the order of some reads of a trace, where a test tells which writes are in the past of which read
+abbrev pub order_by : List Entry → (ℕ → ℕ → Bool) → List ℕ → List ℕ
+order_by trace past reads = listing (writes_at trace) past (places trace) reads (λ i. false)
+
 abbrev pub order_of : App → List Entry → List ℕ → List ℕ
-order_of app trace reads = listing (writes_at trace) (is_in_past app trace) (places trace) reads (λ i. false)
+order_of app trace reads = order_by trace (is_in_past app trace) reads

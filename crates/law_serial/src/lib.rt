@@ -3,4 +3,7 @@
 
 mod laws;
 
-pub use laws::{orders_are_serial, reads_of_a_span_are_a_chain, settled_reads_miss_nothing};
+pub use laws::{
+    orders_are_serial, orders_by_causes_are_serial, reads_of_a_span_are_a_chain,
+    settled_reads_miss_nothing,
+};
