@@ -1,0 +1,4 @@
+pub mod Members
+pub mod Sessions
+pub mod Laws
+pub mod inner

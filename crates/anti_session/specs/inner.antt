@@ -1,0 +1,4 @@
+pub mod Adding
+pub mod Calls
+pub mod Indexed
+pub mod Listed
