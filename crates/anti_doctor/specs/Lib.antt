@@ -1,0 +1,4 @@
+pub mod Missed
+pub mod Diagnoses
+pub mod Laws
+pub mod inner
