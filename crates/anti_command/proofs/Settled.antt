@@ -2,9 +2,10 @@
 use Rattle.std.proofs.Common.{ℕ, ◌≡◌, ◌<◌, inl, inr, ◌&&◌, Bool, true, false, List, length, refl, sym, ap, ◌∙◌, subst, arith}
 use Rattle.std.specs.Prelude.{Option, None, Some, IfErr, IfOk, IfSome, Result, Ok, Err, is_some}
 use Rattle.anti_ids.specs.declared.limits.TheConstants.{LONGEST_DOCUMENT}
+use Rattle.anti_kind.specs.declared.entry.Entry.{Entry}
 use Rattle.anti_app.specs.declared.app.App.{App}
 use Rattle.anti_app.specs.declared.app.AppFault.{AppFault}
-use Rattle.anti_report.specs.Report.{Told}
+use Rattle.anti_report.specs.Report.{IsPrinted}
 use Rattle.anti_text.specs.Record.{text_of}
 use Rattle.anti_command.specs.Outcomes.{HasFailed, IsOutcomeOf, Seen, after, before}
 use Rattle.anti_command.specs.Causes.{HasCause, IsRefused, OfSource}
@@ -52,6 +53,8 @@ tells None left can reads = absurd can
 tells (Some commands.Step) left can reads = can
 tells (Some commands.Json) left can reads = can
 tells (Some commands.Run) left can reads = can
+tells (Some commands.Session) left can reads = can
+tells (Some commands.Doctor) left can reads = can
 tells (Some commands.Place) left can reads = can
 tells (Some (commands.Load requests)) left can reads = absurd (cc)
 
@@ -160,17 +163,21 @@ answers_as a b same source sink lines result answer = subst (λ (asked : Option 
 
 -- ---- a run by workers
 
-some_kept : (form : App → Told → List ℕ) (IsGiven : App → Type 0) (kept : Option RunKept) (text : List ℕ) → IsMade (Run Workers form) IsGiven kept text → is_some kept ≡ true
-some_kept form IsGiven None text made = absurd made
-some_kept form IsGiven (Some run) text made = refl
+some_kept : (Prints : App → List Entry → List ℕ → List ℕ → Type 0) (IsGiven : App → Type 0) (kept : Option RunKept) (text : List ℕ)
+    → IsMade (Run Workers Prints) IsGiven kept text → is_some kept ≡ true
+some_kept Prints IsGiven None text made = absurd made
+some_kept Prints IsGiven (Some run) text made = refl
+
+abbrev AsRecord : App → List Entry → List ℕ → List ℕ → Type 0
+AsRecord app = IsPrinted (text_of app) app
 
 module _ {S : Type 0} (source : Seen S) where
-  plays_run : (prepared : Result Prepared TopFault) → IfOk prepared (λ p. IsMade (Run Workers text_of) (IsFrom Document (before source)) p.0 p.1.items)
+  plays_run : (prepared : Result Prepared TopFault) → IfOk prepared (λ p. IsMade (Run Workers AsRecord) (IsFrom Document (before source)) p.0 p.1.items)
       → IfOk prepared (λ p. is_some p.0 ≡ true)
-  plays_run (Ok p) made = some_kept text_of (IsFrom Document (before source)) p.0 p.1.items made
+  plays_run (Ok p) made = some_kept AsRecord (IsFrom Document (before source)) p.0 p.1.items made
   plays_run (Err fault) made = tt
 
-  pub prepared_run : (prepared : Result Prepared TopFault) → IfOk prepared (λ p. IsMade (Run Workers text_of) (IsFrom Document (before source)) p.0 p.1.items)
+  pub prepared_run : (prepared : Result Prepared TopFault) → IfOk prepared (λ p. IsMade (Run Workers AsRecord) (IsFrom Document (before source)) p.0 p.1.items)
       → IfErr prepared (HasCause (Some commands.Run) (before source) (after source) (HasFailed source) ⊥) → IfErr prepared (λ fault. writes (Some fault) ≡ false)
       → IsPrepared (Some commands.Run) source prepared
   prepared_run prepared made cause unwritten = record {

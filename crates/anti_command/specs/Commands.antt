@@ -1,8 +1,8 @@
 -- What each command reads, keeps and writes. Words that name no command ask for `None`.
 use Rattle.std.specs.Prelude.{ℕ, ◌≡◌, ◌≤◌, List, length, Option, None, Some, IsSomeAnd, Ok, Bool, true, false, ◌&&◌}
+use Rattle.anti_kind.specs.declared.entry.Entry.{Entry}
 use Rattle.anti_app.specs.declared.app.App.{App}
 use Rattle.anti_load.specs.Load.{load_application}
-use Rattle.anti_report.specs.Report.{Told}
 use Rattle.anti_command.specs.Faults.{writes}
 use Rattle.anti_command.specs.Placed.{IsPlacementOf}
 use Rattle.anti_command.specs.Rows.{Origin, Making, Product, Document, Requests, Choices, Workers, Run, Placement, row_of}
@@ -23,7 +23,7 @@ reads_source (Some command) = is_document (row_of command).origin
 
 -- it plays a run
 abbrev is_run : Product → Bool
-is_run (Run making form) = true
+is_run (Run making Prints) = true
 is_run Placement = false
 
 abbrev pub plays : Option Command → Bool
@@ -39,9 +39,9 @@ abbrev pub IsRunBy : Making → RunKept → Type 0
 IsRunBy Choices run = IsPlayed run
 IsRunBy Workers run = IsByWorkers run
 
--- a run of the application that is given is kept, which was made so, and the text prints it in this form
-abbrev pub IsRunPrinted : (App → Type 0) → Making → (App → Told → List ℕ) → Option RunKept → List ℕ → Type 0
-IsRunPrinted IsGiven making form kept text = IsSomeAnd kept (λ run. IsRunOf IsGiven (IsRunBy making) run × IsPrintOf form run text)
+-- a run of the application that is given is kept, which was made so, and the text prints this of it
+abbrev pub IsRunPrinted : (App → Type 0) → Making → (App → List Entry → List ℕ → List ℕ → Type 0) → Option RunKept → List ℕ → Type 0
+IsRunPrinted IsGiven making Prints kept text = IsSomeAnd kept (λ run. IsRunOf IsGiven (IsRunBy making) run × IsPrintOf Prints run text)
 
 -- the application comes from there, where the source has this left
 abbrev pub IsFrom : Origin → Option (List ℕ) → App → Type 0
@@ -50,7 +50,7 @@ IsFrom (Requests requests) left = λ app. app ≡ load_application requests
 
 -- of the application that is given this was made: this is the run that is kept, and this the text
 abbrev pub IsMade : Product → (App → Type 0) → Option RunKept → List ℕ → Type 0
-IsMade (Run making form) IsGiven kept text = IsRunPrinted IsGiven making form kept text
+IsMade (Run making Prints) IsGiven kept text = IsRunPrinted IsGiven making Prints kept text
 IsMade Placement IsGiven kept text = (kept ≡ None) × IsPlacementOf IsGiven text
 
 -- what is asked was done to what the source had: this is the run that is kept, and this the text

@@ -5,10 +5,11 @@ use Rattle.anti_kind.specs.declared.entry.Entry.{Entry}
 use Rattle.anti_app.specs.declared.app.App.{App}
 use Rattle.anti_app.specs.declared.app.AppFault.{AppFault}
 use Rattle.anti_app.specs.Stated.{app_of}
-use Rattle.anti_report.specs.Report.{IsPrinted, Told}
 use Rattle.anti_trace.specs.Legal.{IsLegalTrace}
 use Rattle.law_causal.specs.Settled.{BarriersFindAll, DryRunsName}
 use Rattle.anti_order.specs.Answers.{SpansAreExplained}
+use Rattle.anti_session.specs.Sessions.{MembersAreChains, SessionsAreExplained}
+use Rattle.anti_doctor.specs.Diagnoses.{SpansAreDecided}
 use Rattle.anti_play.specs.Complete.{IsComplete}
 use Rattle.anti_play.specs.Schedule.{finished, trace_of, waits_of}
 use Rattle.anti_work.specs.Workers.{IsWorkersRun}
@@ -50,9 +51,17 @@ FindsAll kept = BarriersFindAll kept.app kept.trace × DryRunsName kept.app kept
 unfoldable pub ExplainsSpans : RunKept → Type 0
 ExplainsSpans kept = SpansAreExplained kept.app kept.trace
 
--- the bytes print the run, in this form
-unfoldable pub IsPrintOf : (App → Told → List ℕ) → RunKept → List ℕ → Type 0
-IsPrintOf form kept bytes = IsPrinted (form kept.app) kept.app kept.trace kept.waits.items bytes
+-- the members of a session are reads of which each is causally before the next, and each order that is answered for them explains them
+unfoldable pub ExplainsSessions : RunKept → Type 0
+ExplainsSessions kept = MembersAreChains kept.trace × SessionsAreExplained kept.app kept.trace
+
+-- the diagnosis of the reads of a span is right: a sound one tells an order that explains them, and where there are findings no order does
+unfoldable pub DecidesSpans : RunKept → Type 0
+DecidesSpans kept = SpansAreDecided kept.trace
+
+-- the bytes print of the run what this says
+unfoldable pub IsPrintOf : (App → List Entry → List ℕ → List ℕ → Type 0) → RunKept → List ℕ → Type 0
+IsPrintOf Prints kept bytes = Prints kept.app kept.trace kept.waits.items bytes
 
 -- the run is one of the application that is given, and was made so
 pub record IsRunOf (IsGiven : App → Type 0) (IsRunSo : RunKept → Type 0) (kept : RunKept) : Type 0 where
@@ -61,3 +70,5 @@ pub record IsRunOf (IsGiven : App → Type 0) (IsRunSo : RunKept → Type 0) (ke
   pub legal : IsLegalRun kept
   pub barriers : FindsAll kept
   pub orders : ExplainsSpans kept
+  pub sessions : ExplainsSessions kept
+  pub diagnoses : DecidesSpans kept

@@ -1,5 +1,5 @@
 ghost use Rattle.std.specs.Prelude.{◌≡◌, ◌≤◌, ℕ, Some};
-ghost use Rattle.anti_command.specs.Words.{command_of, load_of, word_of};
+ghost use Rattle.anti_command.specs.Words.{command_of, finding_of, load_of, word_of};
 ghost use Rattle.anti_command.specs.declared.command.Command.TheVariants.{Load};
 
 use anti_ids::{MOST_REQUESTS, Value, read_decimal};
@@ -13,10 +13,27 @@ pub enum Command {
     Json,
     /// Let workers play the document that is read, make what they left, and write the record of the run.
     Run,
+    /// Play the choices of the document that is read, and write what the sessions of the run saw, each with the calls that it waited for.
+    Session,
+    /// Play the choices of the document that is read, and write which writes the reads of each span missed, or an order that explains them.
+    Doctor,
     /// Tell whether barriers, transfers and roots stand where they must in the document that is read.
     Place,
     /// Play the load of so many requests, 1 to `MOST_REQUESTS`, and write the summary of the run. Nothing is read.
     Load { requests: u32 },
+}
+
+// The command that a word asks for, where it asks what is found of a run.
+fn finding_of(word: &[u8]) -> Option<Command>
+    ensures { result ≡ finding_of word.now }
+{
+    if word == b"session".as_slice() {
+        return Some(Command::Session);
+    }
+    if word == b"doctor".as_slice() {
+        return Some(Command::Doctor);
+    }
+    None
 }
 
 // The command that one word asks for.
@@ -28,7 +45,7 @@ fn word_of(word: &[u8]) -> Option<Command>
         b"json" => Some(Command::Json),
         b"run" => Some(Command::Run),
         b"place" => Some(Command::Place),
-        _ => None,
+        _ => finding_of(word),
     }
 }
 
@@ -46,7 +63,8 @@ fn load_of(word: &[u8], number: &[u8]) -> Option<Command>
     })
 }
 
-/// The command that the words ask for: `step`, `json`, `run` or `place`, alone, or `load` and a number. It is `None` where they ask for none.
+/// The command that the words ask for: `step`, `json`, `run`, `session`, `doctor` or `place`, alone,
+/// or `load` and a number. It is `None` where they ask for none.
 pub fn asked_for(words: &[Value]) -> Option<Command>
     ensures command { result ≡ command_of words.now }
     ensures few { (n : ℕ) → result ≡ Some (Load n) → n ≤ MOST_REQUESTS }

@@ -11,7 +11,7 @@ use crate::prepared::Prepared;
 use crate::products::{place_document, play_document, play_load};
 use anti_edge::Source;
 use anti_ids::Value;
-use anti_text::{RecordJson, RecordText, SummaryText};
+use anti_text::{DoctorText, RecordJson, RecordText, SessionText, SummaryText};
 use std::alloc::Global;
 
 /// Does all that the words ask for, up to the first byte to be written. It has no threads, so it runs no workers.
@@ -30,6 +30,8 @@ pub fn prepare<S: Source>(alloc: Global, words: &[Value], src: &mut S) -> Result
     match asked_for(words) {
         Some(Command::Step) => play_document::<RecordText, S>(alloc, src),
         Some(Command::Json) => play_document::<RecordJson, S>(alloc, src),
+        Some(Command::Session) => play_document::<SessionText, S>(alloc, src),
+        Some(Command::Doctor) => play_document::<DoctorText, S>(alloc, src),
         Some(Command::Place) => place_document(alloc, src),
         Some(Command::Load { requests }) => Ok(play_load::<SummaryText>(alloc, requests)?),
         Some(Command::Run) => Err(TopFault::Usage),

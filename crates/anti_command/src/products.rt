@@ -35,7 +35,7 @@ fn printed<F: Form>(alloc: Global, kept: &RunKept, after: Aftermath) -> Result<B
     requires playable { IsPlayable kept.now.app }
     requires legal { IsLegalRun kept.now }
     requires after { IsAftermathOf kept.now.app kept.now.trace after }
-    ensures { IfOk result (λ text. IsPrintOf F.text_of kept.now text.items) }
+    ensures { IfOk result (λ text. IsPrintOf F.prints kept.now text.items) }
 {
     F::print(alloc, &kept.app, &kept.trace, &kept.waits, after)
 }
@@ -44,7 +44,7 @@ fn printed<F: Form>(alloc: Global, kept: &RunKept, after: Aftermath) -> Result<B
 fn play_app<F: Form>(alloc: Global, app: App) -> Result<Prepared, NoMemory>
     requires { IsPlayable app }
     ensures { IfOk result (λ p.
-        IsMade (Run Choices F.text_of) (λ played. played ≡ app) p.0 p.1.items) }
+        IsMade (Run Choices F.prints) (λ played. played ≡ app) p.0 p.1.items) }
 {
     let (kept, after) = run_of_choices(alloc, app)?;
     let text = printed::<F>(alloc, &kept, after)?;
@@ -60,7 +60,7 @@ fn work_app<F: Form, R: Threads + Wait + Sync, G: Gate + Sync>(
 ) -> Result<Prepared, NoMemory>
     requires { IsPlayable app }
     ensures { IfOk result (λ p.
-        IsMade (Run Workers F.text_of) (λ played. played ≡ app) p.0 p.1.items) }
+        IsMade (Run Workers F.prints) (λ played. played ≡ app) p.0 p.1.items) }
 {
     let (kept, after) = run_of_workers(rt, alloc, app, gate)?;
     let text = printed::<F>(alloc, &kept, after)?;
@@ -70,7 +70,7 @@ fn work_app<F: Form, R: Threads + Wait + Sync, G: Gate + Sync>(
 /// Plays the choices of the document that the source has, and prints the run in this form. Each error has its cause, and none is of writing.
 pub fn play_document<F: Form, S: Source>(alloc: Global, src: &mut S) -> Result<Prepared, TopFault>
     ensures done { IfOk result (λ p.
-        IsMade (Run Choices F.text_of) (IsFrom Document (S.left src.old)) p.0 p.1.items) }
+        IsMade (Run Choices F.prints) (IsFrom Document (S.left src.old)) p.0 p.1.items) }
     ensures cause { (asked : Option Command) → reads_source asked ≡ true →
         IfErr result (HasCause asked (S.left src.old) (S.left src.new)
         (Rose (S.faults src.old) (S.faults src.new)) ⊥) }
@@ -89,7 +89,7 @@ pub fn work_document<F: Form, R: Threads + Wait + Sync, S: Source, G: Gate + Syn
     gate: &G,
 ) -> Result<Prepared, TopFault>
     ensures done { IfOk result (λ p.
-        IsMade (Run Workers F.text_of) (IsFrom Document (S.left src.old)) p.0 p.1.items) }
+        IsMade (Run Workers F.prints) (IsFrom Document (S.left src.old)) p.0 p.1.items) }
     ensures cause { (asked : Option Command) → reads_source asked ≡ true →
         IfErr result (HasCause asked (S.left src.old) (S.left src.new)
         (Rose (S.faults src.old) (S.faults src.new)) ⊥) }
@@ -122,7 +122,7 @@ pub fn place_document<S: Source>(alloc: Global, src: &mut S) -> Result<Prepared,
 pub fn play_load<F: Form>(alloc: Global, requests: u32) -> Result<Prepared, NoMemory>
     requires { requests ≤ MOST_REQUESTS }
     ensures { IfOk result (λ p.
-        IsMade (Run Choices F.text_of) (λ app. app ≡ load_application requests) p.0 p.1.items) }
+        IsMade (Run Choices F.prints) (λ app. app ≡ load_application requests) p.0 p.1.items) }
 {
     let app = load_app(alloc, requests)?;
     play_app::<F>(alloc, app)

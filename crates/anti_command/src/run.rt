@@ -1,14 +1,16 @@
 ghost use Rattle.std.specs.Prelude.{◌≡◌, IfOk};
 ghost use Rattle.anti_command.specs.inner.Stated.{IsPlayable};
-ghost use Rattle.anti_command.specs.Runs.{IsByWorkers, IsLegalRun, IsPlayed, FindsAll, ExplainsSpans};
+ghost use Rattle.anti_command.specs.Runs.{DecidesSpans, ExplainsSessions, ExplainsSpans, FindsAll, IsByWorkers, IsLegalRun, IsPlayed};
 ghost use Rattle.anti_trace.specs.Legal.{IsLegalTrace};
 ghost use Rattle.anti_trace.specs.inner.Trails.{IsAftermathOf};
 
 use crate::outcome::RunKept;
 use anti_app::{App, Waits};
+use anti_doctor::diagnoses_decide;
 use anti_ids::{List, NoMemory};
 use anti_order::answered_orders_explain;
 use anti_play::{Played, finish_completes, play};
+use anti_session::{members_are_a_chain, sessions_are_explained};
 use anti_trace::{Aftermath, Trace};
 use anti_work::{Gate, run_workers};
 use law_causal::barriers_find_all;
@@ -17,7 +19,7 @@ use std::sync::Wait;
 use std::thread::Threads;
 
 // A legal run of the application, with what each legal run is worth.
-#[tactic(auto, unfolding(crate::specs::inner::Stated::IsPlayable, crate::specs::Runs::IsLegalRun, crate::specs::Runs::FindsAll, crate::specs::Runs::ExplainsSpans))]
+#[tactic(auto, unfolding(crate::specs::inner::Stated::IsPlayable, crate::specs::Runs::IsLegalRun, crate::specs::Runs::FindsAll, crate::specs::Runs::ExplainsSpans, crate::specs::Runs::ExplainsSessions, crate::specs::Runs::DecidesSpans))]
 fn legal_run(app: App, trace: Trace, waits: Waits) -> RunKept
     requires playable { IsPlayable app }
     requires legal { IsLegalTrace app trace }
@@ -27,9 +29,14 @@ fn legal_run(app: App, trace: Trace, waits: Waits) -> RunKept
     ensures legal { IsLegalRun result }
     ensures barriers { FindsAll result }
     ensures orders { ExplainsSpans result }
+    ensures sessions { ExplainsSessions result }
+    ensures diagnoses { DecidesSpans result }
 {
     barriers_find_all();
     answered_orders_explain();
+    members_are_a_chain();
+    sessions_are_explained();
+    diagnoses_decide();
     RunKept { app, trace, waits }
 }
 
@@ -43,6 +50,8 @@ pub fn run_of_choices(alloc: Global, app: App) -> Result<(RunKept, Aftermath), N
     ensures legal { IfOk result (λ run. IsLegalRun run.0) }
     ensures barriers { IfOk result (λ run. FindsAll run.0) }
     ensures orders { IfOk result (λ run. ExplainsSpans run.0) }
+    ensures sessions { IfOk result (λ run. ExplainsSessions run.0) }
+    ensures diagnoses { IfOk result (λ run. DecidesSpans run.0) }
     ensures after { IfOk result (λ run.
         IsAftermathOf run.0.app run.0.trace run.1) }
 {
@@ -68,6 +77,8 @@ pub fn run_of_workers<R: Threads + Wait + Sync, G: Gate + Sync>(
     ensures legal { IfOk result (λ run. IsLegalRun run.0) }
     ensures barriers { IfOk result (λ run. FindsAll run.0) }
     ensures orders { IfOk result (λ run. ExplainsSpans run.0) }
+    ensures sessions { IfOk result (λ run. ExplainsSessions run.0) }
+    ensures diagnoses { IfOk result (λ run. DecidesSpans run.0) }
     ensures after { IfOk result (λ run.
         IsAftermathOf run.0.app run.0.trace run.1) }
 {

@@ -87,6 +87,8 @@ fn runs_workers(asked: Option<Command>) -> bool
         Some(Command::Step) => false,
         Some(Command::Json) => false,
         Some(Command::Run) => true,
+        Some(Command::Session) => false,
+        Some(Command::Doctor) => false,
         Some(Command::Place) => false,
         Some(Command::Load { .. }) => false,
     }

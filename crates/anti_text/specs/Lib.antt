@@ -2,6 +2,8 @@ pub mod Calls
 pub mod Entries
 pub mod Json
 pub mod Placements
+pub mod Sessions
+pub mod Diagnoses
 pub mod Processes
 pub mod Record
 pub mod Spans

@@ -23,6 +23,10 @@ answer_text app (Order marks) = codes "order" ++ flat_map (spaced_mark app) mark
 abbrev pub span_name : App → Span → List ℕ
 span_name app s = mark_text app s.birth.object s.birth.place ++ codes "/" ++ decimal s.span
 
+-- a word, a span, and what is answered of its reads
+abbrev pub answered_line : List ℕ → App → SpanAnswer → List ℕ
+answered_line word app a = word ++ span_name app a.span ++ codes " " ++ answer_text app a.answer ++ codes "\n"
+
 -- a span with its answer, as `span w.1/1 order s.1 s.4`
 abbrev pub span_line : App → SpanAnswer → List ℕ
-span_line app a = codes "span " ++ span_name app a.span ++ codes " " ++ answer_text app a.answer ++ codes "\n"
+span_line app a = answered_line (codes "span ") app a

@@ -14,7 +14,7 @@ use crate::output::Output;
 use crate::printer::Printer;
 use crate::process_lines::end_text;
 use crate::reply_words::reply_text;
-use crate::span_lines::{answer_text, span_name};
+use crate::span_lines::span_name;
 use crate::wait_lines::choice_numbered;
 use crate::words::{handler_name, mark_text, object_name, service_name};
 use anti_ids::NoMemory;
@@ -161,7 +161,7 @@ pub fn add_answer(
         (out.new ≡ out.old ++ before.now ++ compact_text (text (answer_text printer.now.app.now answer.now))) }
 {
     let begun = open_string(out, before)?;
-    answer_text(out, printer, answer)?;
+    printer.answer(out, answer)?;
     close_string(out, printer.alloc, begun)
 }
 

@@ -2,6 +2,7 @@
 #![tactic(auto)]
 
 mod call_words;
+mod doctor_text;
 mod entry_lines;
 mod id_texts;
 mod json_items;
@@ -20,12 +21,15 @@ mod record_json;
 mod record_text;
 mod reply_words;
 mod run_summary;
+mod session_text;
 mod span_lines;
 mod wait_lines;
 mod words;
 mod written_ids;
 
+pub use doctor_text::DoctorText;
 pub use placement::placement_line;
 pub use record_json::{RecordJson, json, print_json};
 pub use record_text::{RecordText, print, text};
 pub use run_summary::{SummaryText, print_summary, summary};
+pub use session_text::SessionText;

@@ -1,18 +1,18 @@
 ghost use Rattle.std.specs.Prelude.{◌≡◌, ◌++◌, IfOk, OnOk};
-ghost use Rattle.std.specs.List.{flat_map};
 ghost use Rattle.anti_app.specs.Objects.{store_names};
-ghost use Rattle.anti_text.specs.Spans.{spaced_mark};
+ghost use Rattle.anti_text.specs.Spans.{answer_text, answered_line, spaced_mark};
 ghost use Rattle.anti_text.specs.Calls.{carried_text};
 ghost use Rattle.anti_text.specs.Words.{lineage_text};
 
 use crate::id_texts::IdTexts;
 use crate::mark_texts::MarkTexts;
 use crate::output::Output;
+use crate::span_lines::{answer_text, answered_line};
 use anti_app::{App, store_names};
 use anti_baggage::BaggageFault;
 use anti_ids::{Lineage, NoMemory};
 use anti_kind::Message;
-use anti_order::{Marks, OrderAnswer};
+use anti_order::{OrderAnswer, SpanAnswer};
 use anti_report::Report;
 use anti_trace::Mark;
 use std::alloc::Global;
@@ -32,9 +32,9 @@ pub struct Printer<'a> {
     ghost marked: { marks.app.now ≡ app.now },
 }
 
-// The marks of all writes, which the orders of a report share; none where it has no order.
-fn marked<'r>(report: &'r Report) -> &'r [Mark] {
-    for answered in report.spans.as_slice() {
+/// The marks of all writes, which the orders among answers of a trace share; none where there is no order.
+pub fn marked(spans: &[SpanAnswer]) -> &[Mark] {
+    for answered in spans {
         if let OrderAnswer::Order(marks) = &answered.answer {
             return marks.pieces().writes;
         }
@@ -50,7 +50,7 @@ impl<'a> Printer<'a> {
         let stores = store_names(alloc, app)?;
         let objects = app.stores.len().saturating_add(app.services.len());
         let ids = IdTexts::of(alloc, stores, objects, report.trace.as_slice())?;
-        let marks = MarkTexts::of(alloc, app, marked(report))?;
+        let marks = MarkTexts::of(alloc, app, marked(report.spans.as_slice()))?;
         Ok(Printer {
             alloc,
             app,
@@ -88,11 +88,24 @@ impl<'a> Printer<'a> {
         }
     }
 
-    /// Writes marks, each behind a space.
-    pub fn marks(&self, out: &mut Output, marks: &Marks) -> Result<(), NoMemory>
+    /// Writes what is answered of the reads of a span.
+    pub fn answer(&self, out: &mut Output, answer: &OrderAnswer) -> Result<(), NoMemory>
         ensures { OnOk result
-            (out.new ≡ out.old ++ flat_map (spaced_mark self.now.app.now) marks.now.items) }
+            (out.new ≡ out.old ++ answer_text self.now.app.now answer.now) }
     {
-        self.marks.marks(out, marks)
+        answer_text(out, &self.marks, answer)
+    }
+
+    /// Writes a word, a span, and what is answered of its reads, as a line.
+    pub fn answered(
+        &self,
+        out: &mut Output,
+        word: &[u8],
+        answered: &SpanAnswer,
+    ) -> Result<(), NoMemory>
+        ensures { OnOk result
+            (out.new ≡ out.old ++ answered_line word.now self.now.app.now answered.now) }
+    {
+        answered_line(out, &self.marks, word, answered)
     }
 }

@@ -89,9 +89,10 @@ pub fn print_json(alloc: Global, app: &App, report: &Report) -> Result<Bytes, No
 pub struct RecordJson;
 
 impl Form for RecordJson {
+    ghost use Rattle.anti_report.specs.Report.{IsPrinted};
     ghost use Rattle.anti_text.specs.Json.{json_of};
 
-    ghost text_of = { json_of };
+    ghost prints = { λ app. IsPrinted (json_of app) app };
 
     fn print(
         alloc: Global,

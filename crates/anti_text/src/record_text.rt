@@ -13,7 +13,6 @@ use crate::entry_lines::entry_line;
 use crate::output::Output;
 use crate::printer::Printer;
 use crate::process_lines::process_line;
-use crate::span_lines::span_line;
 use crate::wait_lines::wait_line;
 use anti_app::{App, Waits};
 use anti_ids::{Bytes, NoMemory};
@@ -70,7 +69,7 @@ fn span_lines(out: &mut Output, printer: &Printer, spans: &[SpanAnswer]) -> Resu
         (out.new ≡ out.old ++ flat_map (span_line printer.now.app.now) spans.now) }
 {
     for answered in spans {
-        span_line(out, printer, answered)?;
+        printer.answered(out, b"span ", answered)?;
     }
     Ok(())
 }
@@ -89,8 +88,8 @@ fn all_lines(out: &mut Output, printer: &Printer, report: &Report) -> Result<(),
     span_lines(out, printer, report.spans.as_slice())
 }
 
-// Writes the line that ends a record, with the number of its entries.
-fn end_line(out: &mut Output, entries: u32) -> Result<(), NoMemory>
+/// Writes the line that ends a text of a run, with the number of its entries.
+pub fn end_line(out: &mut Output, entries: u32) -> Result<(), NoMemory>
     ensures { OnOk result (out.new ≡ out.old ++ codes "end " ++ decimal entries ++ codes "\n") }
 {
     out.numbered(b"end ", u64::from(entries))?;
@@ -128,9 +127,10 @@ pub fn print(alloc: Global, app: &App, report: &Report) -> Result<Bytes, NoMemor
 pub struct RecordText;
 
 impl Form for RecordText {
+    ghost use Rattle.anti_report.specs.Report.{IsPrinted};
     ghost use Rattle.anti_text.specs.Record as record_text;
 
-    ghost text_of = { record_text.text_of };
+    ghost prints = { λ app. IsPrinted (record_text.text_of app) app };
 
     fn print(
         alloc: Global,

@@ -65,9 +65,10 @@ pub fn print_summary(alloc: Global, counts: &RunCounts) -> Result<Bytes, NoMemor
 pub struct SummaryText;
 
 impl Form for SummaryText {
+    ghost use Rattle.anti_report.specs.Report.{IsPrinted};
     ghost use Rattle.anti_text.specs.Summary.{summary_of};
 
-    ghost text_of = { λ app. summary_of };
+    ghost prints = { IsPrinted summary_of };
 
     fn print(
         alloc: Global,

@@ -1,8 +1,8 @@
 ghost use Rattle.std.specs.Prelude.{◌≡◌, ◌++◌, OnOk};
-ghost use Rattle.anti_text.specs.Spans.{answer_text, span_line, span_name};
+ghost use Rattle.anti_text.specs.Spans.{answer_text, answered_line, span_name};
 
+use crate::mark_texts::MarkTexts;
 use crate::output::Output;
-use crate::printer::Printer;
 use crate::words::{mark_text, spaced_mark};
 use anti_app::App;
 use anti_ids::NoMemory;
@@ -13,23 +13,23 @@ use itoa::Buffer;
 /// Writes what is answered of the reads of a span.
 pub fn answer_text(
     out: &mut Output,
-    printer: &Printer,
+    texts: &MarkTexts,
     answer: &OrderAnswer,
 ) -> Result<(), NoMemory>
-    ensures { OnOk result (out.new ≡ out.old ++ answer_text printer.now.app.now answer.now) }
+    ensures { OnOk result (out.new ≡ out.old ++ answer_text texts.now.app.now answer.now) }
 {
     match answer {
         OrderAnswer::Lossy(mark) => {
             out.put(b"lossy")?;
-            spaced_mark(out, printer.app, *mark)
+            spaced_mark(out, texts.app, *mark)
         }
         OrderAnswer::Unguarded(mark) => {
             out.put(b"unguarded")?;
-            spaced_mark(out, printer.app, *mark)
+            spaced_mark(out, texts.app, *mark)
         }
         OrderAnswer::Order(marks) => {
             out.put(b"order")?;
-            printer.marks(out, marks)
+            texts.marks(out, marks)
         }
     }
 }
@@ -43,13 +43,18 @@ pub fn span_name(out: &mut Output, app: &App, span: Span) -> Result<(), NoMemory
     out.put_all(&[b"/", digits.format(span.span).as_bytes()])
 }
 
-/// Writes the line of a span.
-pub fn span_line(out: &mut Output, printer: &Printer, answered: &SpanAnswer) -> Result<(), NoMemory>
-    ensures { OnOk result (out.new ≡ out.old ++ span_line printer.now.app.now answered.now) }
+/// Writes a word, a span, and what is answered of its reads, as a line.
+pub fn answered_line(
+    out: &mut Output,
+    texts: &MarkTexts,
+    word: &[u8],
+    answered: &SpanAnswer,
+) -> Result<(), NoMemory>
+    ensures { OnOk result (out.new ≡ out.old ++ answered_line word.now texts.now.app.now answered.now) }
 {
-    out.put(b"span ")?;
-    span_name(out, printer.app, answered.span)?;
+    out.put(word)?;
+    span_name(out, texts.app, answered.span)?;
     out.put(b" ")?;
-    answer_text(out, printer, &answered.answer)?;
+    answer_text(out, texts, &answered.answer)?;
     out.put(b"\n")
 }

@@ -32,7 +32,7 @@ end 4
 ";
 
 // Words that ask for nothing.
-static NO_COMMANDS: [&[&[u8]]; 15] = [
+static NO_COMMANDS: [&[&[u8]]; 17] = [
     &[],
     &[b"load"],
     &[b"load", b""],
@@ -45,6 +45,8 @@ static NO_COMMANDS: [&[&[u8]]; 15] = [
     &[b"load", b"all"],
     &[b"load", b"7", b"7"],
     &[b"place", b"7"],
+    &[b"session", b"c.1"],
+    &[b"doctor", b""],
     &[b"step", b"x"],
     &[b"step", b"json"],
     // no threads are at hand
