@@ -387,3 +387,37 @@ def full_stores(requests, turns, regions=3):
         services.append((f"w{i}", REGIONS[i % regions], {"front": body}))
     stores = [(f"s{i}", "kv", REGIONS[:regions]) for i in range(16)]
     return application(REGIONS[:regions], stores, services, [(f"w{i % 16}", "front", f"k{i}") for i in range(requests)])
+
+
+def most_writes(requests):
+    """So many requests, 400 at most, that write one key of one of 16 stores 64 times each, send that to 16 messages of a service that reads it, and
+    64 to one that does nothing: of 400 there are 25,600 writes, 6,400 spans with a read, and 32,000 messages."""
+    services = []
+    for i in range(16):
+        front = ["repeat 16", "repeat 4", f"write s{i} $in v", "end", "end", "repeat 16", f"send w{(i + 1) % 16} look $in", "end"]
+        front += ["repeat 4", "repeat 16", f"send w{i} rest $in", "end", "end"]
+        services.append((f"w{i}", "us", {"front": front, "look": [f"read s{(i + 15) % 16} $in as x"], "rest": []}))
+    stores = [(f"s{i}", "kv", REGIONS[:1]) for i in range(16)]
+    return application(REGIONS[:1], stores, services, [(f"w{i % 16}", "front", f"k{i}") for i in range(requests)])
+
+
+def full_of_writes():
+    """400 requests that nearly fill 16 stores with 32,399 writes and 16 inboxes with 31,122 messages; 738 spans with a read find room."""
+    services = []
+    for i in range(16):
+        front = ["repeat 16", "repeat 5", f"write s{i} $in v", "end", "end", f"write s{i} $in v", "repeat 2", f"send w{(i + 1) % 16} look $in", "end"]
+        front += ["repeat 4", "repeat 16", f"send w{i} rest $in", "end", "end", "repeat 12", f"send w{i} rest $in", "end"]
+        services.append((f"w{i}", "us", {"front": front, "look": [f"read s{(i + 15) % 16} $in as x"], "rest": []}))
+    stores = [(f"s{i}", "kv", REGIONS[:1]) for i in range(16)]
+    return application(REGIONS[:1], stores, services, [(f"w{i % 16}", "front", f"k{i}") for i in range(400)])
+
+
+def asked_through(requests, deep):
+    """So many requests through so many calls, one in the other, each of which reads behind its call what the request wrote."""
+    services = []
+    for i in range(deep):
+        on = [f"call w{i + 1} get $in as y"] if i + 1 < deep else []
+        services.append((f"w{i}", "us", {"get": ["barrier", *on, "read s0 $in as x", "reply $x"]}))
+    front = ["write s0 $in v", "call w0 get $in as y", "barrier", "read s0 $in as x"]
+    stores = [("s0", "table", REGIONS[:1])]
+    return application(REGIONS[:1], stores, [("front", "us", {"ask": front}), *services], [("front", "ask", f"k{i}") for i in range(requests)])
