@@ -64,7 +64,7 @@ full_stays start h rest c sane stays l can asc full =
 
 -- The calls by which a process needs units stay ready.
 
-visible_stays : (s : Store) → NeverFalls s → (h rest : List Entry) → IsLegal (store s) (h ++ rest) → (g : ℕ) (id : WriteId) → is_visible s h g id ≡ true → is_visible s (h ++ rest) g id ≡ true
+pub visible_stays : (s : Store) → NeverFalls s → (h rest : List Entry) → IsLegal (store s) (h ++ rest) → (g : ℕ) (id : WriteId) → is_visible s h g id ≡ true → is_visible s (h ++ rest) g id ≡ true
 visible_stays s rises h rest l g id was =
     let now : id.version ≤ s.shows h g id.key = leb-true id.version (s.shows h g id.key) was in
     le-leb id.version (s.shows (h ++ rest) g id.key) (omega (arith, rises h rest l g id.key))

@@ -24,6 +24,7 @@ pub mod Tables
 pub mod Sources
 pub mod Keeping
 pub mod Caching
+pub mod Found
 -- cells of a channel, and who pulled them
 pub mod Cells
 pub mod Pulls

@@ -7,14 +7,14 @@ use Rattle.anti_ids.specs.declared.limits.TheConstants.{MOST_UNITS}
 use Rattle.anti_kind.specs.declared.call.Reply.{Reply}
 use Rattle.anti_kind.specs.declared.entry.Entry.{Entry}
 use Rattle.anti_kind.specs.declared.port.Answer.{Answer}
-use Rattle.anti_kind.specs.declared.port.Answer.TheVariants.{Made, NotYet, Full, Spent, NoMemory}
+use Rattle.anti_kind.specs.declared.port.Answer.TheVariants.{Made, Refused, NoMemory}
 use Rattle.anti_kind.specs.Objects.{Start, ready, due, need, held, owed, fits, last_stamp, Follows, IsLegal}
 use Rattle.anti_kind.specs.Starts.{IsStart}
-use Rattle.anti_kind.specs.Ports.{View, IsFront, IsRefused, IsSpent, Answers, Answered}
+use Rattle.anti_kind.specs.Ports.{View, IsFront, IsRefused, IsSpent, Goes, Answers, Answered}
 use Rattle.anti_kind.specs.Entries.{entry_of}
 use Rattle.anti_kind.specs.declared.asking.Asking.{Asking}
 use Rattle.anti_ids.specs.Counts.{Rose}
-use Rattle.anti_kind.specs.Records.{IsRecorded, Gives, Goes}
+use Rattle.anti_kind.specs.Records.{IsRecorded, Gives}
 use Rattle.anti_kind.specs.Lones.{Alone, lone_start, lone_view}
 use Rattle.anti_kind.proofs.Histories.{below_last, held_more, weighs, last_of_follows, legal_more}
 use Rattle.anti_kind.proofs.Bounds.{units}
@@ -106,13 +106,12 @@ module _ (start : Start) (h : List Entry) (q : Asking) (before now : ℕ) (in_ra
       },
     ),
   )
-  given_answers new NotYet gives = rw gives.0 (refused, gives.1)
-  given_answers new (Full a b n) gives = rw gives.0 (refused, gives.1)
-  given_answers new (Spent clock) gives = rw gives.0 (refused, gives.1)
+  given_answers new (Refused refusal) gives = rw gives.0 (refused, gives.1)
   given_answers new NoMemory gives = record {
     front = subst (IsFront h) (sym gives.0) (whole_front h);
     made = gives.0;
     visits = omega arith;
+    goes = subst (λ (after : List Entry). Goes start after q) (sym gives.0) gives.1;
   }
 
 -- the same in the words of a port

@@ -4,7 +4,7 @@ use Rattle.anti_ids.specs.declared.id.WriteId.{WriteId}
 use Rattle.anti_kind.specs.declared.call.Call.{Call}
 use Rattle.anti_kind.specs.declared.call.Call.TheVariants.{Read, Scan, Poll, Look, Ship, Again}
 use Rattle.anti_kind.specs.declared.call.Reply.{Reply}
-use Rattle.anti_kind.specs.declared.call.Reply.TheVariants.{Shown, Pulled}
+use Rattle.anti_kind.specs.declared.call.Reply.TheVariants.{Shown, Missing, Pulled}
 use Rattle.anti_kind.specs.declared.entry.Entry.{Entry}
 use Rattle.anti_kind.specs.declared.row.Row.{Row}
 use Rattle.anti_kind.specs.Kinds.{facts_of}
@@ -38,6 +38,18 @@ abbrev pub LooksRight : Store → Type 0
 LooksRight s =
     (h : List Entry) → IsLegal (store s) h → (g : ℕ) (ids : List WriteId) (dry : Bool) (id : WriteId)
     → Contains (named_missing (due (store s) h (Look g ids dry))) id ↔ (Contains ids id × (is_visible s h g id ≡ false))
+
+-- the call is a look at the region for these ids, and its entry says that it found each
+pub record FindsAll (g : ℕ) (ids : List WriteId) (look : Entry) : Type 0 where
+  pub dry : Bool
+  pub call : look.call ≡ Look g ids dry
+  pub reply : look.reply ≡ Missing [] []
+
+-- What a look found is visible at its region from then on, and of its key the region shows that version or a later one.
+abbrev pub FoundStays : Store → Type 0
+FoundStays s =
+    (h rest : List Entry) (look : Entry) (g : ℕ) (ids : List WriteId) → IsLegal (store s) (h ++ look ∷ rest) → FindsAll g ids look
+    → All (λ id. (is_visible s (h ++ look ∷ rest) g id ≡ true) × (id.version ≤ (shown_row s (h ++ look ∷ rest) g id.key).version)) ids
 
 -- Reads.
 

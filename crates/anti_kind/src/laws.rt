@@ -3,7 +3,7 @@ ghost use Rattle.std.specs.Prelude.{List, []};
 ghost use Rattle.anti_kind.specs.declared.entry.Entry.{Entry};
 ghost use Rattle.anti_kind.specs.Store.{Store};
 ghost use Rattle.anti_kind.specs.Objects.{store};
-ghost use Rattle.anti_kind.specs.Laws.{LooksRight, OwnAfter, OwnIdsWritten, RowsHaveSources, VersionsGrow, CallsNameOwn, NextIsReady, NoneIsReady, KeepsLaws, ShowsAsItsKind};
+ghost use Rattle.anti_kind.specs.Laws.{LooksRight, OwnAfter, OwnIdsWritten, RowsHaveSources, VersionsGrow, CallsNameOwn, NextIsReady, NoneIsReady, FoundStays, KeepsLaws, ShowsAsItsKind};
 ghost use Rattle.anti_kind.specs.Waiting.{NoneLeftGoesOn, NoneStaleGoesOn, StaleIsReady, WaitingGoesOn, WaitingIsNotReady};
 ghost use Rattle.anti_kind.specs.Fulls.{ShowsStay, UnitsAddUp, UnitsSuffice, NeedNeverFalls, FullStaysFull, AskingStaysReady};
 
@@ -20,6 +20,11 @@ pub fn looks_are_right()
 /// The laws of a kind hold of each store whose regions show what its kind has them show.
 pub fn stores_keep_laws()
     ensures { (s : Store) → ShowsAsItsKind s → KeepsLaws s }
+{}
+
+/// What a look found is visible at its region whatever comes behind it, and a read there shows that version of its key or a later one.
+pub fn what_was_found_stays()
+    ensures { (s : Store) → KeepsLaws s → FoundStays s }
 {}
 
 /// What is held and owed after an entry is what it was before and what the entry's call needed.

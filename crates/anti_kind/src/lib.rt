@@ -13,8 +13,10 @@ mod laws;
 mod lone;
 mod machine;
 mod message;
+mod pair;
 mod port;
 mod recorded;
+mod refusal;
 mod row;
 mod store_kind;
 
@@ -29,12 +31,14 @@ pub use laws::{
     asking_stays_ready, calls_name_own, full_stays_full, looks_are_right, need_never_falls,
     next_is_ready, none_is_ready, none_left_goes_on, none_stale_goes_on, own_after,
     rows_have_sources, shows_stay, stale_is_ready, stores_keep_laws, units_add_up, units_suffice,
-    versions_grow, waiting_goes_on, waiting_is_not_ready,
+    versions_grow, waiting_goes_on, waiting_is_not_ready, what_was_found_stays,
 };
 pub use lone::Lone;
 pub use machine::Machine;
 pub use message::{Message, MessageKind, Messages};
+pub use pair::Pair;
 pub use port::{Answer, Port, WaitPort};
-pub use recorded::{Recorded, Refusal};
+pub use recorded::Recorded;
+pub use refusal::Refusal;
 pub use row::{Row, Rows};
 pub use store_kind::{Facts, StoreKind, Sub};

@@ -3,7 +3,6 @@ ghost use Rattle.anti_kind.specs.Objects.{IsLegal};
 ghost use Rattle.anti_kind.specs.Shipments.{IsShip};
 ghost use Rattle.anti_kind.specs.Machines.{StandsFor};
 ghost use Rattle.anti_kind.specs.Ports.{Answered};
-ghost use Rattle.anti_kind.specs.Records.{Goes};
 ghost use Rattle.anti_kind.specs.Lones.{AreOwn, IsNumbered, lone_start, lone_view};
 
 use crate::actor::Actor;
@@ -13,6 +12,7 @@ use crate::entry::History;
 use crate::machine::Machine;
 use crate::port::{Answer, Port};
 use crate::recorded::Recorded;
+use crate::refusal::Refusal;
 use anti_ids::NoMemory;
 use std::alloc::Global;
 use std::marker::Model;
@@ -79,26 +79,28 @@ impl<M: Machine> Lone<M> {
 }
 
 impl<M: Machine> Port for Lone<M> {
+    type Rest = ();
+
     ghost start = { lone_start M.start };
 
     ghost view = { lone_view };
+
+    ghost rest = { λ _. tt };
 
     fn has(&self, object: u32) -> bool {
         object == self.object
     }
 
-    /// As every port's call, and memory is wanted only for a call that is ready, fits and has a stamp. The visits are the number of calls on
-    /// the object.
+    /// As every port's call. The visits are the number of calls on the object.
     fn call(&mut self, object: u32, actor: Actor, span: u32, clock: u64, c: Call) -> Answer
         ensures answer { Answered (lone_start M.start self.old object) (record { object = object; actor = actor; span = span; clock = clock; call = c }) (lone_view self.old object) (lone_view self.new object) result }
         ensures others { (o : ℕ) → (o ≡ object → ⊥) → lone_view self.new o ≡ lone_view self.old o }
         ensures fixed { (o : ℕ) → lone_start M.start self.new o ≡ lone_start M.start self.old o }
         ensures ship { IsShip c → result ≡ Answer.NoMemory → ⊥ }
-        ensures memory { result ≡ Answer.NoMemory → Goes (M.start self.old.machine) self.old.history (record { object = object; actor = actor; span = span; clock = clock; call = c }) }
         ensures visits { object ≡ self.old.object → self.new.visits ≡ min (self.old.visits + 1) (2 ^ 64 - 1) }
     {
         if object != self.object {
-            return Answer::NotYet;
+            return Answer::Refused(Refusal::NotYet);
         }
         self.visits = self.visits.saturating_add(1);
         let asking = Asking {

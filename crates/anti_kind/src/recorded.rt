@@ -3,7 +3,8 @@ ghost use Rattle.anti_kind.specs.Objects.{Follows, IsLegal, Start, due, fits, la
 ghost use Rattle.anti_kind.specs.Shipments.{IsShip};
 ghost use Rattle.anti_kind.specs.Machines.{StandsFor};
 ghost use Rattle.anti_kind.specs.Entries.{entry_of};
-ghost use Rattle.anti_kind.specs.Records.{Gives, Goes, IsRefusal};
+ghost use Rattle.anti_kind.specs.Ports.{Goes, IsRefusal};
+ghost use Rattle.anti_kind.specs.Records.{Gives};
 
 use crate::actor::Birth;
 use crate::asking::Asking;
@@ -11,24 +12,10 @@ use crate::call::{Call, Reply};
 use crate::entry::{Entry, History};
 use crate::machine::Machine;
 use crate::port::Answer;
+use crate::refusal::Refusal;
 use anti_ids::{Copies, List, MOST_UNITS, NoMemory};
 use std::alloc::Global;
 use std::marker::Model;
-use thiserror::Error;
-
-/// Why a call can't be made now. `NotYet` comes first, then `Full`, then `Spent`.
-#[derive(Clone, Copy, Debug, PartialEq, Eq, Error)]
-pub enum Refusal {
-    /// The call is not ready.
-    #[error("the call is not ready")]
-    NotYet,
-    /// It is ready, and the three numbers of units are together more than an object has.
-    #[error("the object holds {held} units, owes {owed}, and the call needs {need}")]
-    Full { held: u32, owed: u32, need: u32 },
-    /// It is ready and fits, and the greater of the two clocks, the asker's and the object's, is the last stamp there is.
-    #[error("no stamp is left after {clock}")]
-    Spent { clock: u64 },
-}
 
 /// A machine with the history of the calls that were made on it. It keeps the last stamp, and room in the history for the
 /// entries of all calls that units are reserved for.
@@ -209,7 +196,7 @@ impl<M: Machine> Recorded<M> {
         ensures gives { Gives (M.start self.old.machine) self.old.history seat asking self.new.history result }
         ensures start { M.start self.new.machine ≡ M.start self.old.machine }
         ensures legal { IsLegal (M.start self.old.machine) self.new.history }
-        ensures waits { result ≡ Answer.NotYet → ⊥ }
+        ensures waits { result ≡ Answer.Refused Refusal.NotYet → ⊥ }
         ensures ship { IsShip asking.call → result ≡ Answer.NoMemory → ⊥ }
     {
         let Ok(reply) = self.due(&asking.call) else {
@@ -236,7 +223,7 @@ impl<M: Machine> Recorded<M> {
     /// ready is given back. Of a `Ship` it takes no memory.
     pub fn offer(&mut self, seat: u32, asking: Asking) -> Result<Answer, Asking>
         ensures gives { IfOk result (λ answer. Gives (M.start self.old.machine) self.old.history seat asking self.new.history answer) }
-        ensures waits { IfOk result (λ answer. answer ≡ Answer.NotYet → ⊥) }
+        ensures waits { IfOk result (λ answer. answer ≡ Answer.Refused Refusal.NotYet → ⊥) }
         ensures back { IfErr result (λ back. back ≡ asking) }
         ensures not_yet { OnErr result (ready (M.start self.old.machine) self.old.history asking.call ≡ false) }
         ensures same { OnErr result (self.new.history ≡ self.old.history) }
@@ -248,8 +235,7 @@ impl<M: Machine> Recorded<M> {
         match self.judge(&asking) {
             Ok(room) => Ok(self.go(seat, asking, room)),
             Err(Refusal::NotYet) => Err(asking),
-            Err(Refusal::Full { held, owed, need }) => Ok(Answer::Full { held, owed, need }),
-            Err(Refusal::Spent { clock }) => Ok(Answer::Spent { clock }),
+            Err(refusal) => Ok(Answer::Refused(refusal)),
         }
     }
 
@@ -264,7 +250,7 @@ impl<M: Machine> Recorded<M> {
     {
         match self.offer(seat, asking) {
             Ok(answer) => answer,
-            Err(_) => Answer::NotYet,
+            Err(_) => Answer::Refused(Refusal::NotYet),
         }
     }
 }

@@ -5,11 +5,12 @@ use Rattle.std.proofs.Math.Nat.{le_trans, mul-le-mul_right}
 use Rattle.std.proofs.lemmas.List.{get_or_default}
 use Rattle.anti_ids.specs.declared.limits.TheConstants.{MOST_UNITS}
 use Rattle.anti_kind.specs.declared.asking.Asking.{Asking}
-use Rattle.anti_kind.specs.declared.recorded.Refusal.{Refusal}
-use Rattle.anti_kind.specs.declared.recorded.Refusal.TheVariants.{NotYet, Full, Spent}
+use Rattle.anti_kind.specs.declared.refusal.Refusal.{Refusal}
+use Rattle.anti_kind.specs.declared.refusal.Refusal.TheVariants.{NotYet, Full, Spent}
 use Rattle.anti_kind.specs.declared.entry.Entry.{Entry}
 use Rattle.anti_kind.specs.Objects.{Start, ready, last_stamp, need, owed}
-use Rattle.anti_kind.specs.Records.{Record, IsRefusal}
+use Rattle.anti_kind.specs.Ports.{IsRefusal}
+use Rattle.anti_kind.specs.Records.{Record}
 use Rattle.anti_app.specs.declared.app.App.{App}
 use Rattle.anti_app.specs.Sound.{is_sound}
 use Rattle.anti_app.proofs.SoundLemmas.{SoundApp, app_known}

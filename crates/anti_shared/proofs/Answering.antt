@@ -1,18 +1,18 @@
 -- What a pass is answered, from what the object answers under the turn.
-use Rattle.std.proofs.Common.{◌≡◌, ◌≢◌, ℕ, ◌+◌, ◌<◌, ◌≤◌, false, List, [], ◌∷◌, ◌++◌, map, Option, Some, refl, sym, ap, subst, ◌∙◌, append-nil, inl, arith}
+use Rattle.std.proofs.Common.{◌≡◌, ◌≢◌, ℕ, ◌+◌, ◌<◌, ◌≤◌, List, [], ◌∷◌, ◌++◌, map, Option, Some, refl, sym, ap, subst, ◌∙◌, append-nil, inl, arith}
 use Rattle.std.proofs.lemmas.List.Elements.{All-nil, All-cons}
 use Rattle.anti_kind.specs.declared.asking.Asking.{Asking}
 use Rattle.anti_kind.specs.declared.entry.Entry.{Entry}
 use Rattle.anti_kind.specs.declared.port.Answer.{Answer}
-use Rattle.anti_kind.specs.declared.port.Answer.TheVariants.{Made, NotYet, Full, Spent, NoMemory}
-use Rattle.anti_kind.specs.Objects.{Start, ready, IsLegal}
+use Rattle.anti_kind.specs.declared.port.Answer.TheVariants.{Made, Refused, NoMemory}
+use Rattle.anti_kind.specs.Objects.{Start, IsLegal}
 use Rattle.anti_kind.specs.Shipments.{upto}
-use Rattle.anti_kind.specs.Ports.{View, IsRefused, Answers, Answered}
+use Rattle.anti_kind.specs.Ports.{View, IsRefused, Goes, Answers, Answered}
 use Rattle.anti_kind.specs.Entries.{entry_of}
-use Rattle.anti_kind.specs.Records.{Gives, Goes}
+use Rattle.anti_kind.specs.Records.{Gives}
 use Rattle.anti_turn.specs.Lists.{times, IsFront, GoesOn, Adds}
 use Rattle.anti_turn.proofs.Fronts.{entries_of_others}
-use Rattle.anti_shared.specs.Passes.{GoesFrom, seat_of, calls_of}
+use Rattle.anti_shared.specs.Passes.{seat_of, calls_of}
 use Rattle.anti_shared.specs.inner.Seating.{ended_in}
 use Rattle.anti_shared.specs.inner.Reaching.{upto_rises}
 use Rattle.anti_shared.proofs.Numbered.{times_first, times_later, ended_same, calls_more}
@@ -30,9 +30,7 @@ module _ (start : Start) (q : Asking) (n : ℕ) (found left : List Entry) where
   adds (Made place stamp reply) gives =
       let e = entry_of q n place stamp reply in
       record { more = e ∷ []; whole = gives.2; own = All-cons (λ (e : Entry). seat_of e ≡ n) e [] refl (All-nil (λ (e : Entry). seat_of e ≡ n)) }
-  adds NotYet gives = adds_none gives.0
-  adds (Full a b c) gives = adds_none gives.0
-  adds (Spent clock) gives = adds_none gives.0
+  adds (Refused refusal) gives = adds_none gives.0
   adds NoMemory gives = adds_none gives.0
 
   -- what the history had reached it has reached still
@@ -40,17 +38,6 @@ module _ (start : Start) (q : Asking) (n : ℕ) (found left : List Entry) where
   reached_still a gives region most there =
       let more = adds a gives in
       subst (λ (h : List Entry). most ≤ upto start h region) (sym more.whole) (let rises = upto_rises start region found more.more in omega arith)
-
-  wants : (a : Answer) → Gives start found n q left a → a ≡ NoMemory → Goes start left q
-  wants (Made place stamp reply) gives is = absurd (cc)
-  wants NotYet gives is = absurd (cc)
-  wants (Full a b c) gives is = absurd (cc)
-  wants (Spent clock) gives is = absurd (cc)
-  wants NoMemory gives is = subst (λ (h : List Entry). Goes start h q) (sym gives.0) gives.1
-
-  -- memory is wanted only for what can be done
-  pub wanted : (s : Option Start) → s ≡ Some start → (a : Answer) → Gives start found n q left a → a ≡ NoMemory → GoesFrom s left q
-  wanted s is a gives wanting = subst (λ (t : Option Start). GoesFrom t left q) (sym is) (wants a gives wanting)
 
   module _ (seen : List Entry) (ended : List ℕ) (visits : ℕ) (goes : GoesOn seat_of (n ∷ ended) seen found) where
     mine : calls_of n found ≡ calls_of n seen
@@ -79,10 +66,13 @@ module _ (start : Start) (q : Asking) (n : ℕ) (found left : List Entry) where
             },
           ),
         )
-    answers NotYet gives = (refused gives.0, subst (λ (h : List Entry). ready start h q.call ≡ false) (sym gives.0) gives.1)
-    answers (Full a b c) gives = (refused gives.0, rw gives.0 gives.1)
-    answers (Spent clock) gives = (refused gives.0, rw gives.0 gives.1)
-    answers NoMemory gives = record { front = (refused gives.0).front; made = (refused gives.0).made; visits = omega arith }
+    answers (Refused refusal) gives = (refused gives.0, rw gives.0 gives.1)
+    answers NoMemory gives = record {
+      front = (refused gives.0).front;
+      made = (refused gives.0).made;
+      visits = omega arith;
+      goes = subst (λ (h : List Entry). Goes start h q) (sym gives.0) gives.1;
+    }
 
     pub answered : (s : Option Start) → s ≡ Some start → (a : Answer) → Gives start found n q left a → IsLegal start seen → IsLegal start left
         → Answered s q (sight n seen visits) (sight n left (visits + 1)) a

@@ -3,7 +3,7 @@ use Rattle.std.proofs.Common.{◌≡◌, ◌≢◌, IfSome, ℕ, zero, suc, repl
 use Rattle.std.proofs.lemmas.Bool.{cases_eq}
 use Rattle.std.proofs.lemmas.List.{map-append}
 use Rattle.anti_kind.specs.declared.entry.Entry.{Entry}
-use Rattle.anti_kind.specs.Objects.{Start, store, inbox, IsLegal}
+use Rattle.anti_kind.specs.Objects.{Start, IsLegal}
 use Rattle.anti_kind.specs.Shipments.{upto}
 use Rattle.anti_turn.specs.Lists.{times, top, longer_of, GoesOn}
 use Rattle.anti_turn.specs.Places as turn

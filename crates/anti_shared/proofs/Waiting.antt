@@ -4,7 +4,8 @@ use Rattle.anti_ids.specs.Counts.{Rose}
 use Rattle.anti_kind.specs.declared.asking.Asking.{Asking}
 use Rattle.anti_kind.specs.declared.entry.Entry.{Entry}
 use Rattle.anti_kind.specs.declared.port.Answer.{Answer}
-use Rattle.anti_kind.specs.declared.port.Answer.TheVariants.{Made, NotYet, Full, Spent, NoMemory}
+use Rattle.anti_kind.specs.declared.port.Answer.TheVariants.{Made, Refused, NoMemory}
+use Rattle.anti_kind.specs.declared.refusal.Refusal.TheVariants.{NotYet}
 use Rattle.anti_kind.specs.Objects.{Start, IsLegal}
 use Rattle.anti_kind.specs.Ports.{View, IsRefused, Answers, Answered}
 use Rattle.anti_kind.specs.Entries.{entry_of}
@@ -51,25 +52,24 @@ module _ (start : Start) (q : Asking) (old now new : View) (since : Since old no
       },
     ),
   )
-  answers_since NotYet answers = (refused_since answers.0, answers.1)
-  answers_since (Full a b c) answers = (refused_since answers.0, answers.1)
-  answers_since (Spent clock) answers = (refused_since answers.0, answers.1)
+  answers_since (Refused refusal) answers = (refused_since answers.0, answers.1)
   answers_since NoMemory answers = record {
     front = front_trans old.seen now.seen new.seen since.front answers.front;
     made = answers.made ∙ since.made;
     visits = omega (arith, since.visits, answers.visits);
+    goes = answers.goes;
   }
 
 legal_since : (start : Start) (xs ys : List Entry) → IsFront xs ys → IsLegal start ys → IsLegal start xs
 legal_since start xs ys front legal = legal_front start xs front.0 (subst (IsLegal start) front.1 legal)
 
-answered_since : (s : Option Start) (q : Asking) (old now new : View) (a : Answer) → Since old now → (a ≡ NotYet → ⊥) → Answered s q now new a → Answered s q old new a
+answered_since : (s : Option Start) (q : Asking) (old now new : View) (a : Answer) → Since old now → (a ≡ Refused NotYet → ⊥) → Answered s q now new a → Answered s q old new a
 answered_since None q old now new a since waits answered = absurd (waits answered.0)
 answered_since (Some start) q old now new a since waits answered =
     (answers_since start q old now new since a answered.0, legal_since start old.seen now.seen since.front answered.1, answered.2)
 
 -- nothing was made yet
-still_front : (s : Option Start) (q : Asking) (old new : View) → Answered s q old new NotYet → IsFront old.seen new.seen × (new.made ≡ old.made)
+still_front : (s : Option Start) (q : Asking) (old new : View) → Answered s q old new (Refused NotYet) → IsFront old.seen new.seen × (new.made ≡ old.made)
 still_front None q old new answered = subst (λ (v : View). IsFront old.seen v.seen × (v.made ≡ old.made)) (sym answered.1) (front_self old.seen, refl)
 still_front (Some start) q old new answered = (answered.0.0.front, answered.0.0.made)
 
@@ -80,7 +80,7 @@ module _ {M : Type 0} (start : M → Start) where
   pub waits_first : (pass : PassView M) → Waits pass pass
   waits_first pass = record { front = front_self pass.seen; now_is = refl; visits = omega arith }
 
-  pub waits_on : (q : Asking) (old now new : PassView M) → Waits old now → Answered (start_of start now.id) q (view_of now) (view_of new) NotYet
+  pub waits_on : (q : Asking) (old now new : PassView M) → Waits old now → Answered (start_of start now.id) q (view_of now) (view_of new) (Refused NotYet)
       → new ≡ after_call now new.seen new.mine new.raised → Waits old new
   waits_on q old now new w answered is =
       let s = still_front (start_of start now.id) q (view_of now) (view_of new) answered in
@@ -92,7 +92,7 @@ module _ {M : Type 0} (start : M → Start) where
         visits = omega (arith, w.visits);
       }
 
-  pub since_answered : (q : Asking) (old now new : PassView M) (a : Answer) → Waits old now → (a ≡ NotYet → ⊥) → Answered (start_of start now.id) q (view_of now) (view_of new) a
+  pub since_answered : (q : Asking) (old now new : PassView M) (a : Answer) → Waits old now → (a ≡ Refused NotYet → ⊥) → Answered (start_of start now.id) q (view_of now) (view_of new) a
       → Answered (start_of start old.id) q (view_of old) (view_of new) a
   since_answered q old now new a w waits answered =
       subst (λ (i : Identity M). Answered (start_of start i) q (view_of old) (view_of new) a) (ap (λ (p : PassView M). p.id) w.now_is)

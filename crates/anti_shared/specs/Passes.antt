@@ -1,11 +1,9 @@
 -- What contracts see of a shared object and of a pass, and what the calls make of them.
 use Rattle.std.specs.Prelude.{◌≡◌, ℕ, ◌+◌, ◌-◌, ◌/◌, ◌<◌, ◌≤◌, ◌==◌, cond, Bool, false, List, [], ◌∷◌, ◌++◌, map, option_map, All, Option, None, Some}
-use Rattle.anti_kind.specs.declared.asking.Asking.{Asking}
 use Rattle.anti_kind.specs.declared.entry.Entry.{Entry}
 use Rattle.anti_kind.specs.Objects.{Start, IsLegal}
 use Rattle.anti_kind.specs.Shipments.{upto}
 use Rattle.anti_kind.specs.Ports.{View}
-use Rattle.anti_kind.specs.Records.{Goes}
 use Rattle.anti_turn.specs.Lists.{times, top, longer_of, entries_of, IsFront}
 use Rattle.anti_turn.specs.Places.{TableId}
 
@@ -67,11 +65,6 @@ ended_number pair = pair.0
 abbrev pub LegalFrom : Option Start → List Entry → Type 0
 LegalFrom None h = ⊥
 LegalFrom (Some start) h = IsLegal start h
-
--- what is asked can be done behind the history, from the start that there is
-abbrev pub GoesFrom : Option Start → List Entry → Asking → Type 0
-GoesFrom None h q = ⊥
-GoesFrom (Some start) h q = Goes start h q
 
 -- how many versions, from the first on, are whole at a region, from the start that there is
 abbrev pub upto_from : Option Start → List Entry → ℕ → ℕ
@@ -152,6 +145,10 @@ with_load pass region n = record pass { loaded = (region, n) ∷ pass.loaded; lo
 -- the pass after calls: all else stays
 abbrev pub after_calls : {M : Type 0} → PassView M → List Entry → List Entry → List (ℕ × ℕ) → ℕ → PassView M
 after_calls pass seen mine raised visits = record pass { seen = seen; mine = mine; raised = raised; visits = visits }
+
+-- all of a pass but what calls change
+abbrev pub rest_of : {M : Type 0} → PassView M → PassView M
+rest_of pass = after_calls pass [] [] [] 0
 
 -- the pass after one call: it has given the turn back once more
 abbrev pub after_call : {M : Type 0} → PassView M → List Entry → List Entry → List (ℕ × ℕ) → PassView M

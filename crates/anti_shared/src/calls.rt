@@ -1,12 +1,12 @@
 ghost use Rattle.std.specs.Prelude.{◌≡◌, All, None, IfNone, IfSome};
 ghost use Rattle.anti_kind.specs.Shipments.{IsShip};
 ghost use Rattle.anti_kind.specs.Ports.{Answered};
-ghost use Rattle.anti_shared.specs.Passes.{GoesFrom, HasLoaded, after_call, after_calls, start_of, view_of};
+ghost use Rattle.anti_shared.specs.Passes.{HasLoaded, after_call, after_calls, start_of, view_of};
 
 use crate::marking::tell;
 use crate::pass::Pass;
 use crate::shared::Shared;
-use anti_kind::{Actor, Answer, Asking, Call, Machine};
+use anti_kind::{Actor, Answer, Asking, Call, Machine, Refusal};
 use std::sync::Wait;
 use std::thread;
 
@@ -24,12 +24,11 @@ impl<M: Machine> Shared<M> {
         requires object { asking.object ≡ self.now.id.object }
         requires none { waiting.old ≡ None }
         ensures answered { Answered (start_of M.start pass.old.id) asking (view_of pass.old) (view_of pass.new) result }
-        ensures waits { IfNone waiting.new (result ≡ Answer.NotYet → ⊥) }
-        ensures back { IfSome waiting.new (λ back. (back ≡ asking) × (result ≡ Answer.NotYet)) }
+        ensures waits { IfNone waiting.new (result ≡ Answer.Refused Refusal.NotYet → ⊥) }
+        ensures back { IfSome waiting.new (λ back. (back ≡ asking) × (result ≡ Answer.Refused Refusal.NotYet)) }
         ensures pass { pass.new ≡ after_call pass.old pass.new.seen pass.new.mine pass.new.raised }
         ensures own { All (λ e. e.seat ≡ pass.old.number) pass.new.mine }
         ensures loaded { HasLoaded M.start pass.old pass.new.seen }
-        ensures memory { result ≡ Answer.NoMemory → GoesFrom (start_of M.start pass.old.id) pass.new.seen asking }
         ensures ship { IsShip asking.call → result ≡ Answer.NoMemory → ⊥ }
     {
         let number = pass.seat.number();
@@ -57,7 +56,6 @@ impl<M: Machine> Shared<M> {
         ensures pass { pass.new ≡ after_call pass.old pass.new.seen pass.new.mine pass.new.raised }
         ensures own { All (λ e. e.seat ≡ pass.old.number) pass.new.mine }
         ensures loaded { HasLoaded M.start pass.old pass.new.seen }
-        ensures memory { result ≡ Answer.NoMemory → GoesFrom (start_of M.start pass.old.id) pass.new.seen (record { object = pass.old.id.object; actor = actor; span = span; clock = clock; call = c }) }
         ensures ship { IsShip c → result ≡ Answer.NoMemory → ⊥ }
     {
         let asking = Asking {
@@ -70,7 +68,7 @@ impl<M: Machine> Shared<M> {
         self.visit(rt, pass, asking, &mut None)
     }
 
-    /// Makes a call on the object once it is ready: it tries until then, and never answers `NotYet`. Memory is wanted only for a call that
+    /// Makes a call on the object once it is ready: it tries until then, and is never refused as not ready. Memory is wanted only for a call that
     /// is ready, fits and has a stamp, and never for a `Ship`.
     pub fn call_wait<R: Wait>(
         &self,
@@ -83,11 +81,10 @@ impl<M: Machine> Shared<M> {
     ) -> Answer
         requires { pass.old.id ≡ self.now.id }
         ensures answer { Answered (start_of M.start pass.old.id) (record { object = pass.old.id.object; actor = actor; span = span; clock = clock; call = c }) (view_of pass.old) (view_of pass.new) result }
-        ensures waits { result ≡ Answer.NotYet → ⊥ }
+        ensures waits { result ≡ Answer.Refused Refusal.NotYet → ⊥ }
         ensures pass { pass.new ≡ after_calls pass.old pass.new.seen pass.new.mine pass.new.raised pass.new.visits }
         ensures own { All (λ e. e.seat ≡ pass.old.number) pass.new.mine }
         ensures loaded { HasLoaded M.start pass.old pass.new.seen }
-        ensures memory { result ≡ Answer.NoMemory → GoesFrom (start_of M.start pass.old.id) pass.new.seen (record { object = pass.old.id.object; actor = actor; span = span; clock = clock; call = c }) }
         ensures ship { IsShip c → result ≡ Answer.NoMemory → ⊥ }
     {
         let mut asking = Asking {

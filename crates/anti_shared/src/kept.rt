@@ -8,7 +8,7 @@ ghost use Rattle.anti_shared.specs.inner.Keeping.{AreOf};
 ghost use Rattle.anti_shared.specs.inner.Marks.{AreOver, AreRisen, AreUpto};
 
 use anti_ids::{MOST_REGIONS, NoMemory};
-use anti_kind::{Answer, Asking, Entry, History, Machine, Recorded};
+use anti_kind::{Answer, Asking, Entry, History, Machine, Recorded, Refusal};
 use anti_turn::Listed;
 use std::alloc::{AllocFailed, Global};
 use std::marker::Model;
@@ -141,8 +141,8 @@ impl<M: Machine> Kept<M> {
         requires object { asking.object ≡ self.old.object }
         requires none { waiting.old ≡ None }
         ensures gives { Gives (M.start self.old.first) self.old.history seat asking self.new.history result }
-        ensures waits { IfNone waiting.new (result ≡ Answer.NotYet → ⊥) }
-        ensures back { IfSome waiting.new (λ back. (back ≡ asking) × (result ≡ Answer.NotYet)) }
+        ensures waits { IfNone waiting.new (result ≡ Answer.Refused Refusal.NotYet → ⊥) }
+        ensures back { IfSome waiting.new (λ back. (back ≡ asking) × (result ≡ Answer.Refused Refusal.NotYet)) }
         ensures object { self.new.object ≡ self.old.object }
         ensures first { self.new.first ≡ self.old.first }
         ensures before { IsLegal (M.start self.old.first) self.old.history }
@@ -153,7 +153,7 @@ impl<M: Machine> Kept<M> {
             Ok(answer) => answer,
             Err(back) => {
                 *waiting = Some(back);
-                Answer::NotYet
+                Answer::Refused(Refusal::NotYet)
             }
         }
     }

@@ -12,6 +12,8 @@ use Rattle.anti_kind.specs.declared.call.Reply.{Reply}
 use Rattle.anti_kind.specs.declared.call.Reply.TheVariants.{Missing}
 use Rattle.anti_kind.specs.declared.port.Answer.{Answer}
 use Rattle.anti_kind.specs.declared.port.Answer.TheVariants as port
+use Rattle.anti_kind.specs.declared.refusal.Refusal.{Refusal}
+use Rattle.anti_kind.specs.declared.refusal.Refusal.TheVariants.{NotYet}
 use Rattle.anti_kind.specs.Objects.{Start}
 use Rattle.anti_kind.specs.Ports.{View, Answered}
 use Rattle.anti_kind.specs.Entries.{named}
@@ -19,7 +21,7 @@ use Rattle.anti_shim.specs.declared.barrier_answer.BarrierAnswer.{BarrierAnswer}
 use Rattle.anti_shim.specs.declared.caller.Caller.{Caller}
 use Rattle.anti_shim.specs.declared.caller.Made.{Made}
 use Rattle.anti_shim.specs.declared.fault.ShimFault.{ShimFault}
-use Rattle.anti_shim.specs.declared.fault.ShimFault.TheVariants.{NotYet, Full, Spent, Unwritten, LineageFull, NoMemory}
+use Rattle.anti_shim.specs.declared.fault.ShimFault.TheVariants.{Refused, Unwritten, LineageFull, NoMemory}
 use Rattle.anti_shim.specs.declared.barrier_answer.BarrierAnswer.TheVariants as answers
 use Rattle.anti_shim.specs.declared.looks.PlannedLook.{PlannedLook}
 use Rattle.anti_shim.specs.declared.sight.Sight.{Sight}
@@ -27,10 +29,10 @@ use Rattle.anti_shim.specs.Steps.{Step, asking, IsAsked, MayAsk, IsAdded}
 use Rattle.anti_shim.specs.Shims.{SeeGives, Sees}
 use Rattle.anti_shim.specs.Sights.{has_sight, unseen, HasSights}
 use Rattle.anti_shim.specs.Looks.{IsLookedAt, SomeLook, OnlyLooks}
-use Rattle.anti_shim.specs.Barriers.{sights_after, sight_of, KeepsSights, BarrierGives, BarrierDoes}
+use Rattle.anti_shim.specs.Barriers.{sights_after, sight_of, KeepsSights, NotRefused, idle, found, wanted, BarrierGives, BarrierDoes}
 use Rattle.anti_shim.specs.inner.Looks.{Keeps, LooksOnce, IsRefusal}
 use Rattle.anti_shim.proofs.NextCall.{none_more, nothing, Entered, entered, answered_made, none_added, last, whole, idle_more}
-use Rattle.anti_shim.proofs.LookLemmas.{IsRight, misses, looked_whole, no_looks, only_more, Refuses, refuses, not_yet, full, spent, no_memory}
+use Rattle.anti_shim.proofs.LookLemmas.{IsRight, misses, look_stays, looked_whole, no_looks, only_more, Refuses, refuses, refused, wanting, not_asked}
 use Rattle.anti_shim.proofs.SightLemmas.{has_still, has_last, none_before, none_last, sights_stay, sights_more, sights_of}
 
 -- What holds after some looks, also after one that was refused.
@@ -80,11 +82,12 @@ contains_at p [] x k within is passes = absurd (omega arith)
 contains_at p (y ∷ ys) x zero within is passes = kept_first (p y) y x (filter p ys) (ap p is ∙ passes) is
 contains_at p (y ∷ ys) x (suc k) within is passes = kept_or_not (p y) y x (filter p ys) (contains_at p ys x k (omega arith) is passes)
 
--- The next look, of a store of which there is no sight.
+-- The next look, of a store of which there is no sight, where none so far was refused.
 
 pub record Turn (s : Step) (region : ℕ) (planned : List PlannedLook) (given sights : List Sight) (i : ℕ) (look : PlannedLook) : Type 0 where
   pub right : All (IsRight s.starts region) planned
   pub went : Went s region planned given sights
+  pub not_refused : (o : ℕ) → NotRefused s region (unseen given planned) o
   pub unasked : Unasked s sights
   pub covered : All (λ l. has_sight sights l.store ≡ true) (take i planned)
   pub within : i < length planned
@@ -110,6 +113,23 @@ module _ {s : Step} {region : ℕ} {planned : List PlannedLook} {given sights : 
   other o there is = let none : has_sight sights o ≡ false = subst (λ (n : ℕ). has_sight sights n ≡ false) (sym is) t.fresh in absurd (cc)
 
   module _ {new : ℕ → View} {next : Caller} where
+    abbrev the_look : (clock : ℕ) (answer : Answer) → IsLookedAt (last s new next) region false look clock answer → SomeLook (whole s new next) region false (unseen given planned) clock answer
+    the_look clock answer at = record { look = look; planned = is_unseen; looked = looked_whole s new next region false look clock answer same t.went.only.caller at }
+
+    not_refused_same : (o : ℕ) → new o ≡ s.new o → NotRefused s region (unseen given planned) o → NotRefused (whole s new next) region (unseen given planned) o
+    not_refused_same o is (idle untouched) = idle (is ∙ untouched)
+    not_refused_same o is (found {clock} {place} {stamp} l here) =
+        found (look_stays s new next region false (unseen given planned) o clock (port.Made place stamp (Missing [] [])) is l here) here
+    not_refused_same o is (wanted {clock} l here) = wanted (look_stays s new next region false (unseen given planned) o clock port.NoMemory is l here) here
+
+    -- where the look itself was not refused
+    not_refused_more : ((o : ℕ) → (o ≡ look.store → ⊥) → new o ≡ s.new o) → NotRefused (whole s new next) region (unseen given planned) look.store
+        → (o : ℕ) → NotRefused (whole s new next) region (unseen given planned) o
+    not_refused_more others its o =
+        ⊎_elim (λ (here : o ≡ look.store). subst (λ (n : ℕ). NotRefused (whole s new next) region (unseen given planned) n) (sym here) its)
+        (λ (off : o ≡ look.store → ⊥). not_refused_same o (others o off) (t.not_refused o))
+        (cases_eq o look.store)
+
     -- the sights after it, where each entry of it that found nothing missing has one
     keeps : (outcome : Result Made ShimFault) (more after : List Sight) → IsAsked (last s new next) look.store (Look region look.ids false) outcome → after ≡ sights ++ more
         → ((e : Entry) → IsAdded (last s new next) look.store e → e.reply ≡ Missing [] [] → Contains (sights ++ more) (sight_of look.store e))
@@ -198,16 +218,25 @@ module _ {s : Step} {region : ℕ} {planned : List PlannedLook} {given sights : 
     pub turn_went : {after : List Sight} {result : Result (Unit {0}) ShimFault} → LooksOnce (last s new next) region look sights after result → Went (whole s new next) region planned given after
     turn_went {after} {result} l = went_after after result l.sight l.seen.outcome l.seen.asked l.seen.gives l.kept
 
+    found_here : (made : Made) → IsAsked (last s new next) look.store (Look region look.ids false) (Ok made) → made.reply ≡ Missing [] []
+        → NotRefused (whole s new next) region (unseen given planned) look.store
+    found_here made asked said =
+        let call = Look region look.ids false in
+        let at = subst (λ (r : Reply). IsLookedAt (last s new next) region false look s.after.clock (port.Made made.place made.stamp r)) said (answered_made (last s new next) look.store call made asked) in
+        found (the_look s.after.clock (port.Made made.place made.stamp (Missing [] [])) at) refl
+
     -- a look whose sight was kept: only its store was asked, and has a sight now
     seen_after : (after : List Sight) (sight : Result Sight ShimFault) (outcome : Result Made ShimFault) → MayAsk (last s new next) look.store (Look region look.ids false) outcome
         → SeeGives look.store outcome sight → Keeps sights after sight (Ok tt)
-        → Unasked (whole s new next) after × All (λ l. has_sight after l.store ≡ true) (take (i + 1) planned)
+        → ((o : ℕ) → NotRefused (whole s new next) region (unseen given planned) o)
+        × Unasked (whole s new next) after × All (λ l. has_sight after l.store ≡ true) (take (i + 1) planned)
     seen_after after (Ok sight) (Ok made) (inl asked) gives kept =
         let store : sight.store ≡ look.store = ap (λ (x : Sight). x.store) gives.0 in
         let still : (l : PlannedLook) → has_sight sights l.store ≡ true → has_sight after l.store ≡ true =
         λ l there. ap (λ (xs : List Sight). has_sight xs l.store) kept.1 ∙ has_still sights sight l.store there in
         let here : has_sight after (get_or planned i look).store ≡ true =
         ap (λ (l : PlannedLook). has_sight after l.store) (sym t.is) ∙ ap (λ (xs : List Sight). has_sight xs look.store) kept.1 ∙ has_last sights sight look.store store in (
+          not_refused_more asked.others (found_here made asked gives.1),
           λ o none.
               let none_now : has_sight (sights ++ sight ∷ []) o ≡ false = ap (λ (xs : List Sight). has_sight xs o) (sym kept.1) ∙ none in
               asked.others o (λ is. none_last sights sight o none_now (store ∙ sym is)) ∙ t.unasked o (none_before sights (sight ∷ []) o none_now),
@@ -218,13 +247,15 @@ module _ {s : Step} {region : ℕ} {planned : List PlannedLook} {given sights : 
     seen_after after (Ok sight) (Err refusal) asked gives kept = let no : ◌≡◌ {A = Result Sight ShimFault} (Ok sight) (Err refusal) = gives in absurd (cc)
     seen_after after (Err fault) outcome asked gives kept = let no : ◌≡◌ {A = Result (Unit {0}) ShimFault} (Ok tt) (Err fault) = kept.0 in absurd (cc)
 
-    pub turn_seen : {after : List Sight} → LooksOnce (last s new next) region look sights after (Ok tt) → Unasked (whole s new next) after × All (λ l. has_sight after l.store ≡ true) (take (i + 1) planned)
+    pub turn_seen : {after : List Sight} → LooksOnce (last s new next) region look sights after (Ok tt)
+        → ((o : ℕ) → NotRefused (whole s new next) region (unseen given planned) o)
+        × Unasked (whole s new next) after × All (λ l. has_sight after l.store ≡ true) (take (i + 1) planned)
     turn_seen {after} l = seen_after after l.sight l.seen.outcome l.seen.asked l.seen.gives l.kept
 
 -- A look that gave a fault.
 
 pub data Fails (s : Step) (region : ℕ) (look : PlannedLook) : ShimFault → Type 0 where
-  refused : {fault : ShimFault} → Refuses s region false look fault → Fails s region look fault
+  not_made : {fault : ShimFault} → Refuses s region false look fault → Fails s region look fault
   unwritten : {id : WriteId} (clock place : ℕ) (missing further : List WriteId)
       → IsLookedAt s region false look clock (port.Made place s.after.clock (Missing missing (id ∷ further))) → Fails s region look (Unwritten id)
 
@@ -239,7 +270,7 @@ module _ {s : Step} {region : ℕ} {look : PlannedLook} {fault : ShimFault} wher
   fails_so (Ok made) (inr none) gives = let no : ◌≡◌ {A = Result Made ShimFault} (Ok made) (Err NoMemory) = none.1 in absurd (cc)
   fails_so (Err refusal) asked gives =
       let same : refusal ≡ fault = let is : ◌≡◌ {A = Result Sight ShimFault} (Err fault) (Err refusal) = gives in cc in
-      refused (refuses s region false look fault (subst (λ (f : ShimFault). MayAsk s look.store (Look region look.ids false) (Err f)) same asked))
+      not_made (refuses s region false look fault (subst (λ (f : ShimFault). MayAsk s look.store (Look region look.ids false) (Err f)) same asked))
 
   fails_at : (before after : List Sight) (sight : Result Sight ShimFault) → Sees s look.store region look.ids sight → Keeps before after sight (Err fault) → Fails s region look fault
   fails_at before after (Ok sight) seen kept = let no : ◌≡◌ {A = Result (Unit {0}) ShimFault} (Err fault) (Ok tt) = kept.0 in absurd (cc)
@@ -253,29 +284,33 @@ module _ {s : Step} {region : ℕ} {look : PlannedLook} {fault : ShimFault} wher
 
 -- the barrier's answer to it
 module _ {s : Step} {region : ℕ} {planned : List PlannedLook} {given sights : List Sight} {i : ℕ} {look : PlannedLook} (t : Turn s region planned given sights i look) where
-  abbrev the_look : (new : ℕ → View) (next : Caller) (clock : ℕ) (answer : Answer) → IsLookedAt (last s new next) region false look clock answer
-      → SomeLook (whole s new next) region false (unseen given planned) clock answer
-  the_look new next clock answer at = record { look = look; planned = is_unseen t; looked = looked_whole s new next region false look clock answer (same t) t.went.only.caller at }
-
   abbrev pub Tells : (ℕ → View) → Caller → List Sight → BarrierAnswer → Type 0
   Tells new next after answer = BarrierGives (whole s new next) region planned (unseen given planned) after answer × (sights_after answer after ≡ after)
 
   pub turn_gives : {fault : ShimFault} (new : ℕ → View) (next : Caller) (after : List Sight) → Fails (last s new next) region look fault → (answer : BarrierAnswer) → IsRefusal fault answer → Tells new next after answer
-  turn_gives new next after (refused (not_yet at)) answer is =
-      let one = the_look new next next.clock port.NotYet at in
-      subst (Tells new next after) (sym is) ((one, misses (whole s new next) region look (is_right t) next.clock one.looked), refl)
-  turn_gives new next after (refused (full {held} {owed} {need} at)) answer is = subst (Tells new next after) (sym is) (the_look new next next.clock (port.Full held owed need) at, refl)
-  turn_gives new next after (refused (spent {clock} at)) answer is = subst (Tells new next after) (sym is) (the_look new next next.clock (port.Spent clock) at, refl)
-  turn_gives new next after (refused no_memory) answer is = subst (Tells new next after) (sym is) (tt, refl)
+  turn_gives new next after (not_made (refused {refusal} at)) answer is =
+      let one = the_look t next.clock (port.Refused refusal) at in
+      subst (Tells new next after) (sym is) (
+        (
+          one,
+          λ not_yet. misses (whole s new next) region look (is_right t) next.clock (subst (λ (r : Refusal). IsLookedAt (whole s new next) region false look next.clock (port.Refused r)) not_yet one.looked),
+        ),
+        refl,
+      )
+  turn_gives new next after (not_made (wanting at others)) answer is =
+      subst (Tells new next after) (sym is) (not_refused_more t others (wanted (the_look t next.clock port.NoMemory at) refl), refl)
+  turn_gives new next after (not_made (not_asked none)) answer is =
+      subst (Tells new next after) (sym is) (idle_more s new next none (λ x. (o : ℕ) → NotRefused x region (unseen given planned) o) t.not_refused, refl)
   turn_gives new next after (unwritten {id} clock place missing further at) answer is =
-      let named = the_look new next clock (port.Made place next.clock (Missing missing (id ∷ further))) at in
+      let named = the_look t clock (port.Made place next.clock (Missing missing (id ∷ further))) at in
       subst (Tells new next after) (sym is) (record { clock = clock; place = place; missing = missing; further = further; look = named }, refl)
 
 -- only a fault that says so is answered as not ready
-pub not_refused_so : (fault : ShimFault) (answer : BarrierAnswer) → IsRefusal fault answer → (fault ≡ NotYet → ⊥) → answer ≡ answers.NotYet → ⊥
-not_refused_so NotYet answer is other said = other refl
-not_refused_so (Full held owed need) answer is other said = let no : answers.Full held owed need ≡ answers.NotYet = sym is ∙ said in absurd (cc)
-not_refused_so (Spent clock) answer is other said = let no : answers.Spent clock ≡ answers.NotYet = sym is ∙ said in absurd (cc)
-not_refused_so (Unwritten id) answer is other said = let no : answers.Unwritten id ≡ answers.NotYet = sym is ∙ said in absurd (cc)
+pub not_refused_so : (fault : ShimFault) (answer : BarrierAnswer) → IsRefusal fault answer → (fault ≡ Refused NotYet → ⊥) → answer ≡ answers.Refused NotYet → ⊥
+not_refused_so (Refused refusal) answer is other said =
+    let same : answers.Refused refusal ≡ answers.Refused NotYet = sym is ∙ said in
+    let which : refusal ≡ NotYet = cc in
+    other (ap Refused which)
+not_refused_so (Unwritten id) answer is other said = let no : answers.Unwritten id ≡ answers.Refused NotYet = sym is ∙ said in absurd (cc)
 not_refused_so (LineageFull id) answer is other said = is
-not_refused_so NoMemory answer is other said = let no : answers.NoMemory ≡ answers.NotYet = sym is ∙ said in absurd (cc)
+not_refused_so NoMemory answer is other said = let no : answers.NoMemory ≡ answers.Refused NotYet = sym is ∙ said in absurd (cc)

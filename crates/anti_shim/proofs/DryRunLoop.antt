@@ -14,6 +14,7 @@ use Rattle.anti_kind.specs.declared.call.Reply.{Reply}
 use Rattle.anti_kind.specs.declared.call.Reply.TheVariants.{Missing}
 use Rattle.anti_kind.specs.declared.port.Answer.{Answer}
 use Rattle.anti_kind.specs.declared.port.Answer.TheVariants as port
+use Rattle.anti_kind.specs.declared.refusal.Refusal.{Refusal}
 use Rattle.anti_kind.specs.Ports.{View, Answered}
 use Rattle.anti_shim.specs.declared.caller.Caller.{Caller}
 use Rattle.anti_shim.specs.declared.caller.Made.{Made}
@@ -25,7 +26,7 @@ use Rattle.anti_shim.specs.Looks.{looking, IsLookedAt, SomeLook, OnlyLooks}
 use Rattle.anti_shim.specs.DryRuns.{Names, union, DryRunGives}
 use Rattle.anti_shim.specs.inner.Looks.{IsMissing, SeesDry}
 use Rattle.anti_shim.proofs.NextCall.{last, whole, answered_made}
-use Rattle.anti_shim.proofs.LookLemmas.{IsRight, named_by, named_part, never_not_yet, looked_whole, only_more, Refuses, refuses, not_yet, full, spent, no_memory}
+use Rattle.anti_shim.proofs.LookLemmas.{IsRight, named_by, named_part, never_not_yet, looked_whole, only_more, Refuses, refuses, refused, wanting, not_asked}
 
 -- A store is as it was that none of the first looks is of.
 abbrev pub Untouched : Step → List PlannedLook → ℕ → Type 0
@@ -148,16 +149,18 @@ module _ {s : Step} {region : ℕ} {planned : List PlannedLook} {i : ℕ} {look 
           )
 
     -- a look that was refused
-    the_look : (clock : ℕ) (answer : Answer) → IsLookedAt (last s new next) region true look clock answer → SomeLook (whole s new next) region true planned clock answer
+    abbrev the_look : (clock : ℕ) (answer : Answer) → IsLookedAt (last s new next) region true look clock answer → SomeLook (whole s new next) region true planned clock answer
     the_look clock answer at = record { look = look; planned = is_planned; looked = looked_whole s new next region true look clock answer same t.only.caller at }
 
     gives_so : {fault : ShimFault} → Refuses (last s new next) region true look fault → DryRunGives (whole s new next) region planned (Err fault)
-    gives_so (not_yet at) =
-        absurd (never_not_yet (whole s new next) region look (All-contains (IsRight s.starts region) planned look t.right is_planned) next.clock
-        (looked_whole s new next region true look next.clock port.NotYet same t.only.caller at))
-    gives_so (full {held} {owed} {need} at) = the_look next.clock (port.Full held owed need) at
-    gives_so (spent {clock} at) = the_look next.clock (port.Spent clock) at
-    gives_so no_memory = tt
+    gives_so (refused {refusal} at) =
+        let one = the_look next.clock (port.Refused refusal) at in (
+          one,
+          λ is. never_not_yet (whole s new next) region look (All-contains (IsRight s.starts region) planned look t.right is_planned) next.clock
+              (subst (λ (r : Refusal). IsLookedAt (whole s new next) region true look next.clock (port.Refused r)) is one.looked),
+        )
+    gives_so (wanting at others) = tt
+    gives_so (not_asked idle) = tt
 
     refused_so : (fault : ShimFault) (outcome : Result Made ShimFault) → IsAsked (last s new next) look.store (Look region look.ids true) outcome
         → Gives IsMissing outcome (Err fault) → Refuses (last s new next) region true look fault

@@ -6,3 +6,6 @@ pub mod SightLemmas
 pub mod BarrierLoop
 pub mod DryRunLoop
 pub mod Carried
+pub mod Brought
+pub mod SeenStays
+pub mod Here

@@ -14,6 +14,8 @@ use Rattle.anti_kind.specs.declared.call.Reply.TheVariants.{Missing}
 use Rattle.anti_kind.specs.declared.entry.Entry.{Entry}
 use Rattle.anti_kind.specs.declared.port.Answer.{Answer}
 use Rattle.anti_kind.specs.declared.port.Answer.TheVariants as port
+use Rattle.anti_kind.specs.declared.refusal.Refusal.{Refusal}
+use Rattle.anti_kind.specs.declared.refusal.Refusal.TheVariants.{NotYet}
 use Rattle.anti_kind.specs.Store.{Store, is_replica, is_visible, is_written, can_look}
 use Rattle.anti_kind.specs.Objects.{Start, store, inbox, Follows}
 use Rattle.anti_kind.specs.Ports.{View, Answered}
@@ -21,10 +23,10 @@ use Rattle.anti_kind.specs.Entries.{entry_of}
 use Rattle.anti_shim.specs.declared.caller.Caller.{Caller}
 use Rattle.anti_shim.specs.declared.caller.Made.{Made}
 use Rattle.anti_shim.specs.declared.fault.ShimFault.{ShimFault}
-use Rattle.anti_shim.specs.declared.fault.ShimFault.TheVariants.{NotYet, Full, Spent, NoMemory}
+use Rattle.anti_shim.specs.declared.fault.ShimFault.TheVariants.{Refused, NoMemory}
 use Rattle.anti_shim.specs.declared.looks.PlannedLook.{PlannedLook}
-use Rattle.anti_shim.specs.Steps.{Step, asking, outcome_of, IsAsked, MayAsk, CallerAfter}
-use Rattle.anti_shim.specs.Looks.{looking, IsLookedAt, AtMostOneLook, idle, looked, looks_at, OnlyLooks}
+use Rattle.anti_shim.specs.Steps.{Step, IsIdle, asking, outcome_of, IsAsked, MayAsk, CallerAfter}
+use Rattle.anti_shim.specs.Looks.{looking, IsLookedAt, SomeLook, AtMostOneLook, idle, looked, looks_at, OnlyLooks}
 use Rattle.anti_shim.specs.Barriers.{Misses}
 use Rattle.anti_shim.proofs.NextCall.{nothing, after_nothing, last, whole, idle_more, caller_more, one_answer, answered_made}
 
@@ -79,7 +81,7 @@ pub record Named (region : ℕ) (ids : List WriteId) (dry : Bool) (named nobody 
 
 pub named_by : (start : Option Start) (who : Caller) (object region : ℕ) (ids : List WriteId) (dry : Bool) (old new : View) (place stamp : ℕ) (named nobody : List WriteId)
     → Answered start (asking who object (Look region ids dry)) old new (port.Made place stamp (Missing named nobody)) → Named region ids dry named nobody
-named_by None who object region ids dry old new place stamp named nobody a = let no : port.Made place stamp (Missing named nobody) ≡ port.NotYet = a.0 in absurd (cc)
+named_by None who object region ids dry old new place stamp named nobody a = let no : port.Made place stamp (Missing named nobody) ≡ port.Refused NotYet = a.0 in absurd (cc)
 named_by (Some (store s)) who object region ids dry old new place stamp named nobody a =
     let h = a.0.0 in
     let f : Follows (store s) h (entry_of (asking who object (Look region ids dry)) a.0.1.0 place stamp (Missing named nobody)) = a.0.1.1.follows in
@@ -135,13 +137,14 @@ hidden_id s h g ids replica own refused =
 
 module _ (s : Step) (region : ℕ) (look : PlannedLook) (right : IsRight s.starts region look) (clock : ℕ) where
   -- the answer that such a look is not ready, with its store
-  not_ready : (dry : Bool) → IsLookedAt s region dry look clock port.NotYet → Answered (Some (store right.start)) (looking s.before region dry look clock) (s.old look.store) (s.new look.store) port.NotYet
-  not_ready dry a = subst (λ (x : Option Start). Answered x (looking s.before region dry look clock) (s.old look.store) (s.new look.store) port.NotYet) right.is_start a
+  not_ready : (dry : Bool) → IsLookedAt s region dry look clock (port.Refused NotYet)
+      → Answered (Some (store right.start)) (looking s.before region dry look clock) (s.old look.store) (s.new look.store) (port.Refused NotYet)
+  not_ready dry a = subst (λ (x : Option Start). Answered x (looking s.before region dry look clock) (s.old look.store) (s.new look.store) (port.Refused NotYet)) right.is_start a
 
   own_ids : list_all (λ id. id.store == right.start.number) look.ids ≡ true
   own_ids = rw right.number right.own
 
-  pub misses : IsLookedAt s region false look clock port.NotYet → Misses s region look
+  pub misses : IsLookedAt s region false look clock (port.Refused NotYet) → Misses s region look
   misses a =
       let refused = not_ready false a in
       let hidden = hidden_id right.start (s.new look.store).seen region look.ids right.replica own_ids refused.0.1 in
@@ -155,7 +158,7 @@ module _ (s : Step) (region : ℕ) (look : PlannedLook) (right : IsRight s.start
       }
 
   -- a dry look is ready
-  pub never_not_yet : IsLookedAt s region true look clock port.NotYet → ⊥
+  pub never_not_yet : IsLookedAt s region true look clock (port.Refused NotYet) → ⊥
   never_not_yet a = ready_dry (is_replica right.start region) (list_all (λ id. id.store == right.start.number) look.ids) right.replica own_ids (not_ready true a).0.1
     where
       ready_dry : (a b : Bool) → a ≡ true → b ≡ true → (a && (b && true)) ≡ false → ⊥
@@ -196,15 +199,19 @@ module _ (s : Step) (new : ℕ → View) (next : Caller) (region : ℕ) (dry : B
       subst (λ (q : Asking). Answered (s.starts look.store) q (s.old look.store) (new look.store) answer) asks
       (subst (λ (v : View). Answered (s.starts look.store) (looking s.after region dry look clock) v (new look.store) answer) same at)
 
-  at_most_same : (looks : List PlannedLook) (o : ℕ) → new o ≡ s.new o → AtMostOneLook s region dry looks o → AtMostOneLook (whole s new next) region dry looks o
-  at_most_same looks o same (idle untouched) = idle (same ∙ untouched)
-  at_most_same looks o same (looked {clock} {answer} l here) =
+  -- a look at an object that is as it was
+  abbrev pub look_stays : (looks : List PlannedLook) (o clock : ℕ) (answer : Answer) → new o ≡ s.new o → (l : SomeLook s region dry looks clock answer) → l.look.store ≡ o → SomeLook (whole s new next) region dry looks clock answer
+  look_stays looks o clock answer same l here =
       let there : s.new l.look.store ≡ new l.look.store = sym (subst (λ (n : ℕ). new n ≡ s.new n) (sym here) same) in
-      looked (record {
+      record {
         look = l.look;
         planned = l.planned;
         looked = subst (λ (v : View). Answered (s.starts l.look.store) (looking s.before region dry l.look clock) (s.old l.look.store) v answer) there l.looked;
-      }) here
+      }
+
+  at_most_same : (looks : List PlannedLook) (o : ℕ) → new o ≡ s.new o → AtMostOneLook s region dry looks o → AtMostOneLook (whole s new next) region dry looks o
+  at_most_same looks o same (idle untouched) = idle (same ∙ untouched)
+  at_most_same looks o same (looked {clock} {answer} l here) = looked (look_stays looks o clock answer same l here) here
 
   looks_more : (looks : List PlannedLook) (look : PlannedLook) (outcome : Result Made ShimFault) → Contains looks look → s.new look.store ≡ s.old look.store → CallerAfter s
       → MayAsk (last s new next) look.store (Look region look.ids dry) outcome
@@ -221,22 +228,22 @@ module _ (s : Step) (new : ℕ → View) (next : Caller) (region : ℕ) (dry : B
       only_looks (whole s new next) region dry looks (looks_more looks look outcome planned same only.caller asked only.once)
       (caller_more s new next look.store (Look region look.ids dry) same only.caller outcome asked)
 
--- Looks that were refused: the last stamp of the caller is still what it was.
+-- Looks that were refused, or of which there was no memory: the last stamp of the caller is still what it was.
 
 pub data Refuses (s : Step) (region : ℕ) (dry : Bool) (look : PlannedLook) : ShimFault → Type 0 where
-  not_yet : IsLookedAt s region dry look s.after.clock port.NotYet → Refuses s region dry look NotYet
-  full : {held owed need : ℕ} → IsLookedAt s region dry look s.after.clock (port.Full held owed need) → Refuses s region dry look (Full held owed need)
-  spent : {clock : ℕ} → IsLookedAt s region dry look s.after.clock (port.Spent clock) → Refuses s region dry look (Spent clock)
-  no_memory : Refuses s region dry look NoMemory
+  refused : {refusal : Refusal} → IsLookedAt s region dry look s.after.clock (port.Refused refusal) → Refuses s region dry look (Refused refusal)
+  wanting : IsLookedAt s region dry look s.after.clock port.NoMemory → ((o : ℕ) → (o ≡ look.store → ⊥) → s.new o ≡ s.old o) → Refuses s region dry look NoMemory
+  not_asked : IsIdle s → Refuses s region dry look NoMemory
 
 module _ (s : Step) (region : ℕ) (dry : Bool) (look : PlannedLook) (fault : ShimFault) where
-  refuses_so : (a : Answer) → ◌≡◌ {A = Result Made ShimFault} (Err fault) (outcome_of a) → IsLookedAt s region dry look s.after.clock a → Refuses s region dry look fault
-  refuses_so (port.Made place stamp reply) is at = absurd (cc)
-  refuses_so port.NotYet is at = let e : NotYet ≡ fault = cc in subst (λ (f : ShimFault). Refuses s region dry look f) e (not_yet at)
-  refuses_so (port.Full held owed need) is at = let e : Full held owed need ≡ fault = cc in subst (λ (f : ShimFault). Refuses s region dry look f) e (full at)
-  refuses_so (port.Spent clock) is at = let e : Spent clock ≡ fault = cc in subst (λ (f : ShimFault). Refuses s region dry look f) e (spent at)
-  refuses_so port.NoMemory is at = let e : NoMemory ≡ fault = cc in subst (λ (f : ShimFault). Refuses s region dry look f) e no_memory
+  refuses_so : (a : Answer) → ◌≡◌ {A = Result Made ShimFault} (Err fault) (outcome_of a) → IsLookedAt s region dry look s.after.clock a
+      → ((o : ℕ) → (o ≡ look.store → ⊥) → s.new o ≡ s.old o) → Refuses s region dry look fault
+  refuses_so (port.Made place stamp reply) is at others = absurd (cc)
+  refuses_so (port.Refused refusal) is at others = let e : Refused refusal ≡ fault = cc in subst (λ (f : ShimFault). Refuses s region dry look f) e (refused at)
+  refuses_so port.NoMemory is at others = let e : NoMemory ≡ fault = cc in subst (λ (f : ShimFault). Refuses s region dry look f) e (wanting at others)
 
   pub refuses : MayAsk s look.store (Look region look.ids dry) (Err fault) → Refuses s region dry look fault
-  refuses (inl asked) = refuses_so asked.answer asked.outcome_is (subst (λ (n : ℕ). IsLookedAt s region dry look n asked.answer) (ap (λ (c : Caller). c.clock) (sym asked.caller)) asked.answered)
-  refuses (inr none) = let e : NoMemory ≡ fault = let is : ◌≡◌ {A = Result Made ShimFault} (Err fault) (Err NoMemory) = none.1 in cc in subst (λ (f : ShimFault). Refuses s region dry look f) e no_memory
+  refuses (inl asked) = refuses_so asked.answer asked.outcome_is (subst (λ (n : ℕ). IsLookedAt s region dry look n asked.answer) (ap (λ (c : Caller). c.clock) (sym asked.caller)) asked.answered) asked.others
+  refuses (inr none) =
+      let e : NoMemory ≡ fault = let is : ◌≡◌ {A = Result Made ShimFault} (Err fault) (Err NoMemory) = none.1 in cc in
+      subst (λ (f : ShimFault). Refuses s region dry look f) e (not_asked none.0)

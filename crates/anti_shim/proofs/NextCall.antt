@@ -9,6 +9,7 @@ use Rattle.anti_kind.specs.declared.call.Call.{Call}
 use Rattle.anti_kind.specs.declared.entry.Entry.{Entry}
 use Rattle.anti_kind.specs.declared.port.Answer.{Answer}
 use Rattle.anti_kind.specs.declared.port.Answer.TheVariants as port
+use Rattle.anti_kind.specs.declared.refusal.Refusal.TheVariants.{NotYet}
 use Rattle.anti_kind.specs.Inbox.{numbered}
 use Rattle.anti_kind.specs.Objects.{Start}
 use Rattle.anti_kind.specs.Ports.{View, Answered, IsMade}
@@ -27,12 +28,10 @@ Adds old new (Ok made) = (e : Entry) × (new.made ≡ old.made ++ e ∷ [])
 Adds old new (Err fault) = new.made ≡ old.made
 
 pub adds : (start : Option Start) (q : Asking) (old new : View) (a : Answer) → Answered start q old new a → Adds old new (outcome_of a)
-adds None q old new a answered = let is : a ≡ port.NotYet = answered.0 in let same : new ≡ old = answered.1 in
+adds None q old new a answered = let is : a ≡ port.Refused NotYet = answered.0 in let same : new ≡ old = answered.1 in
     subst (λ (x : Answer). Adds old new (outcome_of x)) (sym is) (ap (λ (v : View). v.made) same)
 adds (Some start) q old new (port.Made place stamp reply) answered = (entry_of q answered.0.1.0 place stamp reply, answered.0.1.1.made)
-adds (Some start) q old new port.NotYet answered = answered.0.0.made
-adds (Some start) q old new (port.Full held owed need) answered = answered.0.0.made
-adds (Some start) q old new (port.Spent clock) answered = answered.0.0.made
+adds (Some start) q old new (port.Refused refusal) answered = answered.0.0.made
 adds (Some start) q old new port.NoMemory answered = answered.0.made
 
 adds_one : (old new : View) (outcome : Result Made ShimFault) → Adds old new outcome → length new.made ≤ length old.made + 1
@@ -62,9 +61,7 @@ pub made_answer : (a : Answer) (made : Made) → ◌≡◌ {A = Result Made Shim
 made_answer (port.Made place stamp reply) made is =
     let same : made ≡ record { place = place; stamp = stamp; reply = reply } = cc in
     ap (λ (m : Made). port.Made m.place m.stamp m.reply) (sym same)
-made_answer port.NotYet made is = absurd (cc)
-made_answer (port.Full held owed need) made is = absurd (cc)
-made_answer (port.Spent clock) made is = absurd (cc)
+made_answer (port.Refused refusal) made is = absurd (cc)
 made_answer port.NoMemory made is = absurd (cc)
 
 module _ (s : Step) (object : ℕ) (call : Call) where
@@ -76,7 +73,7 @@ module _ (s : Step) (object : ℕ) (call : Call) where
 
   entered_at : (start : Option Start) (made : Made) → Answered start (asking s.before object call) (s.old object) (s.new object) (port.Made made.place made.stamp made.reply)
       → Entered s object call made
-  entered_at None made a = let no : port.Made made.place made.stamp made.reply ≡ port.NotYet = a.0 in absurd (cc)
+  entered_at None made a = let no : port.Made made.place made.stamp made.reply ≡ port.Refused NotYet = a.0 in absurd (cc)
   entered_at (Some start) made a =
       let q = asking s.before object call in
       let h = a.0.0 in

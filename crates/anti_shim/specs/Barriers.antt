@@ -8,7 +8,8 @@ use Rattle.anti_kind.specs.declared.port.Answer.TheVariants as port
 use Rattle.anti_kind.specs.Store.{Store, is_visible}
 use Rattle.anti_kind.specs.Objects.{store}
 use Rattle.anti_shim.specs.declared.barrier_answer.BarrierAnswer.{BarrierAnswer}
-use Rattle.anti_shim.specs.declared.barrier_answer.BarrierAnswer.TheVariants.{Clear, NotYet, Unwritten, Full, Spent, NoMemory}
+use Rattle.anti_kind.specs.declared.refusal.Refusal.TheVariants.{NotYet}
+use Rattle.anti_shim.specs.declared.barrier_answer.BarrierAnswer.TheVariants.{Clear, Refused, Unwritten, NoMemory}
 use Rattle.anti_shim.specs.declared.looks.PlannedLook.{PlannedLook}
 use Rattle.anti_shim.specs.declared.sight.Sight.{Sight}
 use Rattle.anti_shim.specs.Steps.{Step, IsAdded}
@@ -52,19 +53,27 @@ pub record NamesUnwritten (step : Step) (region : ℕ) (looks : List PlannedLook
   pub look : SomeLook step region false looks clock
       (port.Made place step.after.clock (Missing missing (id ∷ further)))
 
+-- No look was refused at an object: nothing was asked there, or one of these looks was made and found
+-- nothing missing, or there was no memory for it.
+pub data NotRefused (step : Step) (region : ℕ) (looks : List PlannedLook) (o : ℕ) : Type 0 where
+  idle : step.new o ≡ step.old o → NotRefused step region looks o
+  found : {clock place stamp : ℕ}
+      (some : SomeLook step region false looks clock (port.Made place stamp (Missing [] [])))
+      → some.look.store ≡ o → NotRefused step region looks o
+  wanted : {clock : ℕ} (some : SomeLook step region false looks clock port.NoMemory)
+      → some.look.store ≡ o → NotRefused step region looks o
+
 -- Each answer of a barrier with its cause: `planned` are the planned looks, `looks` those of which
 -- there was no sight, and `cursor` what is left of the cursor.
 module _ (step : Step) (region : ℕ) (planned looks : List PlannedLook) (cursor : List Sight) where
   abbrev pub BarrierGives : BarrierAnswer → Type 0
   BarrierGives (Clear sights) =
       All (λ look. has_sight sights.items look.store ≡ true) planned × (cursor ≡ [])
-  BarrierGives NotYet =
-      (last : LastLook step region false looks port.NotYet) × Misses step region last.look
+  BarrierGives (Refused refusal) =
+      (last : LastLook step region false looks (port.Refused refusal))
+      × (refusal ≡ NotYet → Misses step region last.look)
   BarrierGives (Unwritten id) = NamesUnwritten step region looks id
-  BarrierGives (Full held owed need) =
-      LastLook step region false looks (port.Full held owed need)
-  BarrierGives (Spent clock) = LastLook step region false looks (port.Spent clock)
-  BarrierGives NoMemory = Unit {0}
+  BarrierGives NoMemory = (o : ℕ) → NotRefused step region looks o
 
 -- What a barrier does and answers, where `planned` are the planned looks, `before` the sights that
 -- were left in the cursor and `after` what is left there.

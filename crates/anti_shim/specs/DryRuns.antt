@@ -6,7 +6,8 @@ use Rattle.anti_ids.specs.Ids.{with_ids}
 use Rattle.anti_kind.specs.declared.call.Reply.TheVariants.{Missing}
 use Rattle.anti_kind.specs.declared.port.Answer.TheVariants as port
 use Rattle.anti_shim.specs.declared.fault.ShimFault.{ShimFault}
-use Rattle.anti_shim.specs.declared.fault.ShimFault.TheVariants.{NotYet, Full, Spent, Unwritten, LineageFull, NoMemory}
+use Rattle.anti_kind.specs.declared.refusal.Refusal.TheVariants.{NotYet}
+use Rattle.anti_shim.specs.declared.fault.ShimFault.TheVariants.{Refused, Unwritten, LineageFull, NoMemory}
 use Rattle.anti_shim.specs.declared.looks.PlannedLook.{PlannedLook}
 use Rattle.anti_shim.specs.Steps.{Step}
 use Rattle.anti_shim.specs.Looks.{IsLookedAt, LastLook}
@@ -30,10 +31,8 @@ module _ (step : Step) (region : ℕ) (looks : List PlannedLook) where
   abbrev pub DryRunGives : Result (List WriteId) ShimFault → Type 0
   DryRunGives (Ok named) =
       (finds : List (List WriteId)) × AllZip (Names step region) looks finds × (named ≡ union finds)
-  DryRunGives (Err (Full held owed need)) =
-      LastLook step region true looks (port.Full held owed need)
-  DryRunGives (Err (Spent clock)) = LastLook step region true looks (port.Spent clock)
+  DryRunGives (Err (Refused refusal)) =
+      LastLook step region true looks (port.Refused refusal) × (refusal ≡ NotYet → ⊥)
   DryRunGives (Err NoMemory) = Unit {0}
-  DryRunGives (Err NotYet) = ⊥
   DryRunGives (Err (Unwritten id)) = ⊥
   DryRunGives (Err (LineageFull id)) = ⊥

@@ -1,13 +1,13 @@
 -- What the calls of a shim do and give: each makes one call on its store.
-use Rattle.std.specs.Prelude.{◌≡◌, ℕ, ◌<◌, ◌≤◌, false, length, List, [], ◌∷◌, Option, unwrap_or, Result, Ok, Err}
+use Rattle.std.specs.Prelude.{◌≡◌, ℕ, ◌<◌, ◌≤◌, ◌==◌, cond, false, length, List, [], ◌∷◌, Option, unwrap_or, Result, Ok, Err}
 use Rattle.anti_ids.specs.Ids.{with_ids}
 use Rattle.anti_ids.specs.List.{Listed, plain}
 use Rattle.anti_ids.specs.declared.limits.TheConstants.{MOST_IDS}
 use Rattle.anti_ids.specs.declared.id.WriteId.{WriteId}
 use Rattle.anti_kind.specs.declared.call.Call.{Call}
-use Rattle.anti_kind.specs.declared.call.Call.TheVariants.{Write, Read, Scan, Poll, Look}
+use Rattle.anti_kind.specs.declared.call.Call.TheVariants.{Write, Read, Scan, Poll, Look, Pull, Repull}
 use Rattle.anti_kind.specs.declared.call.Reply.{Reply}
-use Rattle.anti_kind.specs.declared.call.Reply.TheVariants.{Written, Shown, Missing}
+use Rattle.anti_kind.specs.declared.call.Reply.TheVariants.{Written, Shown, Missing, Pulled, Done}
 use Rattle.anti_kind.specs.declared.row.Row.{Row}
 use Rattle.anti_shim.specs.declared.caller.Made.{Made}
 use Rattle.anti_shim.specs.declared.sight.Sight.{Sight}
@@ -45,6 +45,28 @@ Polls step store region key result = OneCall step store (Poll region key) IsShow
 abbrev pub Scans : Step → ℕ → ℕ → List ℕ → Result (Listed Row) ShimFault → Type 0
 Scans step store region prefix result =
     OneCall step store (Scan region prefix) (λ reply rows. reply ≡ Shown rows) result
+
+-- Handing out.
+
+-- a pull gives the row of the message or cell, for the first time and once more
+abbrev pub Pulls : Step → ℕ → ℕ → Result Row ShimFault → Type 0
+Pulls step store sub result = OneCall step store (Pull sub) (λ reply row. reply ≡ Pulled row) result
+
+abbrev pub Repulls : Step → ℕ → ℕ → ℕ → Result Row ShimFault → Type 0
+Repulls step store sub version result =
+    OneCall step store (Repull sub version) (λ reply row. reply ≡ Pulled row) result
+
+-- what a message that is out is told is done
+abbrev pub Settles : Step → ℕ → Call → Result (Unit {0}) ShimFault → Type 0
+Settles step store call result = OneCall step store call (λ reply none. reply ≡ Done) result
+
+-- Taking over.
+
+-- the ids that a row of a store brings: its own, where it is that of a write, and those kept beside it
+abbrev pub brought_by : ℕ → Row → List WriteId
+brought_by store row =
+    cond (row.version == 0) row.lineage
+    (record { store = store; key = row.key; version = row.version } ∷ row.lineage)
 
 -- Writing.
 

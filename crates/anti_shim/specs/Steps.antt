@@ -11,7 +11,7 @@ use Rattle.anti_kind.specs.Ports.{View, Answered}
 use Rattle.anti_shim.specs.declared.caller.Caller.{Caller}
 use Rattle.anti_shim.specs.declared.caller.Made.{Made}
 use Rattle.anti_shim.specs.declared.fault.ShimFault.{ShimFault}
-use Rattle.anti_shim.specs.declared.fault.ShimFault.TheVariants.{NotYet, Full, Spent, NoMemory}
+use Rattle.anti_shim.specs.declared.fault.ShimFault.TheVariants.{Refused, NoMemory}
 
 -- A port and a caller before a call and after it: what each object starts as, what is seen of each
 -- object before and after, and the caller before and after.
@@ -22,7 +22,7 @@ pub record Step : Type 0 where
   pub before : Caller
   pub after : Caller
 
-abbrev pub between : {P : Type 0} → Ghosts P → P → P → Caller → Caller → Step
+abbrev pub between : {P Rest : Type 0} → Ghosts P Rest → P → P → Caller → Caller → Step
 between port old new before after = record {
   starts = port.start old;
   old = port.view old;
@@ -47,9 +47,7 @@ asking who object call =
 abbrev pub outcome_of : Answer → Result Made ShimFault
 outcome_of (answers.Made place stamp reply) =
     Ok (record { place = place; stamp = stamp; reply = reply })
-outcome_of answers.NotYet = Err NotYet
-outcome_of (answers.Full held owed need) = Err (Full held owed need)
-outcome_of (answers.Spent clock) = Err (Spent clock)
+outcome_of (answers.Refused refusal) = Err (Refused refusal)
 outcome_of answers.NoMemory = Err NoMemory
 
 -- The caller after a call: the stamp of the entry that was made is its last stamp.

@@ -1,7 +1,7 @@
 ghost use Rattle.std.specs.Prelude.{◌≡◌, ℕ, Bool, false, true, is_some};
 ghost use Rattle.anti_kind.specs.Ports.{Answered};
 
-use anti_kind::{Actor, Answer, Call, Port, WaitPort};
+use anti_kind::{Actor, Answer, Call, Port, Refusal, WaitPort};
 
 // How a port is asked: once, or until the call is ready.
 pub(crate) trait Asks<P: Port> {
@@ -12,7 +12,8 @@ pub(crate) trait Asks<P: Port> {
         ensures answer { Answered (P.start port.old object) (record { object = object; actor = actor; span = span; clock = clock; call = c }) (P.view port.old object) (P.view port.new object) result }
         ensures others { (o : ℕ) → (o ≡ object → ⊥) → P.view port.new o ≡ P.view port.old o }
         ensures fixed { (o : ℕ) → P.start port.new o ≡ P.start port.old o }
-        ensures waits { waits ≡ true → is_some (P.start port.old object) ≡ true → result ≡ Answer.NotYet → ⊥ };
+        ensures rest { P.rest port.new ≡ P.rest port.old }
+        ensures waits { waits ≡ true → is_some (P.start port.old object) ≡ true → result ≡ Answer.Refused Refusal.NotYet → ⊥ };
 }
 
 // Asks once.

@@ -3,6 +3,7 @@ ghost use Rattle.anti_shim.specs.inner.Looks.{IsOfLook, IsRefusal};
 use crate::fault::ShimFault;
 use crate::sight::Sights;
 use anti_ids::WriteId;
+use anti_kind::Refusal;
 
 /// What a barrier answers.
 #[derive(Drop)]
@@ -10,15 +11,11 @@ pub enum BarrierAnswer {
     /// Each planned store was looked at, now or in an earlier call, and nothing was missing there:
     /// where each look was made.
     Clear(Sights),
-    /// Some planned store misses an id.
-    NotYet,
+    /// The port refused the look at a planned store: `NotYet` where the store misses an id.
+    Refused(Refusal),
     /// The look at a planned store was made, and this id is the first that nobody wrote.
     Unwritten(WriteId),
-    /// The port answered that a planned store is full.
-    Full { held: u32, owed: u32, need: u32 },
-    /// The port answered that there is no stamp left.
-    Spent { clock: u64 },
-    /// There was no memory.
+    /// There was no memory, and no look was refused.
     NoMemory,
 }
 
@@ -29,9 +26,7 @@ impl BarrierAnswer {
         ensures { IsRefusal fault result }
     {
         match fault {
-            ShimFault::NotYet => BarrierAnswer::NotYet,
-            ShimFault::Full { held, owed, need } => BarrierAnswer::Full { held, owed, need },
-            ShimFault::Spent { clock } => BarrierAnswer::Spent { clock },
+            ShimFault::Refused(refusal) => BarrierAnswer::Refused(refusal),
             ShimFault::Unwritten(id) => BarrierAnswer::Unwritten(id),
             // no look appends an id, so `IsOfLook` leaves this one out
             ShimFault::LineageFull(_) => unreachable!(),

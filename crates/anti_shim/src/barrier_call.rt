@@ -10,7 +10,7 @@ use crate::barrier_cursor::Barrier;
 use crate::caller::Caller;
 use crate::looks::plan;
 use anti_ids::Lineage;
-use anti_kind::{Port, WaitPort};
+use anti_kind::{Port, Refusal, WaitPort};
 use std::alloc::Global;
 
 /// Looks at the stores of `here` of which the lineage has ids and of which the cursor has no sight,
@@ -31,6 +31,7 @@ pub fn barrier<P: Port>(
     ensures answer { let step = between P.Port port.old port.new who.old who.new in
         BarrierDoes step region (plan here.now lineage.now) cursor.old cursor.new result }
     ensures fixed { (o : ℕ) → P.start port.new o ≡ P.start port.old o }
+    ensures rest { P.rest port.new ≡ P.rest port.old }
 {
     let wanted = Wanted {
         region,
@@ -41,7 +42,7 @@ pub fn barrier<P: Port>(
 }
 
 /// As `barrier`, over a port whose calls may wait: each look is made once it is ready. It may wait,
-/// and never answers `NotYet`.
+/// and is never refused as not ready.
 pub fn barrier_wait<P: WaitPort>(
     alloc: Global,
     port: &mut P,
@@ -55,8 +56,9 @@ pub fn barrier_wait<P: WaitPort>(
     requires sights { HasSights (P.view port.old) who.old region (plan here.now lineage.now) cursor.old }
     ensures answer { let step = between P.Port port.old port.new who.old who.new in
         BarrierDoes step region (plan here.now lineage.now) cursor.old cursor.new result }
-    ensures waits { result ≡ BarrierAnswer.NotYet → ⊥ }
+    ensures waits { result ≡ BarrierAnswer.Refused Refusal.NotYet → ⊥ }
     ensures fixed { (o : ℕ) → P.start port.new o ≡ P.start port.old o }
+    ensures rest { P.rest port.new ≡ P.rest port.old }
 {
     let wanted = Wanted {
         region,
@@ -87,8 +89,9 @@ fn go_over<P: Port, A: Asks<P>>(
     requires sights { HasSights (P.view port.old) who.old wanted.region (plan wanted.here.now wanted.lineage.now) cursor.old }
     ensures answer { let step = between P.Port port.old port.new who.old who.new in
         BarrierDoes step wanted.entry.region (plan wanted.entry.here.now wanted.entry.lineage.now) cursor.old cursor.new result }
-    ensures waits { A.waits ≡ true → result ≡ BarrierAnswer.NotYet → ⊥ }
+    ensures waits { A.waits ≡ true → result ≡ BarrierAnswer.Refused Refusal.NotYet → ⊥ }
     ensures fixed { (o : ℕ) → P.start port.new o ≡ P.start port.old o }
+    ensures rest { P.rest port.new ≡ P.rest port.old }
 {
     let Ok(looks) = plan(alloc, wanted.here, wanted.lineage) else {
         return BarrierAnswer::NoMemory;

@@ -9,7 +9,7 @@ use crate::fault::ShimFault;
 use crate::looks::PlannedLook;
 use crate::sight::{Sights, see};
 use anti_ids::List;
-use anti_kind::Port;
+use anti_kind::{Port, Refusal};
 use std::alloc::Global;
 use std::marker::Model;
 
@@ -70,7 +70,8 @@ impl Barrier {
         ensures answer { let step = between P.Port port.old port.new who.old who.new in
             LooksOnce step region look.now self.old self.new result }
         ensures fixed { (o : ℕ) → P.start port.new o ≡ P.start port.old o }
-        ensures waits { A.waits ≡ true → is_some (P.start port.old look.now.store) ≡ true → result ≡ Err ShimFault.NotYet → ⊥ }
+        ensures rest { P.rest port.new ≡ P.rest port.old }
+        ensures waits { A.waits ≡ true → is_some (P.start port.old look.now.store) ≡ true → result ≡ Err (ShimFault.Refused Refusal.NotYet) → ⊥ }
     {
         let Ok(ids) = look.ids.share() else {
             return Err(ShimFault::NoMemory);

@@ -3,7 +3,7 @@ ghost use Rattle.anti_shim.specs.Steps.{between, IsAsked};
 
 use crate::asks::Asks;
 use crate::fault::ShimFault;
-use anti_kind::{Actor, Answer, Call, Port, Reply};
+use anti_kind::{Actor, Answer, Call, Port, Refusal, Reply};
 
 /// Who makes calls: the actor, the span of its process, and its last stamp, which becomes the stamp
 /// of each entry that its calls make.
@@ -34,7 +34,8 @@ impl Caller {
         ensures answer { let step = between P.Port port.old port.new self.old self.new in
             IsAsked step object call result }
         ensures fixed { (o : ℕ) → P.start port.new o ≡ P.start port.old o }
-        ensures waits { A.waits ≡ true → is_some (P.start port.old object) ≡ true → result ≡ Err ShimFault.NotYet → ⊥ }
+        ensures rest { P.rest port.new ≡ P.rest port.old }
+        ensures waits { A.waits ≡ true → is_some (P.start port.old object) ≡ true → result ≡ Err (ShimFault.Refused Refusal.NotYet) → ⊥ }
     {
         match A::ask(port, object, self.actor, self.span, self.clock, call) {
             Answer::Made {
@@ -49,9 +50,7 @@ impl Caller {
                     reply,
                 })
             }
-            Answer::NotYet => Err(ShimFault::NotYet),
-            Answer::Full { held, owed, need } => Err(ShimFault::Full { held, owed, need }),
-            Answer::Spent { clock } => Err(ShimFault::Spent { clock }),
+            Answer::Refused(refusal) => Err(ShimFault::Refused(refusal)),
             Answer::NoMemory => Err(ShimFault::NoMemory),
         }
     }

@@ -31,6 +31,7 @@ pub fn dry_run<P: Port>(
     ensures only { let step = between P.Port port.old port.new who.old who.new in
         OnlyLooks step region true (plan here.now lineage.now) }
     ensures fixed { (o : ℕ) → P.start port.new o ≡ P.start port.old o }
+    ensures rest { P.rest port.new ≡ P.rest port.old }
 {
     let Ok(looks) = plan(alloc, here, lineage) else {
         return Err(ShimFault::NoMemory);
@@ -63,6 +64,7 @@ fn see_dry<P: Port>(
     ensures answer { let step = between P.Port port.old port.new who.old who.new in
         SeesDry step store region ids result }
     ensures fixed { (o : ℕ) → P.start port.new o ≡ P.start port.old o }
+    ensures rest { P.rest port.new ≡ P.rest port.old }
 {
     let look = Call::Look {
         region,

@@ -1,18 +1,13 @@
 use anti_ids::{NoMemory, WriteId};
+use anti_kind::Refusal;
 use thiserror::Error;
 
 /// Why a call of a shim gives nothing.
 #[derive(Clone, Copy, Debug, Error)]
 pub enum ShimFault {
-    /// The port answered that the call was not ready.
-    #[error("the call was not ready")]
-    NotYet,
-    /// The port answered that the store is full.
-    #[error("the store holds {held} units, owes {owed}, and the call needs {need}")]
-    Full { held: u32, owed: u32, need: u32 },
-    /// The port answered that there is no stamp left.
-    #[error("no stamp is left after {clock}")]
-    Spent { clock: u64 },
+    /// The port refused the call.
+    #[error("{0}")]
+    Refused(Refusal),
     /// The look was made, and this id is the first that nobody wrote.
     #[error("nobody wrote version {} of store {}", .0.version, .0.store)]
     Unwritten(WriteId),

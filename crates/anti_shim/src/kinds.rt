@@ -3,6 +3,9 @@ use crate::store_shim::StoreShim;
 /// The kinds of store whose rows are read by their keys.
 pub trait ReadByKey {}
 
+/// The kinds of store whose messages or cells a subscription pulls, one after another.
+pub trait HandsOut {}
+
 /// The kind of key-value stores.
 #[derive(Clone, Copy)]
 pub struct KvStore;
@@ -28,6 +31,10 @@ impl ReadByKey for KvStore {}
 impl ReadByKey for TableStore {}
 
 impl ReadByKey for BlobStore {}
+
+impl HandsOut for QueueStore {}
+
+impl HandsOut for TopicStore {}
 
 /// A key-value store, also one whose replicas read through caches, as a caller in a region uses it.
 pub type KvShim = StoreShim<KvStore>;

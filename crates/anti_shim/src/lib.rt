@@ -15,10 +15,13 @@ mod barrier_cursor;
 mod caller;
 mod dry_run_call;
 mod fault;
+mod handing_out;
 mod kinds;
+mod laws;
 mod looks;
 mod sight;
 mod store_shim;
+mod transfer;
 
 pub use barrier_answer::BarrierAnswer;
 pub use barrier_call::{barrier, barrier_wait};
@@ -27,9 +30,11 @@ pub use caller::Caller;
 pub use dry_run_call::dry_run;
 pub use fault::ShimFault;
 pub use kinds::{
-    BlobShim, BlobStore, KvShim, KvStore, QueueShim, QueueStore, ReadByKey, TableShim, TableStore,
-    TopicShim, TopicStore,
+    BlobShim, BlobStore, HandsOut, KvShim, KvStore, QueueShim, QueueStore, ReadByKey, TableShim,
+    TableStore, TopicShim, TopicStore,
 };
+pub use laws::reads_show_what_was_seen;
 pub use looks::{Looks, PlannedLook, plan};
 pub use sight::{Sight, Sights};
 pub use store_shim::StoreShim;
+pub use transfer::transfer_row;

@@ -6,7 +6,7 @@ use crate::asks::Asks;
 use crate::caller::{Caller, Made};
 use crate::fault::ShimFault;
 use anti_ids::{Copies, Lineage, List, NoMemory};
-use anti_kind::{Call, Handle, Port, Reply};
+use anti_kind::{Call, Handle, Port, Refusal, Reply};
 use std::alloc::Global;
 
 /// A look that found nothing missing: the number of the store, and the place and the stamp of the
@@ -38,7 +38,8 @@ pub(crate) fn see<P: Port, A: Asks<P>>(
     ensures answer { let step = between P.Port port.old port.new who.old who.new in
         Sees step store region ids result }
     ensures fixed { (o : ℕ) → P.start port.new o ≡ P.start port.old o }
-    ensures waits { A.waits ≡ true → is_some (P.start port.old store) ≡ true → result ≡ Err ShimFault.NotYet → ⊥ }
+    ensures rest { P.rest port.new ≡ P.rest port.old }
+    ensures waits { A.waits ≡ true → is_some (P.start port.old store) ≡ true → result ≡ Err (ShimFault.Refused Refusal.NotYet) → ⊥ }
 {
     let look = Call::Look {
         region,

@@ -63,6 +63,7 @@ impl<K> StoreShim<K> {
         ensures answer { let step = between P.Port port.old port.new who.old who.new in
             Writes step self.now.store key value lineage.old lineage.new result }
         ensures fixed { (o : ℕ) → P.start port.new o ≡ P.start port.old o }
+        ensures rest { P.rest port.new ≡ P.rest port.old }
     {
         let (key, stored) = handles_of(alloc, key, lineage)?;
         // the room that there may be need of, before anything is written
@@ -97,6 +98,7 @@ impl<K> StoreShim<K> {
         ensures answer { let step = between P.Port port.old port.new who.old who.new in
             Puts step self.now.store key value stored result }
         ensures fixed { (o : ℕ) → P.start port.new o ≡ P.start port.old o }
+        ensures rest { P.rest port.new ≡ P.rest port.old }
     {
         let write = Call::Write {
             key,
@@ -131,6 +133,7 @@ impl<K> StoreShim<K> {
         ensures answer { let step = between P.Port port.old port.new who.old who.new in
             Sees step self.now.store self.now.region (ids_of self.now.store ids.now) result }
         ensures fixed { (o : ℕ) → P.start port.new o ≡ P.start port.old o }
+        ensures rest { P.rest port.new ≡ P.rest port.old }
     {
         let ids = ids_at(alloc, self.store, ids)?;
         see::<P, Once>(port, who, self.store, self.region, ids)
@@ -144,6 +147,7 @@ impl<K: ReadByKey> StoreShim<K> {
         ensures answer { let step = between P.Port port.old port.new who.old who.new in
             Reads step self.now.store self.now.region key result }
         ensures fixed { (o : ℕ) → P.start port.new o ≡ P.start port.old o }
+        ensures rest { P.rest port.new ≡ P.rest port.old }
     {
         let region = self.region;
         let made = who.ask::<P, Once>(port, self.store, Call::Read { region, key })?;
@@ -164,6 +168,7 @@ impl StoreShim<TableStore> {
         ensures answer { let step = between P.Port port.old port.new who.old who.new in
             Scans step self.now.store self.now.region prefix result }
         ensures fixed { (o : ℕ) → P.start port.new o ≡ P.start port.old o }
+        ensures rest { P.rest port.new ≡ P.rest port.old }
     {
         let region = self.region;
         let made = who.ask::<P, Once>(port, self.store, Call::Scan { region, prefix })?;
@@ -182,6 +187,7 @@ impl StoreShim<TopicStore> {
         ensures answer { let step = between P.Port port.old port.new who.old who.new in
             Polls step self.now.store self.now.region key result }
         ensures fixed { (o : ℕ) → P.start port.new o ≡ P.start port.old o }
+        ensures rest { P.rest port.new ≡ P.rest port.old }
     {
         let region = self.region;
         let made = who.ask::<P, Once>(port, self.store, Call::Poll { region, key })?;

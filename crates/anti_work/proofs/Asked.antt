@@ -12,11 +12,12 @@ use Rattle.anti_kind.specs.declared.actor.Birth.{Birth}
 use Rattle.anti_kind.specs.declared.asking.Asking.{Asking}
 use Rattle.anti_kind.specs.declared.call.Reply.{Reply}
 use Rattle.anti_kind.specs.declared.entry.Entry.{Entry}
-use Rattle.anti_kind.specs.declared.port.Answer.{Answer}
-use Rattle.anti_kind.specs.declared.port.Answer.TheVariants.{Made, NotYet, Full, Spent, NoMemory}
+use Rattle.anti_kind.specs.declared.port.Answer.TheVariants.{Made, Refused}
+use Rattle.anti_kind.specs.declared.refusal.Refusal.{Refusal}
+use Rattle.anti_kind.specs.declared.refusal.Refusal.TheVariants.{NotYet, Full, Spent}
 use Rattle.anti_kind.specs.Entries.{entry_of, named}
 use Rattle.anti_kind.specs.Objects.{Start, fits, last_stamp, ready}
-use Rattle.anti_kind.specs.Ports.{Answers, IsMade, View}
+use Rattle.anti_kind.specs.Ports.{Answers, IsMade, IsRefusal}
 use Rattle.anti_kind.proofs.Histories.{below_last}
 use Rattle.anti_app.specs.declared.app.App.{App}
 use Rattle.anti_object.specs.declared.object.Object.{Object}
@@ -30,90 +31,74 @@ use Rattle.anti_trace.proofs.FullStays.{unfit}
 use Rattle.anti_trace.proofs.GonePast.{entries_on_next, entries_on_past}
 use Rattle.anti_trace.proofs.Living.{decide}
 use Rattle.anti_trace.proofs.OfLegal.{at_cut, life_more}
-use Rattle.anti_work.specs.inner.Knowing.{IsAskedBy, KnowsCalls, WasRefused, mine_at, number_at, seen_at}
-use Rattle.anti_work.specs.inner.Refusing.{IsRefusing, MakesNone}
+use Rattle.anti_work.specs.inner.Knowing.{IsAskedBy, IsUsedAt, KnowsCalls, WasRefused, mine_at, number_at, seen_at}
 use Rattle.anti_work.proofs.Grown.{not_birth, placed_later, unborn, work_later, work_more}
 use Rattle.anti_work.proofs.PassCalls.{answered_from, fronts, mine_here, mine_others, mine_was, number_here, numbers, object_there, passes_are, seen_here, seen_was}
 
--- ---- answers
-
--- no call of the pass was made
-made_none : (start : Start) (q : Asking) (old new : View) (answer : Answer) → Answers start q old new answer → MakesNone answer → new.made ≡ old.made
-made_none start q old new (Made place stamp reply) made none = absurd none
-made_none start q old new NotYet refused none = refused.0.made
-made_none start q old new (Full held_units owed_units need_units) refused none = refused.0.made
-made_none start q old new (Spent clock) refused none = refused.0.made
-made_none start q old new NoMemory wanting none = wanting.made
-
 -- why an object refused
-cause_of : (start : Start) (q : Asking) (old new : View) (answer : Answer) → Answers start q old new answer → IsRefusing answer
-    → (ready start new.seen q.call ≡ false) ⊎ ((fits start new.seen q.call ≡ false) ⊎ (max q.clock (last_stamp new.seen) ≡ 2 ^ 64 - 1))
-cause_of start q old new (Made place stamp reply) made refuses = absurd refuses
-cause_of start q old new NotYet refused refuses = inl refused.1
-cause_of start q old new (Full held_units owed_units need_units) refused refuses = inr (inl (unfit start new.seen q.call held_units owed_units need_units refused.1))
-cause_of start q old new (Spent clock) refused refuses = inr (inr (sym refused.1.clock_is ∙ refused.1.last))
-cause_of start q old new NoMemory wanting refuses = absurd refuses
+cause_of : (start : Start) (h : List Entry) (q : Asking) (refusal : Refusal) → IsRefusal start h q refusal
+    → (ready start h q.call ≡ false) ⊎ ((fits start h q.call ≡ false) ⊎ (max q.clock (last_stamp h) ≡ 2 ^ 64 - 1))
+cause_of start h q NotYet cause = inl cause
+cause_of start h q (Full held_units owed_units need_units) cause = inr (inl (unfit start h q.call held_units owed_units need_units cause))
+cause_of start h q (Spent clock) cause = inr (inr (sym cause.clock_is ∙ cause.last))
 
-pub refusing_makes_none : (answer : Answer) → IsRefusing answer → MakesNone answer
-refusing_makes_none (Made place stamp reply) refuses = refuses
-refusing_makes_none NotYet refuses = tt
-refusing_makes_none (Full held_units owed_units need_units) refuses = tt
-refusing_makes_none (Spent clock) refuses = tt
-refusing_makes_none NoMemory refuses = absurd refuses
+-- ---- where a pass was used for no call
+
+module _ (app : App) (number : ℕ) (old new : List (PassView Object)) (calls : List Entry) (knows : KnowsCalls app number old calls) (object : ℕ)
+    (used : IsUsedAt old new object) (kept : used.after.mine ≡ used.pass.mine) where
+  own_here : used.after.mine ≡ entries_on object calls
+  own_here = kept ∙ sym (mine_was old new object used) ∙ knows.mine object
+
+  -- the same calls are known
+  pub kept_knows : KnowsCalls app number new calls
+  kept_knows = record {
+    are = passes_are old new object used app knows.are;
+    mine = λ o.
+        elim (decide object o) as (λ _. mine_at new o ≡ entries_on o calls) [
+          | inl same ↦ subst (λ (k : ℕ). mine_at new k ≡ entries_on k calls) same (mine_here old new object used ∙ own_here)
+          | inr other ↦ mine_others old new object used o other ∙ knows.mine o
+        ];
+    placed = placed_later (seen_at old) (seen_at new) (fronts old new object used) calls knows.placed;
+    work = work_later (seen_at old) (seen_at new) (fronts old new object used) calls knows.placed app number knows.work;
+  }
+
+  -- what was refused before was refused with these calls
+  pub refused_stay : (r : Asking) → WasRefused app old calls r → WasRefused app new calls r
+  refused_stay r refused =
+      let more : IsFront (seen_at old r.object) (seen_at new r.object) = fronts old new object used r.object in
+      record {
+        start = refused.start;
+        there = refused.there;
+        seen = refused.seen;
+        later = refused.later ++ more.0;
+        front = more.1 ∙ ap (λ (h : List Entry). h ++ more.0) refused.front ∙ append_assoc refused.seen refused.later more.0;
+        own = ap (λ (n : ℕ). calls_of n refused.seen) (numbers old new object used r.object) ∙ refused.own;
+        cause = refused.cause;
+      }
 
 module _ (app : App) (number : ℕ) (old new : List (PassView Object)) (calls : List Entry) (knows : KnowsCalls app number old calls) (q : Asking) where
-  -- ---- where no call was made
-
-  module _ (answer : Answer) (asked : IsAskedBy old new q answer) (none : MakesNone answer) where
-    mine_kept : asked.after.mine ≡ asked.pass.mine
-    mine_kept =
-        made_none (object_there old new q answer asked app knows.are).0 q (view_of asked.pass) (view_of asked.after) answer
-        (answered_from old new q answer asked app knows.are) none
-
-    own_here : asked.after.mine ≡ entries_on q.object calls
-    own_here = mine_kept ∙ sym (mine_was old new q answer asked) ∙ knows.mine q.object
-
-    -- the same calls are known
-    pub none_knows : KnowsCalls app number new calls
-    none_knows = record {
-      are = passes_are old new q answer asked app knows.are;
-      mine = λ o.
-          elim (decide q.object o) as (λ _. mine_at new o ≡ entries_on o calls) [
-            | inl same ↦ subst (λ (k : ℕ). mine_at new k ≡ entries_on k calls) same (mine_here old new q answer asked ∙ own_here)
-            | inr other ↦ mine_others old new q answer asked o other ∙ knows.mine o
-          ];
-      placed = placed_later (seen_at old) (seen_at new) (fronts old new q answer asked) calls knows.placed;
-      work = work_later (seen_at old) (seen_at new) (fronts old new q answer asked) calls knows.placed app number knows.work;
-    }
-
-    -- what was refused before was refused with these calls
-    pub refused_stay : (r : Asking) → WasRefused app old calls r → WasRefused app new calls r
-    refused_stay r refused =
-        let more : IsFront (seen_at old r.object) (seen_at new r.object) = fronts old new q answer asked r.object in
-        record {
-          start = refused.start;
-          there = refused.there;
-          seen = refused.seen;
-          later = refused.later ++ more.0;
-          front = more.1 ∙ ap (λ (h : List Entry). h ++ more.0) refused.front ∙ append_assoc refused.seen refused.later more.0;
-          own = ap (λ (n : ℕ). calls_of n refused.seen) (numbers old new q answer asked r.object) ∙ refused.own;
-          cause = refused.cause;
-        }
-
   -- ---- where the object refused
 
-  module _ (answer : Answer) (asked : IsAskedBy old new q answer) (refuses : IsRefusing answer) where
+  module _ (refusal : Refusal) (asked : IsAskedBy old new q (Refused refusal)) where
+    abbrev its_start : Start
+    its_start = (object_there old new q.object asked.used app knows.are).0
+
+    refused : Answers its_start q (view_of asked.used.pass) (view_of asked.used.after) (Refused refusal)
+    refused = answered_from old new q (Refused refusal) asked app knows.are
+
+    pub none_made : asked.used.after.mine ≡ asked.used.pass.mine
+    none_made = refused.0.made
+
     pub was_refused : WasRefused app new calls q
     was_refused = record {
-      start = (object_there old new q answer asked app knows.are).0;
-      there = (object_there old new q answer asked app knows.are).1;
-      seen = asked.after.seen;
+      start = its_start;
+      there = (object_there old new q.object asked.used app knows.are).1;
+      seen = asked.used.after.seen;
       later = [];
-      front = seen_here old new q answer asked ∙ sym (append-nil asked.after.seen);
-      own = ap (λ (n : ℕ). calls_of n asked.after.seen) (number_here old new q answer asked)
-          ∙ sym asked.knows.mine_is ∙ own_here answer asked (refusing_makes_none answer refuses);
-      cause = cause_of (object_there old new q answer asked app knows.are).0 q (view_of asked.pass) (view_of asked.after) answer
-          (answered_from old new q answer asked app knows.are) refuses;
+      front = seen_here old new q.object asked.used ∙ sym (append-nil asked.used.after.seen);
+      own = ap (λ (n : ℕ). calls_of n asked.used.after.seen) (number_here old new q.object asked.used)
+          ∙ sym asked.used.knows.mine_is ∙ own_here app number old new calls knows q.object asked.used none_made;
+      cause = cause_of its_start asked.used.after.seen q refusal refused.1;
     }
 
   -- ---- where a call was made
@@ -124,9 +109,9 @@ module _ (app : App) (number : ℕ) (old new : List (PassView Object)) (calls : 
     made_entry = entry_of q (number_at old q.object) place stamp reply
 
     abbrev start : Start
-    start = (object_there old new q (Made place stamp reply) asked app knows.are).0
+    start = (object_there old new q.object asked.used app knows.are).0
 
-    made : Answers start q (view_of asked.pass) (view_of asked.after) (Made place stamp reply)
+    made : Answers start q (view_of asked.used.pass) (view_of asked.used.after) (Made place stamp reply)
     made = answered_from old new q (Made place stamp reply) asked app knows.are
 
     abbrev before : List Entry
@@ -135,22 +120,22 @@ module _ (app : App) (number : ℕ) (old new : List (PassView Object)) (calls : 
     -- the entry is the pass's own
     seat_is : made.1.0 ≡ number_at old q.object
     seat_is =
-        let n : ℕ = asked.after.number in
-        let each : All (λ x. x.seat ≡ n) (calls_of n asked.after.seen) =
-        λ k d lt. eqb-true _ _ (filter_passes (λ (x : Entry). seat_of x == n) asked.after.seen k d lt) in
+        let n : ℕ = asked.used.after.number in
+        let each : All (λ x. x.seat ≡ n) (calls_of n asked.used.after.seen) =
+        λ k d lt. eqb-true _ _ (filter_passes (λ (x : Entry). seat_of x == n) asked.used.after.seen k d lt) in
         let its : made.1.0 ≡ n =
-        at_cut (λ x. x.seat ≡ n) asked.pass.mine (entry_of q made.1.0 place stamp reply) []
-        (subst (All (λ x. x.seat ≡ n)) (sym asked.knows.mine_is ∙ made.1.1.made) each) in
-        its ∙ sym (number_here old new q (Made place stamp reply) asked) ∙ numbers old new q (Made place stamp reply) asked q.object
+        at_cut (λ x. x.seat ≡ n) asked.used.pass.mine (entry_of q made.1.0 place stamp reply) []
+        (subst (All (λ x. x.seat ≡ n)) (sym asked.used.knows.mine_is ∙ made.1.1.made) each) in
+        its ∙ sym (number_here old new q.object asked.used) ∙ numbers old new q.object asked.used q.object
 
-    it : IsMade start q.clock (view_of asked.pass) (view_of asked.after) before made_entry
-    it = subst (λ (n : ℕ). IsMade start q.clock (view_of asked.pass) (view_of asked.after) before (entry_of q n place stamp reply)) seat_is made.1.1
+    it : IsMade start q.clock (view_of asked.used.pass) (view_of asked.used.after) before made_entry
+    it = subst (λ (n : ℕ). IsMade start q.clock (view_of asked.used.pass) (view_of asked.used.after) before (entry_of q n place stamp reply)) seat_is made.1.1
 
     -- its place is none that was seen
     pub made_past : length (seen_at old q.object) < place
     made_past =
-        let front = front_length asked.pass.seen before it.front in
-        let same = ap length (seen_was old new q (Made place stamp reply) asked) in
+        let front = front_length asked.used.pass.seen before it.front in
+        let same = ap length (seen_was old new q.object asked.used) in
         let next : place ≡ length before + 1 = it.follows.place in
         omega arith
 
@@ -212,17 +197,17 @@ module _ (app : App) (number : ℕ) (old new : List (PassView Object)) (calls : 
         own_named Newborn its n is = absurd (cc)
 
         seen_now : seen_at new q.object ≡ before ++ made_entry ∷ []
-        seen_now = seen_here old new q (Made place stamp reply) asked ∙ it.seen
+        seen_now = seen_here old new q.object asked.used ∙ it.seen
 
         mine_now : mine_at new q.object ≡ entries_on q.object calls ++ made_entry ∷ []
         mine_now =
-            mine_here old new q (Made place stamp reply) asked ∙ it.made
-            ∙ ap (λ (es : List Entry). es ++ made_entry ∷ []) (sym (mine_was old new q (Made place stamp reply) asked) ∙ knows.mine q.object)
+            mine_here old new q.object asked.used ∙ it.made
+            ∙ ap (λ (es : List Entry). es ++ made_entry ∷ []) (sym (mine_was old new q.object asked.used) ∙ knows.mine q.object)
 
         placed_now : All (λ e. e.place ≤ length (seen_at new e.object)) (calls ++ made_entry ∷ [])
         placed_now =
             All-push (λ e. e.place ≤ length (seen_at new e.object)) calls made_entry
-            (placed_later (seen_at old) (seen_at new) (fronts old new q (Made place stamp reply) asked) calls knows.placed)
+            (placed_later (seen_at old) (seen_at new) (fronts old new q.object asked.used) calls knows.placed)
             (let next : place ≡ length before + 1 = it.follows.place in
             let long = ap length seen_now in
             let push = length_push before made_entry in omega arith)
@@ -230,15 +215,15 @@ module _ (app : App) (number : ℕ) (old new : List (PassView Object)) (calls : 
         -- the worker knows the call too
         pub made_knows : KnowsCalls app number new (calls ++ made_entry ∷ [])
         made_knows = record {
-          are = passes_are old new q (Made place stamp reply) asked app knows.are;
+          are = passes_are old new q.object asked.used app knows.are;
           mine = λ o.
               elim (decide q.object o) as (λ _. mine_at new o ≡ entries_on o (calls ++ made_entry ∷ [])) [
                 | inl same ↦ subst (λ (k : ℕ). mine_at new k ≡ entries_on k (calls ++ made_entry ∷ [])) same
                     (mine_now ∙ sym (entries_on_next calls made_entry))
-                | inr other ↦ mine_others old new q (Made place stamp reply) asked o other ∙ knows.mine o ∙ sym (entries_on_past o calls made_entry other)
+                | inr other ↦ mine_others old new q.object asked.used o other ∙ knows.mine o ∙ sym (entries_on_past o calls made_entry other)
               ];
           placed = placed_now;
           work = work_more app (seen_at new) number calls
-              (work_later (seen_at old) (seen_at new) (fronts old new q (Made place stamp reply) asked) calls knows.placed app number knows.work)
+              (work_later (seen_at old) (seen_at new) (fronts old new q.object asked.used) calls knows.placed app number knows.work)
               made_entry before seen_now it.follows.place made_stamp did (own_named q.actor own);
         }

@@ -7,8 +7,8 @@ use Rattle.anti_kind.specs.declared.asking.Asking.{Asking}
 use Rattle.anti_kind.specs.declared.call.Call.{Call}
 use Rattle.anti_kind.specs.declared.call.Reply.{Reply}
 use Rattle.anti_kind.specs.declared.entry.Entry.{Entry}
-use Rattle.anti_kind.specs.declared.port.Answer.{Answer}
-use Rattle.anti_kind.specs.declared.port.Answer.TheVariants.{Made}
+use Rattle.anti_kind.specs.declared.port.Answer.TheVariants.{Made, Refused}
+use Rattle.anti_kind.specs.declared.refusal.Refusal.{Refusal}
 use Rattle.anti_kind.specs.Objects.{last_stamp}
 use Rattle.anti_app.specs.declared.app.App.{App}
 use Rattle.anti_app.specs.Objects.{object_count}
@@ -24,11 +24,10 @@ use Rattle.anti_trace.proofs.Living.{decide}
 use Rattle.anti_play.specs.Schedule.{bearing}
 use Rattle.anti_work.specs.declared.worker.Worker.{Worker}
 use Rattle.anti_work.specs.inner.Knowing.{IsAskedBy, KnowsCalls}
-use Rattle.anti_work.specs.inner.Refusing.{IsRefusing}
 use Rattle.anti_work.specs.inner.Tries.{BearsOwn, HasBorn}
 use Rattle.anti_work.specs.inner.Working.{IsRefusedAt, Stays, StoppedAt, WorkerStands}
-use Rattle.anti_work.proofs.Asked.{made_entry, made_knows, newborn_did, newborn_none, refusing_makes_none}
-use Rattle.anti_work.proofs.Composed.{refused_asked, refused_past, stays_asked, stays_itself}
+use Rattle.anti_work.proofs.Asked.{made_entry, made_knows, newborn_did, newborn_none}
+use Rattle.anti_work.proofs.Composed.{refused_past, stays_itself, stays_refused}
 use Rattle.anti_work.proofs.OneMore.{gets_more, ours_more, stands_more}
 
 -- ---- a process that was added
@@ -49,12 +48,9 @@ module _ (app : App) (w : Worker) (calls : List Entry) (stands : WorkerStands ap
   q = bearing calls object call
 
   -- no call was made
-  pub bear_refused : (new : Worker) (answer : Answer) → IsAskedBy w.passes.items new.passes.items q answer → IsRefusing answer → new.number ≡ w.number
+  pub bear_refused : (new : Worker) (refusal : Refusal) → IsAskedBy w.passes.items new.passes.items q (Refused refusal) → new.number ≡ w.number
       → lists new.processes ≡ lists w.processes → new.clock ≡ w.clock → new.routes.items ≡ w.routes.items → Stays app w new calls × IsRefusedAt app new calls q
-  bear_refused new answer asked refuses number same clock routes = (
-    stays_asked app w new calls stands q answer asked number (refusing_makes_none answer refuses) same clock routes,
-    refused_asked app w new calls stands q answer asked number refuses,
-  )
+  bear_refused new refusal asked number same clock routes = stays_refused app w new calls stands number same clock routes q refusal asked
 
   -- nor at an object that is not there
   pub bear_past : object_count app ≤ object → Stays app w w calls × IsRefusedAt app w calls q

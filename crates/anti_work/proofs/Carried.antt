@@ -12,8 +12,8 @@ use Rattle.anti_kind.specs.declared.call.Call.TheVariants as calls
 use Rattle.anti_kind.specs.declared.call.Call.TheVariants.{Ship}
 use Rattle.anti_kind.specs.declared.call.Reply.{Reply}
 use Rattle.anti_kind.specs.declared.entry.Entry.{Entry}
-use Rattle.anti_kind.specs.declared.port.Answer.{Answer}
-use Rattle.anti_kind.specs.declared.port.Answer.TheVariants.{Made}
+use Rattle.anti_kind.specs.declared.port.Answer.TheVariants.{Made, Refused}
+use Rattle.anti_kind.specs.declared.refusal.Refusal.{Refusal}
 use Rattle.anti_kind.specs.Objects.{last_stamp}
 use Rattle.anti_kind.proofs.Histories.{last_is}
 use Rattle.anti_app.specs.declared.app.App.{App}
@@ -30,11 +30,10 @@ use Rattle.anti_work.specs.declared.worker.Route.{Route}
 use Rattle.anti_work.specs.declared.worker.Worker.{Worker}
 use Rattle.anti_work.specs.Workers.{IsNextVersion, ShipsFirst, worker_at}
 use Rattle.anti_work.specs.inner.Knowing.{IsAskedBy, KnowsCalls}
-use Rattle.anti_work.specs.inner.Refusing.{IsRefusing}
 use Rattle.anti_work.specs.inner.Shipping.{HasNoted, HasNotedAt, HasShipped, HaveNoted, IsRouteOf, first_part}
 use Rattle.anti_work.specs.inner.Working.{IsRefusedAt, RouteStands, Stays, WorkerStands}
-use Rattle.anti_work.proofs.Asked.{carrier_did, made_above, made_entry, made_knows, refusing_makes_none}
-use Rattle.anti_work.proofs.Composed.{refused_asked, refused_past, stays_asked, stays_itself}
+use Rattle.anti_work.proofs.Asked.{carrier_did, made_above, made_entry, made_knows}
+use Rattle.anti_work.proofs.Composed.{refused_past, stays_itself, stays_refused}
 use Rattle.anti_work.proofs.Grown.{entries_by_next}
 use Rattle.anti_work.proofs.OneMore.{gets_more}
 use Rattle.anti_work.proofs.Routes.{route_kept, routes_kept, ships_cases, ships_now, ships_still}
@@ -183,12 +182,11 @@ module _ (app : App) (w : Worker) (calls : List Entry) (stands : WorkerStands ap
   q_is = ap (λ (n : ℕ). record { object = object; actor = Carrier w.number; span = 0; clock = n; call = call }) stands.clock
 
   -- no call was made
-  pub carry_refused : (new : Worker) (answer : Answer) → IsAskedBy w.passes.items new.passes.items q answer → IsRefusing answer → new.number ≡ w.number
+  pub carry_refused : (new : Worker) (refusal : Refusal) → IsAskedBy w.passes.items new.passes.items q (Refused refusal) → new.number ≡ w.number
       → lists new.processes ≡ lists w.processes → new.clock ≡ w.clock → new.routes.items ≡ w.routes.items → Stays app w new calls × IsRefusedAt app new calls it
-  carry_refused new answer asked refuses number same clock routes = (
-    stays_asked app w new calls stands q answer asked number (refusing_makes_none answer refuses) same clock routes,
-    subst (IsRefusedAt app new calls) q_is (refused_asked app w new calls stands q answer asked number refuses),
-  )
+  carry_refused new refusal asked number same clock routes =
+      let both : Stays app w new calls × IsRefusedAt app new calls q = stays_refused app w new calls stands number same clock routes q refusal asked in
+      (both.0, subst (IsRefusedAt app new calls) q_is both.1)
 
   -- nor at an object that is not there
   pub carry_past : object_count app ≤ object → Stays app w w calls × IsRefusedAt app w calls it

@@ -4,7 +4,8 @@ use Rattle.std.specs.Prelude.{All, IfSome, None, Ok, Err}
 use Rattle.anti_kind.specs.declared.actor.Actor.TheVariants.{Carrier}
 use Rattle.anti_kind.specs.declared.asking.Asking.{Asking}
 use Rattle.anti_kind.specs.declared.entry.Entry.{Entry}
-use Rattle.anti_kind.specs.declared.port.Answer.{Answer}
+use Rattle.anti_kind.specs.declared.port.Answer.TheVariants.{Refused}
+use Rattle.anti_kind.specs.declared.refusal.Refusal.{Refusal}
 use Rattle.anti_kind.specs.Objects.{last_stamp}
 use Rattle.anti_app.specs.declared.app.App.{App}
 use Rattle.anti_app.specs.Objects.{object_count}
@@ -20,10 +21,9 @@ use Rattle.anti_work.specs.declared.worker.Stop.{Stop}
 use Rattle.anti_work.specs.declared.worker.Stop.TheVariants as stops
 use Rattle.anti_work.specs.declared.worker.Worker.{Worker}
 use Rattle.anti_work.specs.Workers.{worker_at}
-use Rattle.anti_work.specs.inner.Knowing.{IsAskedBy, KnowsCalls}
-use Rattle.anti_work.specs.inner.Refusing.{IsRefusing, MakesNone}
+use Rattle.anti_work.specs.inner.Knowing.{IsAskedBy, IsUsedAt, KnowsCalls}
 use Rattle.anti_work.specs.inner.Working.{ComesOf, IsRefusedAt, RouteStands, Stays, StoppedAt, WorkerStands}
-use Rattle.anti_work.proofs.Asked.{none_knows, refused_stay, was_refused}
+use Rattle.anti_work.proofs.Asked.{kept_knows, none_made, refused_stay, was_refused}
 
 -- ---- a worker that stays
 
@@ -39,14 +39,14 @@ stays_then app a b c calls first second = record {
   refused = λ q was. second.refused q (first.refused q was);
 }
 
--- one of which a call was asked that was not made: all but its passes is as it was
-module _ (app : App) (old new : Worker) (calls : List Entry) (stands : WorkerStands app old calls) (q : Asking) (answer : Answer)
-    (asked : IsAskedBy old.passes.items new.passes.items q answer) (number : new.number ≡ old.number) where
-  pub stays_asked : MakesNone answer → lists new.processes ≡ lists old.processes → new.clock ≡ old.clock → new.routes.items ≡ old.routes.items → Stays app old new calls
-  stays_asked none processes clock routes = record {
+-- one of which a pass was used for no call: all but its passes is as it was
+module _ (app : App) (old new : Worker) (calls : List Entry) (stands : WorkerStands app old calls) (number : new.number ≡ old.number)
+    (processes : lists new.processes ≡ lists old.processes) (clock : new.clock ≡ old.clock) (routes : new.routes.items ≡ old.routes.items) where
+  pub stays_used : (object : ℕ) (used : IsUsedAt old.passes.items new.passes.items object) → used.after.mine ≡ used.pass.mine → Stays app old new calls
+  stays_used object used kept = record {
     stands = record {
       knows = subst (λ (n : ℕ). KnowsCalls app n new.passes.items calls) (sym number)
-          (none_knows app old.number old.passes.items new.passes.items calls stands.knows q answer asked none);
+          (kept_knows app old.number old.passes.items new.passes.items calls stands.knows object used kept);
       processes = subst (λ (all : List AtObject). AreProcessesOf app all calls) (sym processes) stands.processes;
       go = subst (λ (all : List AtObject). (o : ℕ) → All (λ p. full_of p ≡ None) (born_at all o)) (sym processes) stands.go;
       clock = clock ∙ stands.clock ∙ ap (λ (n : ℕ). last_stamp (entries_by (Carrier n) calls)) (sym number);
@@ -54,12 +54,15 @@ module _ (app : App) (old new : Worker) (calls : List Entry) (stands : WorkerSta
       routes = subst (λ (n : ℕ). All (RouteStands n calls) new.routes.items) (sym number) (subst (All (RouteStands old.number calls)) (sym routes) stands.routes);
     };
     processes = processes;
-    refused = refused_stay app old.number old.passes.items new.passes.items calls stands.knows q answer asked none;
+    refused = refused_stay app old.number old.passes.items new.passes.items calls stands.knows object used kept;
   }
 
-  -- what was refused was refused with all of its calls
-  pub refused_asked : IsRefusing answer → IsRefusedAt app new calls q
-  refused_asked refuses start there = was_refused app old.number old.passes.items new.passes.items calls stands.knows q answer asked refuses
+  -- where it asked for a call in vain, that was refused with all of its calls
+  pub stays_refused : (q : Asking) (refusal : Refusal) → IsAskedBy old.passes.items new.passes.items q (Refused refusal) → Stays app old new calls × IsRefusedAt app new calls q
+  stays_refused q refusal asked = (
+    stays_used q.object asked.used (none_made app old.number old.passes.items new.passes.items calls stands.knows q refusal asked),
+    λ start there. was_refused app old.number old.passes.items new.passes.items calls stands.knows q refusal asked,
+  )
 
 -- what was refused stays so
 pub still_refused : (app : App) (old new : Worker) (calls : List Entry) → Stays app old new calls → (q : Asking) → IsRefusedAt app old calls q → IsRefusedAt app new calls q

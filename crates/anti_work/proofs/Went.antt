@@ -11,8 +11,8 @@ use Rattle.anti_kind.specs.declared.call.Call.{Call}
 use Rattle.anti_kind.specs.declared.call.Call.TheVariants as calls
 use Rattle.anti_kind.specs.declared.call.Reply.{Reply}
 use Rattle.anti_kind.specs.declared.entry.Entry.{Entry}
-use Rattle.anti_kind.specs.declared.port.Answer.{Answer}
-use Rattle.anti_kind.specs.declared.port.Answer.TheVariants.{Made}
+use Rattle.anti_kind.specs.declared.port.Answer.TheVariants.{Made, Refused}
+use Rattle.anti_kind.specs.declared.refusal.Refusal.{Refusal}
 use Rattle.anti_kind.specs.Entries.{named}
 use Rattle.anti_kind.specs.Objects.{last_stamp}
 use Rattle.anti_app.specs.declared.app.App.{App}
@@ -39,11 +39,10 @@ use Rattle.anti_trace.proofs.Living.{decide}
 use Rattle.anti_play.specs.Schedule.{asked_by, asking_at, next_call}
 use Rattle.anti_work.specs.declared.worker.Worker.{Worker}
 use Rattle.anti_work.specs.inner.Knowing.{IsAskedBy, KnowsCalls}
-use Rattle.anti_work.specs.inner.Refusing.{IsRefusing}
 use Rattle.anti_work.specs.inner.Tries.{AsksFor, IsFed, IsGoRefused, MayFeed}
 use Rattle.anti_work.specs.inner.Working.{IsRefusedAt, Stays, StoppedAt, WorkerStands}
-use Rattle.anti_work.proofs.Asked.{made_above, made_entry, made_knows, made_no_birth, process_did, refusing_makes_none}
-use Rattle.anti_work.proofs.Composed.{refused_asked, refused_past, stays_asked, stays_itself}
+use Rattle.anti_work.proofs.Asked.{made_above, made_entry, made_knows, made_no_birth, process_did}
+use Rattle.anti_work.proofs.Composed.{refused_past, stays_itself, stays_refused}
 use Rattle.anti_work.proofs.OneMore.{Ascend, gets_more, mine_ascend, ours_more, stands_more}
 
 -- ---- a process that took a reply
@@ -172,12 +171,11 @@ module _ (app : App) (w : Worker) (calls : List Entry) (stands : WorkerStands ap
         subst (IsRefusedAt app new calls) its refused
 
     -- no call was made for it
-    pub go_refused : (new : Worker) (answer : Answer) → IsAskedBy w.passes.items new.passes.items q answer → IsRefusing answer → new.number ≡ w.number
+    pub go_refused : (new : Worker) (refusal : Refusal) → IsAskedBy w.passes.items new.passes.items q (Refused refusal) → new.number ≡ w.number
         → lists new.processes ≡ lists w.processes → new.clock ≡ w.clock → new.routes.items ≡ w.routes.items → Stays app w new calls × IsGoRefused app new calls object at
-    go_refused new answer asked refuses number same clock routes = (
-      stays_asked app w new calls stands q answer asked number (refusing_makes_none answer refuses) same clock routes,
-      asks_refused new same (refused_asked app w new calls stands q answer asked number refuses),
-    )
+    go_refused new refusal asked number same clock routes =
+        let both : Stays app w new calls × IsRefusedAt app new calls q = stays_refused app w new calls stands number same clock routes q refusal asked in
+        (both.0, asks_refused new same both.1)
 
     -- nor at an object that is not there
     pub go_past : object_count app ≤ q.object → Stays app w w calls × IsGoRefused app w calls object at

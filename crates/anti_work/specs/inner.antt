@@ -3,7 +3,6 @@ pub mod Firsts
 pub mod Gathering
 pub mod Joining
 pub mod Knowing
-pub mod Refusing
 pub mod Rounds
 pub mod Shipping
 pub mod Starting

@@ -1,7 +1,5 @@
-ghost use Rattle.std.specs.Prelude.{◌≡◌, ◌<◌, length, slice_get, Some};
+ghost use Rattle.std.specs.Prelude.{◌≡◌, ◌<◌, length};
 ghost use Rattle.anti_kind.specs.Shipments.{IsShip};
-ghost use Rattle.anti_object.specs.Standing.{object_start};
-ghost use Rattle.anti_shared.specs.Passes.{GoesFrom, PassView, start_of};
 ghost use Rattle.anti_work.specs.inner.Knowing.{AreOf, IsAskedBy, IsToldBy};
 
 use anti_kind::{Answer, Asking};
@@ -20,8 +18,6 @@ pub(crate) fn ask<R: Wait>(
     requires of { AreOf shared.now passes.old.items }
     ensures of { AreOf shared.now passes.new.items }
     ensures asked { IsAskedBy passes.old.items passes.new.items asking result }
-    ensures memory { result ≡ Answer.NoMemory → (pass : PassView Object) → slice_get passes.new.items asking.object ≡ Some pass
-        → GoesFrom (start_of object_start pass.id) pass.seen asking }
     ensures ship { IsShip asking.call → result ≡ Answer.NoMemory → ⊥ }
 {
     let Asking {

@@ -58,9 +58,7 @@ impl Worker {
                     Err(_none) => Err(Stop::NoMemory),
                 }
             }
-            Answer::NotYet => Ok(false),
-            Answer::Full { .. } => Ok(false),
-            Answer::Spent { .. } => Ok(false),
+            Answer::Refused(_) => Ok(false),
             Answer::NoMemory => Err(Stop::NoMemory),
         }
     }

@@ -129,9 +129,7 @@ impl Worker {
                 Err(Stop::NoMemory) => Err(Stop::NoMemory),
                 Err(Stop::Foreign) => Err(Stop::Foreign),
             },
-            Answer::NotYet => Ok(false),
-            Answer::Full { .. } => Ok(false),
-            Answer::Spent { .. } => Ok(false),
+            Answer::Refused(_) => Ok(false),
             Answer::NoMemory => Err(Stop::NoMemory),
         }
     }

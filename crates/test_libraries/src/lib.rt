@@ -17,6 +17,8 @@ mod edge;
 #[cfg(test)]
 mod flight;
 #[cfg(test)]
+mod handing_out;
+#[cfg(test)]
 mod ids;
 #[cfg(test)]
 mod inbox;

@@ -6,7 +6,7 @@ ghost use Rattle.anti_shim.specs.Sights.{IsHere};
 use crate::made::{Version, id, lineage, name, value};
 use crate::steps::{Asked, call_of};
 use anti_ids::{Lineage, WriteId};
-use anti_kind::{Actor, Answer, Port, Reply};
+use anti_kind::{Actor, Answer, Port, Refusal, Reply};
 use anti_shim::{Barrier, BarrierAnswer, Caller, ShimFault, StoreShim, barrier, dry_run};
 use std::alloc::Global;
 
@@ -81,12 +81,20 @@ pub fn is_count(count: usize, told: &Told) -> bool {
     matches!(told, Told::Count(wanted) if *wanted == count)
 }
 
+/// Whether a refusal is what is told.
+pub fn is_refused(refusal: &Refusal, told: &Told) -> bool {
+    match (refusal, told) {
+        (Refusal::NotYet, Told::NotYet) => true,
+        (Refusal::Full { held, owed, need }, Told::Full(full)) => (*held, *owed, *need) == *full,
+        (Refusal::Spent { clock }, Told::Spent(last)) => clock == last,
+        _ => false,
+    }
+}
+
 /// Whether a fault is what is told.
 pub fn is_fault(fault: &ShimFault, told: &Told) -> bool {
     match (fault, told) {
-        (ShimFault::NotYet, Told::NotYet) => true,
-        (ShimFault::Full { held, owed, need }, Told::Full(full)) => (*held, *owed, *need) == *full,
-        (ShimFault::Spent { clock }, Told::Spent(last)) => clock == last,
+        (ShimFault::Refused(refusal), _) => is_refused(refusal, told),
         (ShimFault::Unwritten(id), Told::Unwritten(key, version)) => is_id(id, key, *version),
         (ShimFault::LineageFull(id), Told::LineageFull(key, version)) => is_id(id, key, *version),
         _ => false,
@@ -115,9 +123,7 @@ pub fn is_answered(answer: &Answer, told: &Told) -> bool {
             },
             _,
         ) => is_count(0, told),
-        (Answer::NotYet, Told::NotYet) => true,
-        (Answer::Full { held, owed, need }, Told::Full(full)) => (*held, *owed, *need) == *full,
-        (Answer::Spent { clock }, Told::Spent(last)) => clock == last,
+        (Answer::Refused(refusal), _) => is_refused(refusal, told),
         _ => false,
     }
 }
@@ -126,12 +132,8 @@ pub fn is_answered(answer: &Answer, told: &Told) -> bool {
 pub fn is_held(answer: &BarrierAnswer, told: &Told) -> bool {
     match (answer, told) {
         (BarrierAnswer::Clear(sights), _) => is_count(sights.len(), told),
-        (BarrierAnswer::NotYet, Told::NotYet) => true,
+        (BarrierAnswer::Refused(refusal), _) => is_refused(refusal, told),
         (BarrierAnswer::Unwritten(id), Told::Unwritten(key, version)) => is_id(id, key, *version),
-        (BarrierAnswer::Full { held, owed, need }, Told::Full(full)) => {
-            (*held, *owed, *need) == *full
-        }
-        (BarrierAnswer::Spent { clock }, Told::Spent(last)) => clock == last,
         _ => false,
     }
 }

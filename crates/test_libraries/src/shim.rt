@@ -93,8 +93,8 @@ fn fresh(alloc: Global) -> Session {
     }
 }
 
-// Whether a row is such.
-fn is_row(row: &Row, (version, value, ids): &Shown) -> bool {
+/// Whether a row is such.
+pub fn is_row(row: &Row, (version, value, ids): &Shown) -> bool {
     row.version == *version && row.value.bytes() == *value && row.lineage.len() == *ids
 }
 

@@ -6,7 +6,8 @@ ghost use Rattle.anti_kind.specs.Machines.{StandsFor};
 use crate::made::{Version, lineage, message};
 use anti_ids::{Lineage, Name, NoMemory, Value};
 use anti_kind::{
-    Actor, Answer, Asking, Brought, Call, Handle, Machine, MessageKind, Recorded, Reply, Row,
+    Actor, Answer, Asking, Brought, Call, Handle, Machine, MessageKind, Recorded, Refusal, Reply,
+    Row,
 };
 use std::alloc::Global;
 use std::process::Abort;
@@ -246,7 +247,7 @@ fn is_told(reply: &Reply, told: Told) -> bool {
 pub fn is_answered(answer: &Answer, told: Told) -> bool {
     match answer {
         Answer::Made { reply, .. } => is_told(reply, told),
-        Answer::NotYet => matches!(told, Told::NotNow),
+        Answer::Refused(Refusal::NotYet) => matches!(told, Told::NotNow),
         _ => false,
     }
 }

@@ -1,41 +1,12 @@
 // Barriers and dry runs over two stores: they end at the first refusal, ask no store behind it, and leave the looks that were made.
-ghost use Rattle.std.specs.Prelude.{◌≡◌, ℕ, [], ◌∷◌, cond, ◌==◌};
+ghost use Rattle.std.specs.Prelude.{◌≡◌, ℕ, [], ◌∷◌};
 ghost use Rattle.anti_shim.specs.Sights.{IsHere};
 
 use crate::made::{Version, assert_right};
 use crate::ports::{OfPort, READ, SHIP, Told, WRITE, answers};
-use anti_kind::{Actor, Answer, Call, Lone, Port};
+use anti_kind::{Lone, Pair, Port};
 use anti_kv::Kv;
 use std::alloc::Global;
-
-// A port over two others: what is asked of the object 0 goes to the first of them, and all else to the second.
-#[derive(Drop)]
-struct Both<P, Q> {
-    first: P,
-    second: Q,
-}
-
-impl<P: Port, Q: Port> Port for Both<P, Q> {
-    ghost start = { λ both o. cond (o == 0) (P.start both.first o) (Q.start both.second o) };
-
-    ghost view = { λ both o. cond (o == 0) (P.view both.first o) (Q.view both.second o) };
-
-    fn has(&self, object: u32) -> bool {
-        if object == 0 {
-            self.first.has(object)
-        } else {
-            self.second.has(object)
-        }
-    }
-
-    fn call(&mut self, object: u32, actor: Actor, span: u32, clock: u64, c: Call) -> Answer {
-        if object == 0 {
-            self.first.call(object, actor, span, clock, c)
-        } else {
-            self.second.call(object, actor, span, clock, c)
-        }
-    }
-}
 
 // What is asked of a port over the stores 0 and 1, and what is told.
 struct Step<'a>(OfPort<'a>, Told<'a>);
@@ -69,7 +40,7 @@ fn wrong_step(alloc: Global, steps: &[Step]) -> Option<usize> {
     let Ok(second) = Lone::new(alloc, 1, second) else {
         return Some(0);
     };
-    let mut port = Both { first, second };
+    let mut port = Pair { first, second };
     wrong_step_at(alloc, &mut port, steps)
 }
 

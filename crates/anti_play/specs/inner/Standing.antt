@@ -6,8 +6,8 @@ use Rattle.anti_kind.specs.declared.actor.Actor.TheVariants.{Carrier, Process as
 use Rattle.anti_kind.specs.declared.actor.Birth.{Birth}
 use Rattle.anti_kind.specs.declared.call.Call.{Call}
 use Rattle.anti_kind.specs.declared.entry.Entry.{Entry}
-use Rattle.anti_kind.specs.declared.recorded.Refusal.{Refusal}
-use Rattle.anti_kind.specs.declared.recorded.Refusal.TheVariants.{NotYet, Full, Spent}
+use Rattle.anti_kind.specs.declared.refusal.Refusal.{Refusal}
+use Rattle.anti_kind.specs.declared.refusal.Refusal.TheVariants.{NotYet, Full, Spent}
 use Rattle.anti_kind.specs.Objects.{Start, last_stamp, need, owed}
 use Rattle.anti_kind.specs.Ports.{IsFull}
 use Rattle.anti_kind.specs.Records.{Record}

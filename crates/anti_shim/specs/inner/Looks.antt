@@ -7,7 +7,7 @@ use Rattle.anti_kind.specs.declared.call.Reply.TheVariants.{Missing}
 use Rattle.anti_shim.specs.declared.barrier_answer.BarrierAnswer.{BarrierAnswer}
 use Rattle.anti_shim.specs.declared.barrier_answer.BarrierAnswer.TheVariants as answers
 use Rattle.anti_shim.specs.declared.fault.ShimFault.{ShimFault}
-use Rattle.anti_shim.specs.declared.fault.ShimFault.TheVariants.{NotYet, Full, Spent, Unwritten, LineageFull, NoMemory}
+use Rattle.anti_shim.specs.declared.fault.ShimFault.TheVariants.{Refused, Unwritten, LineageFull, NoMemory}
 use Rattle.anti_shim.specs.declared.looks.PlannedLook.{PlannedLook}
 use Rattle.anti_shim.specs.declared.sight.Sight.{Sight}
 use Rattle.anti_shim.specs.Steps.{Step}
@@ -40,9 +40,7 @@ IsOfLook _ = Unit {0}
 
 -- the answer of a barrier whose look gave this fault
 abbrev pub IsRefusal : ShimFault → BarrierAnswer → Type 0
-IsRefusal NotYet answer = answer ≡ answers.NotYet
-IsRefusal (Full held owed need) answer = answer ≡ answers.Full held owed need
-IsRefusal (Spent clock) answer = answer ≡ answers.Spent clock
+IsRefusal (Refused refusal) answer = answer ≡ answers.Refused refusal
 IsRefusal (Unwritten id) answer = answer ≡ answers.Unwritten id
 IsRefusal (LineageFull id) answer = ⊥
 IsRefusal NoMemory answer = answer ≡ answers.NoMemory

@@ -13,6 +13,7 @@ use Rattle.anti_object.specs.declared.object.Object.{Object}
 use Rattle.anti_shared.specs.Passes.{IsPass, PassView, SharedView, calls_of, view_of}
 use Rattle.anti_shared.specs.Passes as passes
 use Rattle.anti_trace.specs.Traces.{entries_on}
+use Rattle.anti_turn.specs.Lists.{IsFront}
 use Rattle.anti_work.specs.inner.Works.{IsWork}
 
 -- ---- the pass of an object: what it has seen, its calls, its number
@@ -56,26 +57,27 @@ pub record AreOf (shared : List (SharedView Object)) (all : List (PassView Objec
   pub each : (o : ℕ) (s : SharedView Object) (pass : PassView Object) → slice_get shared o ≡ Some s → slice_get all o ≡ Some pass → pass.id ≡ s.id
   pub numbered : (o : ℕ) (pass : PassView Object) → slice_get all o ≡ Some pass → pass.id.object ≡ o
 
--- One call was asked, by the pass of its object, and answered.
-pub record IsAskedBy (old new : List (PassView Object)) (q : Asking) (answer : Answer) : Type 0 where
-  pub pass : PassView Object
-  pub after : PassView Object
-  pub was : slice_get old q.object ≡ Some pass
-  pub is : new ≡ slice_set old q.object after
-  pub id_is : after.id ≡ pass.id
-  pub number_is : after.number ≡ pass.number
-  pub ended_is : after.ended ≡ pass.ended
-  pub answered : Answered (passes.start_of object_start pass.id) q (view_of pass) (view_of after) answer
-  pub knows : IsPass object_start after
-
--- The pass of an object was told of a region. It notes that, and all else is as it was.
-pub record IsToldBy (old new : List (PassView Object)) (object : ℕ) : Type 0 where
+-- The pass of an object was used. It is still that pass, with all that it had seen.
+pub record IsUsedAt (old new : List (PassView Object)) (object : ℕ) : Type 0 where
   pub pass : PassView Object
   pub after : PassView Object
   pub was : slice_get old object ≡ Some pass
   pub is : new ≡ slice_set old object after
-  pub after_is : after ≡ record pass { loaded = after.loaded; loads = after.loads }
+  pub id_is : after.id ≡ pass.id
+  pub number_is : after.number ≡ pass.number
+  pub ended_is : after.ended ≡ pass.ended
+  pub front : IsFront pass.seen after.seen
   pub knows : IsPass object_start after
+
+-- One call was asked, by the pass of its object, and answered.
+pub record IsAskedBy (old new : List (PassView Object)) (q : Asking) (answer : Answer) : Type 0 where
+  pub used : IsUsedAt old new q.object
+  pub answered : Answered (passes.start_of object_start used.pass.id) q (view_of used.pass) (view_of used.after) answer
+
+-- The pass of an object was told of a region. It notes that, and all else is as it was.
+pub record IsToldBy (old new : List (PassView Object)) (object : ℕ) : Type 0 where
+  pub used : IsUsedAt old new object
+  pub after_is : used.after ≡ record used.pass { loaded = used.after.loaded; loads = used.after.loads }
 
 -- ---- what all of them know
 

@@ -11,7 +11,7 @@ use Rattle.anti_shim.specs.declared.sight.Sight.{Sight}
 use Rattle.anti_shim.specs.Plans.{plan}
 use Rattle.anti_shim.specs.Steps.{between}
 use Rattle.anti_shim.specs.Sights.{has_sight, unseen}
-use Rattle.anti_shim.specs.Barriers.{sights_after, BarrierGives}
+use Rattle.anti_shim.specs.Barriers.{sights_after, idle, BarrierGives}
 use Rattle.anti_shim.specs.inner.Looks.{LooksOnce, IsRefusal}
 use Rattle.anti_shim.proofs.PlanLemmas.{plan_right}
 use Rattle.anti_shim.proofs.BarrierLoop.{Went, done, Turn, is_right, went_start, turn_went, turn_seen, turn_gives, fails, not_refused_so}
@@ -25,9 +25,11 @@ loop-look-init g c =
     let planned = plan c.args.wanted.here.now c.args.wanted.lineage.now in
     record {
       went = went_start (g.P.Port.start c.args.port.now) (g.P.Port.view c.args.port.now) c.args.who.now c.args.wanted.region planned c.args.cursor.now c.requires.sights;
+      not_refused = λ o. idle (refl {a = g.P.Port.view c.args.port.now o});
       unasked = λ o none. refl {a = g.P.Port.view c.args.port.now o};
       covered = All-nil (λ (l : PlannedLook). has_sight c.args.cursor.now l.store ≡ true);
       fixed = λ o. refl;
+      rest = refl;
     }
 
 -- without memory for the plan nothing was looked at
@@ -36,7 +38,7 @@ returns-in_default-clause-answer g c =
     let planned = plan c.args.wanted.here.now c.args.wanted.lineage.now in
     let views = g.P.Port.view c.args.port.now in
     done (between g.P.Port c.args.port.now c.args.port.now c.args.who.now c.args.who.now) c.args.wanted.region planned c.args.cursor.now c.args.cursor.now c.args.cursor.now NoMemory
-    (went_start (g.P.Port.start c.args.port.now) views c.args.who.now c.args.wanted.region planned c.args.cursor.now c.requires.sights) refl tt
+    (went_start (g.P.Port.start c.args.port.now) views c.args.who.now c.args.wanted.region planned c.args.cursor.now c.requires.sights) refl (λ o. idle (refl {a = views o}))
 
 -- the looks that are gone over are the planned ones
 pub loop-look-preserved-then-has : goal.loop-look-preserved-then-has
@@ -49,9 +51,11 @@ loop-look-preserved-then-has g c =
     ap (λ (l : PlannedLook). has_sight c.loop-look.cursor l.store) (sym is) ∙ sym c.has.ensures ∙ c.if-has.true in
     record {
       went = c.loop-look.invariant.went;
+      not_refused = c.loop-look.invariant.not_refused;
       unasked = c.loop-look.invariant.unasked;
       covered = All-more (λ (l : PlannedLook). has_sight c.loop-look.cursor l.store ≡ true) planned c.loop-look.look-index c.look-item.result within c.loop-look.invariant.covered there;
       fixed = c.loop-look.invariant.fixed;
+      rest = c.loop-look.invariant.rest;
     }
 
 -- the turn, and what its look did
@@ -62,6 +66,7 @@ turn g c =
     record {
       right = plan_right (g.P.Port.start c.args.port.now) c.args.wanted.region c.args.wanted.here.now c.args.wanted.lineage.now c.requires.here;
       went = c.loop-look.invariant.went;
+      not_refused = c.loop-look.invariant.not_refused;
       unasked = c.loop-look.invariant.unasked;
       covered = c.loop-look.invariant.covered;
       within = subst (λ (xs : List PlannedLook). c.loop-look.look-index < length xs) items c.loop-look-test.true;
@@ -86,9 +91,11 @@ loop-look-preserved g c =
     let further = turn_seen (turn g a) (looked g a (Ok tt) c.in_default-look.is) in
     record {
       went = went g a;
-      unasked = further.0;
-      covered = further.1;
+      not_refused = further.0;
+      unasked = further.1;
+      covered = further.2;
       fixed = λ o. c.look.ensures.fixed o ∙ c.loop-look.invariant.fixed o;
+      rest = c.look.ensures.rest ∙ c.loop-look.invariant.rest;
     }
 
 -- a look that gave a fault

@@ -99,6 +99,7 @@ loop-look-preserved g c =
       part = λ id has. part_more missing c.loop-look.named.ids c.args.lineage.now (part g a missing gave) c.loop-look.invariant.part id (subst (λ (xs : List WriteId). has_id id xs ≡ true) more has);
       room = c.transfer.ensures.spare ∙ c.loop-look.invariant.room;
       fixed = λ o. c.see_dry.ensures.fixed o ∙ c.loop-look.invariant.fixed o;
+      rest = c.see_dry.ensures.rest ∙ c.loop-look.invariant.rest;
     }
 
 pub returns-clause-answer : goal.returns-clause-answer

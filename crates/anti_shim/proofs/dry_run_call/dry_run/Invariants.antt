@@ -20,4 +20,5 @@ invariant-loop-look g l =
       part : (id : WriteId) → has_id id l.named.ids ≡ true → has_id id l.lineage ≡ true;
       room : length l.named.ids + l.named.spare ≡ length l.lineage;
       fixed : (o : ℕ) → g.P.Port.start l.port o ≡ g.P.Port.start l.fn.port o;
+      rest : g.P.Port.rest l.port ≡ g.P.Port.rest l.fn.port;
     }

@@ -2,7 +2,7 @@
 use Rattle.std.proofs.Common.{refl, arith}
 use Rattle.std.specs.Prelude.{slice_set}
 use Rattle.anti_object.proofs.News.{found}
-use Rattle.anti_work.proofs.PassCalls.{asked_by, goes_then, still_of}
+use Rattle.anti_work.proofs.PassCalls.{asked_by, still_of}
 use Rattle.anti_work.proofs.asking.ask.Goals as goal
 
 pub returns-clause-asked : goal.returns-clause-asked
@@ -13,11 +13,5 @@ returns-clause-asked g c =
 
 pub returns-clause-of : goal.returns-clause-of
 returns-clause-of g c =
-    still_of c.args.passes.now.items (slice_set c.args.passes.now.items c.args.asking.object c.call-answer.new.pass) c.args.asking c.call-answer.result
-    (returns-clause-asked g c) c.args.shared.now c.requires.of
-
-pub returns-clause-memory : goal.returns-clause-memory
-returns-clause-memory g c none =
-    goes_then c.args.shared.now c.args.passes.now.items c.args.asking c.index_mut-pass.result.now c.call-answer.new.pass c.requires.of
-    (found c.args.passes.now.items c.args.passes.now.items c.args.asking.object c.index_mut-pass.result.now refl (omega (arith, c.requires.there, c.requires.of.count)) c.index_mut-pass.ensures.value)
-    c.call-answer.ensures.pass (c.call-answer.ensures.memory none)
+    still_of c.args.passes.now.items (slice_set c.args.passes.now.items c.args.asking.object c.call-answer.new.pass) c.args.asking.object
+    (returns-clause-asked g c).used c.args.shared.now c.requires.of

@@ -1,5 +1,5 @@
 use Rattle.std.proofs.Common.{[], ◌∷◌}
-use Rattle.test_libraries.proofs.Here.{here_stays}
+use Rattle.anti_shim.proofs.Here.{here_stays}
 use Rattle.test_libraries.proofs.shared.all_go.Goals as goal
 
 pub loop-step-preserved : goal.loop-step-preserved

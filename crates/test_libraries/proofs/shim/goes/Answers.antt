@@ -1,6 +1,6 @@
 use Rattle.std.proofs.Common.{[], ◌∷◌}
 use Rattle.anti_kind.specs.Lones.{lone_start}
-use Rattle.test_libraries.proofs.Here.{here_stays}
+use Rattle.anti_shim.proofs.Here.{here_stays}
 use Rattle.test_libraries.proofs.shim.goes.Goals as goal
 
 pub loop-turn-preserved : goal.loop-turn-preserved

@@ -1,5 +1,5 @@
 use Rattle.std.proofs.Common.{[], ◌∷◌}
-use Rattle.test_libraries.proofs.Here.{here_stays}
+use Rattle.anti_shim.proofs.Here.{here_stays}
 use Rattle.test_libraries.proofs.two_stores.wrong_step_at.Goals as goal
 
 pub loop-place-preserved : goal.loop-place-preserved

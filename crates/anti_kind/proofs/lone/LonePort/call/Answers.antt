@@ -1,8 +1,6 @@
 use Rattle.std.proofs.lemmas.Grind.{common_steps}
-use Rattle.std.proofs.Common.{refl, subst, arith}
+use Rattle.std.proofs.Common.{refl, arith}
 use Rattle.anti_kind.specs.declared.asking.Asking.{Asking}
-use Rattle.anti_kind.specs.declared.port.Answer.{Answer}
-use Rattle.anti_kind.specs.Records.{Gives}
 use Rattle.anti_kind.proofs.Making.{given_answers, answered}
 use Rattle.anti_kind.proofs.lone.LonePort.call.Goals as goal
 
@@ -16,13 +14,6 @@ returns-clause-answer g c =
     (answered g.M.Machine.start (record { object = c.self.inside.object; machine = c.self.inside.recorded.machine; history = h; visits = c.self.inside.visits })
     (record { object = c.self.inside.object; machine = c.ask.new.self.machine; history = c.ask.new.self.history; visits = c.saturating_add-self-inside.result }) q
     c.if-object-self.false refl c.ask.result answers c.ask.ensures.before c.ask.ensures.after)
-
-pub returns-clause-memory : goal.returns-clause-memory
-returns-clause-memory g c wants =
-    let start = g.M.Machine.start c.self.inside.recorded.machine in
-    let h = c.self.inside.recorded.history in
-    let q : Asking = record { object = c.args.object; actor = c.args.actor; span = c.args.span; clock = c.args.clock; call = c.args.c } in
-    rw (← c.self.view_is) (subst (λ (a : Answer). Gives start h 0 q c.ask.new.self.history a) wants c.ask.ensures.gives).1
 
 pub invariant_of-self : goal.invariant_of-self
 invariant_of-self g c = grind (arith, common_steps)

@@ -2,8 +2,8 @@ use Rattle.std.proofs.Common.{arith, List, ◌≡◌, Result, Ok, Err, refl, ap,
 use Rattle.std.proofs.lemmas.Grind.{common_steps}
 use Rattle.anti_kind.specs.declared.actor.Actor.{Actor}
 use Rattle.anti_kind.specs.declared.actor.Actor.TheVariants.{Process as Acting}
-use Rattle.anti_kind.specs.declared.recorded.Refusal.{Refusal}
-use Rattle.anti_kind.specs.declared.recorded.Refusal.TheVariants.{NotYet, Full, Spent}
+use Rattle.anti_kind.specs.declared.refusal.Refusal.{Refusal}
+use Rattle.anti_kind.specs.declared.refusal.Refusal.TheVariants.{NotYet, Full, Spent}
 use Rattle.anti_kind.specs.declared.entry.Entry.{Entry}
 use Rattle.anti_play.specs.declared.world.DueEntry.{DueEntry}
 use Rattle.anti_play.specs.Schedule.{asking_at, clock_of}

@@ -1,16 +1,15 @@
 use Rattle.std.proofs.Common.{◌≡◌, ℕ, ap, sym, ◌∙◌, subst}
 use Rattle.anti_kind.specs.declared.entry.Entry.{Entry}
-use Rattle.anti_kind.specs.declared.port.Answer.TheVariants.{NoMemory}
 use Rattle.anti_kind.specs.Objects.{IsLegal}
 use Rattle.anti_kind.specs.Ports.{Answered}
 use Rattle.anti_kind.specs.Records.{Gives}
 use Rattle.anti_kind.proofs.Histories.{legal_front}
 use Rattle.anti_turn.specs.Lists.{Adds, top}
 use Rattle.anti_turn.specs.Places.{Place, without_turn}
-use Rattle.anti_shared.specs.Passes.{PassView, GoesFrom, HasLoaded, seat_of, start_of, view_of}
+use Rattle.anti_shared.specs.Passes.{PassView, HasLoaded, seat_of, start_of, view_of}
 use Rattle.anti_shared.specs.inner.Seating.{pass_of}
 use Rattle.anti_shared.proofs.Seated.{visited_seat, seated_visit, visited_pass, visited_own, told_there, has_loaded, started}
-use Rattle.anti_shared.proofs.Answering.{adds, reached_still, wanted, answered, ended_stay}
+use Rattle.anti_shared.proofs.Answering.{adds, reached_still, answered, ended_stay}
 use Rattle.anti_shared.proofs.shared.Shared.visit.Goals as goal
 use Rattle.anti_shared.proofs.shared.Shared.visit.Goals.{After-offer-answer, After-tell}
 use Rattle.anti_shared.proofs.shared.Shared.visit.Given as given
@@ -74,18 +73,6 @@ pub returns-clause-own : goal.returns-clause-own
 returns-clause-own g c =
     let at = goal.at.returns-clause-own g c in
     visited_own c.pass.inside.seat c.tell.new.seat c.args.pass.now c.offer-answer.new.self.history c.pass.view_is (moved g c)
-
-pub returns-clause-memory : goal.returns-clause-memory
-returns-clause-memory g c =
-    let at = goal.at.returns-clause-memory g c in
-    let start = g.M.Machine.start in
-    let seat = c.pass.inside.seat in
-    let part : ℕ × g.row.M.Denot = (c.enter-held.result.value.object, c.enter-held.result.value.first) in
-    let is = started start seat part c.enter-held.ensures.fixed in
-    subst (λ (z : PassView g.row.M.Denot × Place Entry (ℕ × g.row.M.Denot)). c.offer-answer.result ≡ NoMemory → GoesFrom (start_of start z.0.id) (pass_of z.1).seen c.args.asking)
-    (λ i. (c.pass.view_is i, sym (moved g c) i))
-    (wanted (start part.1) c.args.asking seat.number c.enter-held.result.value.history c.offer-answer.new.self.history (start_of start (pass_of seat).id) is c.offer-answer.result
-    (offered g at.After-offer-answer))
 
 pub returns-clause-loaded : goal.returns-clause-loaded
 returns-clause-loaded g c =

@@ -20,20 +20,10 @@ returns-in-Made-clause-tried g c calls stands =
     c.in-Made.place c.in-Made.stamp c.in-Made.reply c.in-Made.ensures.asked refl c.requires.own c.in_ok-again.again c.in_ok-again.ensures
     (c.add.ensures.foreign (c.in-Err-Foreign.is ∙ ap Err c.in-Err-Foreign.field-0-is))
 
-pub returns-in-NotYet-clause-tried : goal.returns-in-NotYet-clause-tried
-returns-in-NotYet-clause-tried g c calls stands =
+pub returns-in-Refused-clause-tried : goal.returns-in-Refused-clause-tried
+returns-in-Refused-clause-tried g c calls stands =
     bear_refused c.args.app.now c.args.self.now calls stands c.args.object c.args.call (record c.args.self.now { passes = c.ask.new.passes }) _
-    c.in-NotYet.ensures.asked tt refl refl refl refl
-
-pub returns-in-Full-clause-tried : goal.returns-in-Full-clause-tried
-returns-in-Full-clause-tried g c calls stands =
-    bear_refused c.args.app.now c.args.self.now calls stands c.args.object c.args.call (record c.args.self.now { passes = c.ask.new.passes }) _
-    c.in-Full.ensures.asked tt refl refl refl refl
-
-pub returns-in-Spent-clause-tried : goal.returns-in-Spent-clause-tried
-returns-in-Spent-clause-tried g c calls stands =
-    bear_refused c.args.app.now c.args.self.now calls stands c.args.object c.args.call (record c.args.self.now { passes = c.ask.new.passes }) _
-    c.in-Spent.ensures.asked tt refl refl refl refl
+    c.in-Refused.ensures.asked refl refl refl refl
 
 pub returns-then-object-shared-clause-tried : goal.returns-then-object-shared-clause-tried
 returns-then-object-shared-clause-tried g c calls stands =

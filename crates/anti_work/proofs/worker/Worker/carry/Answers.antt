@@ -15,20 +15,10 @@ returns-in-Ok-clause-tried g c app calls stands =
 pub returns-in-Ok-clause-routes : goal.returns-in-Ok-clause-routes
 returns-in-Ok-clause-routes g c = noted_ends c.args.object c.first_part-first.result c.args.self.now.routes.items c.note.new.routes.items c.in-Ok.ensures
 
-pub returns-in-NotYet-clause-tried : goal.returns-in-NotYet-clause-tried
-returns-in-NotYet-clause-tried g c app calls stands =
+pub returns-in-Refused-clause-tried : goal.returns-in-Refused-clause-tried
+returns-in-Refused-clause-tried g c app calls stands =
     carry_refused app c.args.self.now calls stands c.args.object c.args.call (record c.args.self.now { passes = c.ask.new.passes }) _
-    c.in-NotYet.ensures.asked tt refl refl refl refl
-
-pub returns-in-Full-clause-tried : goal.returns-in-Full-clause-tried
-returns-in-Full-clause-tried g c app calls stands =
-    carry_refused app c.args.self.now calls stands c.args.object c.args.call (record c.args.self.now { passes = c.ask.new.passes }) _
-    c.in-Full.ensures.asked tt refl refl refl refl
-
-pub returns-in-Spent-clause-tried : goal.returns-in-Spent-clause-tried
-returns-in-Spent-clause-tried g c app calls stands =
-    carry_refused app c.args.self.now calls stands c.args.object c.args.call (record c.args.self.now { passes = c.ask.new.passes }) _
-    c.in-Spent.ensures.asked tt refl refl refl refl
+    c.in-Refused.ensures.asked refl refl refl refl
 
 pub returns-then-object-shared-clause-tried : goal.returns-then-object-shared-clause-tried
 returns-then-object-shared-clause-tried g c app calls stands =

@@ -22,20 +22,8 @@ returns-in-Made-clause-tried g c calls stands =
     c.in-Made.place c.in-Made.stamp c.in-Made.reply c.in-Made.ensures.asked refl c.requires.sound
     (c.feed.ensures.foreign (c.in-Err-Foreign.is ∙ ap Err c.in-Err-Foreign.field-0-is))
 
-pub returns-in-NotYet-clause-tried : goal.returns-in-NotYet-clause-tried
-returns-in-NotYet-clause-tried g c calls stands =
+pub returns-in-Refused-clause-tried : goal.returns-in-Refused-clause-tried
+returns-in-Refused-clause-tried g c calls stands =
     let here = process_at (born_at (lists c.args.self.now.processes) c.args.object) c.args.at c.requires.at in
     go_refused c.args.app.now c.args.self.now calls stands c.args.object c.args.at here.0 here.1 c.args.asking (c.requires.asks here.0 here.1)
-    (record c.args.self.now { passes = c.ask.new.passes }) _ c.in-NotYet.ensures.asked tt refl refl refl refl
-
-pub returns-in-Full-clause-tried : goal.returns-in-Full-clause-tried
-returns-in-Full-clause-tried g c calls stands =
-    let here = process_at (born_at (lists c.args.self.now.processes) c.args.object) c.args.at c.requires.at in
-    go_refused c.args.app.now c.args.self.now calls stands c.args.object c.args.at here.0 here.1 c.args.asking (c.requires.asks here.0 here.1)
-    (record c.args.self.now { passes = c.ask.new.passes }) _ c.in-Full.ensures.asked tt refl refl refl refl
-
-pub returns-in-Spent-clause-tried : goal.returns-in-Spent-clause-tried
-returns-in-Spent-clause-tried g c calls stands =
-    let here = process_at (born_at (lists c.args.self.now.processes) c.args.object) c.args.at c.requires.at in
-    go_refused c.args.app.now c.args.self.now calls stands c.args.object c.args.at here.0 here.1 c.args.asking (c.requires.asks here.0 here.1)
-    (record c.args.self.now { passes = c.ask.new.passes }) _ c.in-Spent.ensures.asked tt refl refl refl refl
+    (record c.args.self.now { passes = c.ask.new.passes }) _ c.in-Refused.ensures.asked refl refl refl refl
