@@ -1,1 +1,3 @@
 pub mod Carrying
+pub mod Behind
+pub mod Clients

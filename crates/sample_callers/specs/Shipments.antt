@@ -4,8 +4,8 @@ use Rattle.anti_kind.specs.declared.call.Call.{Call}
 use Rattle.anti_kind.specs.declared.call.Call.TheVariants.{Ship}
 use Rattle.anti_kind.specs.declared.entry.Entry.{Entry}
 use Rattle.anti_kind.specs.declared.asking.Asking.{Asking}
-use Rattle.anti_kind.specs.declared.recorded.Refusal.{Refusal}
-use Rattle.anti_kind.specs.declared.recorded.Refusal.TheVariants.{NotYet, Full, Spent}
+use Rattle.anti_kind.specs.declared.refusal.Refusal.{Refusal}
+use Rattle.anti_kind.specs.declared.refusal.Refusal.TheVariants.{NotYet, Full, Spent}
 use Rattle.anti_kind.specs.Objects.{Start, ready}
 use Rattle.anti_kind.specs.Ports.{View, IsFull, IsSpent}
 use Rattle.anti_kind.specs.Stored.{is_shipped}

@@ -48,9 +48,8 @@ pub fn bring_from<P: Port>(
         };
         match port.call(store, Actor::Carrier(0), 0, clock, ship) {
             Answer::Made { stamp, .. } => clock = stamp,
-            Answer::NotYet => return Ok(version),
-            Answer::Full { held, owed, need } => return Err(Refusal::Full { held, owed, need }),
-            Answer::Spent { clock } => return Err(Refusal::Spent { clock }),
+            Answer::Refused(Refusal::NotYet) => return Ok(version),
+            Answer::Refused(refusal) => return Err(refusal),
             // a `Ship` is never refused for want of memory
             Answer::NoMemory => unreachable!(),
         }

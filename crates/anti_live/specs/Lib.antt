@@ -1,0 +1,4 @@
+pub mod Stores
+pub mod Clients
+pub mod Headers
+pub mod inner
