@@ -4,8 +4,7 @@ use Rattle.anti_kind.specs.declared.entry.Entry.{Entry}
 use Rattle.anti_app.specs.declared.app.App.{App}
 use Rattle.anti_load.specs.Load.{load_application}
 use Rattle.anti_command.specs.Faults.{writes}
-use Rattle.anti_command.specs.Placed.{IsPlacementOf}
-use Rattle.anti_command.specs.Rows.{Origin, Making, Product, Document, Requests, Choices, Workers, Run, Placement, row_of}
+use Rattle.anti_command.specs.Rows.{Origin, Making, Product, Document, Requests, Choices, Workers, Run, Told, row_of}
 use Rattle.anti_command.specs.Runs.{application_of, IsByWorkers, IsPlayed, IsPrintOf, IsRunOf, IsStated}
 use Rattle.anti_command.specs.declared.command.Command.{Command}
 use Rattle.anti_command.specs.declared.fault.TopFault.{TopFault}
@@ -24,7 +23,7 @@ reads_source (Some command) = is_document (row_of command).origin
 -- it plays a run
 abbrev is_run : Product → Bool
 is_run (Run making Prints) = true
-is_run Placement = false
+is_run (Told Tells) = false
 
 abbrev pub plays : Option Command → Bool
 plays None = false
@@ -48,10 +47,17 @@ abbrev pub IsFrom : Origin → Option (List ℕ) → App → Type 0
 IsFrom Document left = IsStated left
 IsFrom (Requests requests) left = λ app. app ≡ load_application requests
 
+-- the text tells this of an application that is given, and no run is kept
+pub record IsTold (IsGiven : App → Type 0) (Tells : App → List ℕ → Type 0) (kept : Option RunKept) (text : List ℕ) : Type 0 where
+  pub none : kept ≡ None
+  pub app : App
+  pub given : IsGiven app
+  pub told : Tells app text
+
 -- of the application that is given this was made: this is the run that is kept, and this the text
 abbrev pub IsMade : Product → (App → Type 0) → Option RunKept → List ℕ → Type 0
 IsMade (Run making Prints) IsGiven kept text = IsRunPrinted IsGiven making Prints kept text
-IsMade Placement IsGiven kept text = (kept ≡ None) × IsPlacementOf IsGiven text
+IsMade (Told Tells) IsGiven kept text = IsTold IsGiven Tells kept text
 
 -- what is asked was done to what the source had: this is the run that is kept, and this the text
 abbrev pub IsDone : Option Command → Option (List ℕ) → Option RunKept → List ℕ → Type 0

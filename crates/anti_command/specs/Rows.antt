@@ -9,7 +9,8 @@ use Rattle.anti_text.specs.Record.{text_of}
 use Rattle.anti_text.specs.Sessions.{PrintsSessions}
 use Rattle.anti_text.specs.Summary.{summary_of}
 use Rattle.anti_command.specs.declared.command.Command.{Command}
-use Rattle.anti_command.specs.declared.command.Command.TheVariants.{Step, Json, Session, Doctor, Place, Load}
+use Rattle.anti_command.specs.Placed.{TellsPlacement, TellsReview}
+use Rattle.anti_command.specs.declared.command.Command.TheVariants.{Step, Json, Session, Doctor, Place, Review, Load}
 use Rattle.anti_command.specs.declared.command.Command.TheVariants as commands
 
 -- the document that the source has, or the load of so many requests
@@ -22,10 +23,10 @@ pub data Making : Type 0 where
   Choices : Making
   Workers : Making
 
--- a run that is made so, of which this is printed, or the placement of the application
+-- a run that is made so, of which this is printed, or what a text tells of the application, which is not played
 pub data Product : Type 1 where
   Run : Making → (App → List Entry → List ℕ → List ℕ → Type 0) → Product
-  Placement : Product
+  Told : (App → List ℕ → Type 0) → Product
 
 pub record CommandRow : Type 1 where
   pub origin : Origin
@@ -37,5 +38,6 @@ row_of Json = record { origin = Document; product = Run Choices (λ app. IsPrint
 row_of commands.Run = record { origin = Document; product = Run Workers (λ app. IsPrinted (text_of app) app) }
 row_of Session = record { origin = Document; product = Run Choices (λ app trace waits. PrintsSessions app trace) }
 row_of Doctor = record { origin = Document; product = Run Choices (λ app trace waits. PrintsDiagnoses app trace) }
-row_of Place = record { origin = Document; product = Placement }
+row_of Place = record { origin = Document; product = Told TellsPlacement }
+row_of Review = record { origin = Document; product = Told TellsReview }
 row_of (Load requests) = record { origin = Requests requests; product = Run Choices (IsPrinted summary_of) }

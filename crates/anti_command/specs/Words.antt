@@ -4,19 +4,22 @@ use Rattle.std.specs.Str.{bytes_eq}
 use Rattle.anti_ids.specs.Decimals.{decimal_in}
 use Rattle.anti_ids.specs.declared.limits.TheConstants.{MOST_REQUESTS}
 use Rattle.anti_command.specs.declared.command.Command.{Command}
-use Rattle.anti_command.specs.declared.command.Command.TheVariants.{Step, Json, Run, Session, Doctor, Place, Load}
+use Rattle.anti_command.specs.declared.command.Command.TheVariants.{Step, Json, Run, Session, Doctor, Place, Review, Load}
 
 -- the command of a word that asks what is found of a run
 abbrev pub finding_of : List ℕ → Option Command
 finding_of word = if bytes_eq word (codes "session") then Some Session else if bytes_eq word (codes "doctor") then Some Doctor else None
+
+-- the command of a word that asks what is told of an application
+abbrev pub telling_of : List ℕ → Option Command
+telling_of word = if bytes_eq word (codes "place") then Some Place else if bytes_eq word (codes "review") then Some Review else finding_of word
 
 -- the command of one word
 abbrev pub word_of : List ℕ → Option Command
 word_of word =
     if bytes_eq word (codes "step") then Some Step else
     if bytes_eq word (codes "json") then Some Json else
-    if bytes_eq word (codes "run") then Some Run else
-    if bytes_eq word (codes "place") then Some Place else finding_of word
+    if bytes_eq word (codes "run") then Some Run else telling_of word
 
 -- `load` and how many requests, without a zero that the number does not need
 abbrev pub load_of : List ℕ → List ℕ → Option Command

@@ -1,5 +1,5 @@
 ghost use Rattle.std.specs.Prelude.{◌≡◌, ◌≤◌, ℕ, Some};
-ghost use Rattle.anti_command.specs.Words.{command_of, finding_of, load_of, word_of};
+ghost use Rattle.anti_command.specs.Words.{command_of, finding_of, load_of, telling_of, word_of};
 ghost use Rattle.anti_command.specs.declared.command.Command.TheVariants.{Load};
 
 use anti_ids::{MOST_REQUESTS, Value, read_decimal};
@@ -19,6 +19,8 @@ pub enum Command {
     Doctor,
     /// Tell whether barriers, transfers and roots stand where they must in the document that is read.
     Place,
+    /// Tell all lines of the document that is read at which a barrier, a transfer or a root is missing, and all barriers that never have to wait.
+    Review,
     /// Play the load of so many requests, 1 to `MOST_REQUESTS`, and write the summary of the run. Nothing is read.
     Load { requests: u32 },
 }
@@ -36,6 +38,19 @@ fn finding_of(word: &[u8]) -> Option<Command>
     None
 }
 
+// The command that a word asks for, where it asks what is told of an application or found of a run.
+fn telling_of(word: &[u8]) -> Option<Command>
+    ensures { result ≡ telling_of word.now }
+{
+    if word == b"place".as_slice() {
+        return Some(Command::Place);
+    }
+    if word == b"review".as_slice() {
+        return Some(Command::Review);
+    }
+    finding_of(word)
+}
+
 // The command that one word asks for.
 fn word_of(word: &[u8]) -> Option<Command>
     ensures { result ≡ word_of word.now }
@@ -44,8 +59,7 @@ fn word_of(word: &[u8]) -> Option<Command>
         b"step" => Some(Command::Step),
         b"json" => Some(Command::Json),
         b"run" => Some(Command::Run),
-        b"place" => Some(Command::Place),
-        _ => finding_of(word),
+        _ => telling_of(word),
     }
 }
 
@@ -63,7 +77,7 @@ fn load_of(word: &[u8], number: &[u8]) -> Option<Command>
     })
 }
 
-/// The command that the words ask for: `step`, `json`, `run`, `session`, `doctor` or `place`, alone,
+/// The command that the words ask for: `step`, `json`, `run`, `session`, `doctor`, `place` or `review`, alone,
 /// or `load` and a number. It is `None` where they ask for none.
 pub fn asked_for(words: &[Value]) -> Option<Command>
     ensures command { result ≡ command_of words.now }

@@ -8,7 +8,8 @@ ghost use Rattle.anti_command.specs.Causes.{HasCause};
 use crate::command::{Command, asked_for};
 use crate::fault::TopFault;
 use crate::prepared::Prepared;
-use crate::products::{place_document, play_document, play_load};
+use crate::products::{play_document, play_load, tell_document};
+use crate::telling::{PlacementLine, ReviewLines};
 use anti_edge::Source;
 use anti_ids::Value;
 use anti_text::{DoctorText, RecordJson, RecordText, SessionText, SummaryText};
@@ -32,7 +33,8 @@ pub fn prepare<S: Source>(alloc: Global, words: &[Value], src: &mut S) -> Result
         Some(Command::Json) => play_document::<RecordJson, S>(alloc, src),
         Some(Command::Session) => play_document::<SessionText, S>(alloc, src),
         Some(Command::Doctor) => play_document::<DoctorText, S>(alloc, src),
-        Some(Command::Place) => place_document(alloc, src),
+        Some(Command::Place) => tell_document::<PlacementLine, S>(alloc, src),
+        Some(Command::Review) => tell_document::<ReviewLines, S>(alloc, src),
         Some(Command::Load { requests }) => Ok(play_load::<SummaryText>(alloc, requests)?),
         Some(Command::Run) => Err(TopFault::Usage),
         None => Err(TopFault::Usage),

@@ -10,6 +10,7 @@ mod outcome;
 mod prepared;
 mod products;
 mod run;
+mod telling;
 mod top;
 
 pub use command::Command;

@@ -1,8 +1,8 @@
 ghost use Rattle.std.specs.Prelude.{◌≡◌, ◌≤◌, Some, false, true, IfOk, IfErr, Option};
 ghost use Rattle.anti_ids.specs.Counts.{Rose};
 ghost use Rattle.anti_command.specs.Faults.{writes};
-ghost use Rattle.anti_command.specs.Commands.{reads_source, IsDone, IsFrom, IsMade};
-ghost use Rattle.anti_command.specs.Rows.{Choices, Document, Run, Workers};
+ghost use Rattle.anti_command.specs.Commands.{reads_source, IsFrom, IsMade};
+ghost use Rattle.anti_command.specs.Rows.{Choices, Document, Run, Told, Workers};
 ghost use Rattle.anti_command.specs.Causes.{HasCause};
 ghost use Rattle.anti_command.specs.inner.Stated.{IsPlayable};
 ghost use Rattle.anti_command.specs.Runs.{IsLegalRun, IsPrintOf, IsStated};
@@ -15,16 +15,14 @@ use crate::fault::TopFault;
 use crate::outcome::RunKept;
 use crate::prepared::Prepared;
 use crate::run::{run_of_choices, run_of_workers};
+use crate::telling::Telling;
 use anti_app::App;
 use anti_edge::Source;
 use anti_ids::{Bytes, MOST_REQUESTS, NoMemory};
 use anti_load::load_app;
-use anti_place::placed;
 use anti_report::Form;
-use anti_text::placement_line;
 use anti_trace::Aftermath;
 use anti_work::Gate;
-use law_placed::placed_applications_keep_all;
 use std::alloc::Global;
 use std::sync::Wait;
 use std::thread::Threads;
@@ -100,20 +98,20 @@ pub fn work_document<F: Form, R: Threads + Wait + Sync, S: Source, G: Gate + Syn
     Ok(prepared)
 }
 
-/// Finds whether barriers, transfers and roots stand where they must in the document that the source has. Each error has its cause, and none
-/// is of writing.
-#[tactic(auto, unfolding(crate::specs::inner::Stated::IsPlayable))]
-pub fn place_document<S: Source>(alloc: Global, src: &mut S) -> Result<Prepared, TopFault>
+/// Tells something of the document that the source has, without playing it. Each error has its cause, and none is of writing.
+pub fn tell_document<T: Telling, S: Source>(
+    alloc: Global,
+    src: &mut S,
+) -> Result<Prepared, TopFault>
     ensures done { IfOk result (λ p.
-        IsDone (Some Command.Place) (S.left src.old) p.0 p.1.items) }
+        IsMade (Told T.tells) (IsFrom Document (S.left src.old)) p.0 p.1.items) }
     ensures cause { (asked : Option Command) → reads_source asked ≡ true →
         IfErr result (HasCause asked (S.left src.old) (S.left src.new)
         (Rose (S.faults src.old) (S.faults src.new)) ⊥) }
     ensures unwritten { IfErr result (λ fault. writes (Some fault) ≡ false) }
 {
     let app = app_of(alloc, src)?;
-    placed_applications_keep_all();
-    let text = placement_line(alloc, &app, placed(&app))?;
+    let text = T::tell(alloc, &app)?;
     Ok((None, text))
 }
 

@@ -90,6 +90,7 @@ fn runs_workers(asked: Option<Command>) -> bool
         Some(Command::Session) => false,
         Some(Command::Doctor) => false,
         Some(Command::Place) => false,
+        Some(Command::Review) => false,
         Some(Command::Load { .. }) => false,
     }
 }

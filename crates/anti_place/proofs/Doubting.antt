@@ -1,12 +1,13 @@
 -- The first line that fails on some way through a body is the first that fails by some doubt.
-use Rattle.std.proofs.Common.{◌≡◌, ℕ, zero, suc, ◌+◌, Bool, true, false, cond, not, ◌||◌, List, [], ◌∷◌, ◌++◌, map, length, filter, flat_map, Option, None, Some, refl, sym, ap, ap₂, ◌∙◌, subst}
+use Rattle.std.proofs.Common.{◌≡◌, ℕ, ◌+◌, Bool, true, false, cond, not, ◌||◌, List, [], ◌∷◌, ◌++◌, map, length, filter, flat_map, Option, None, Some, refl, sym, ap, ap₂, ◌∙◌, subst}
 use Rattle.std.proofs.Math.Path.{fun_ext}
 use Rattle.std.proofs.lemmas.Bool.{or_left, or_right}
+use Rattle.std.proofs.lemmas.List.Elements.{filter-append}
 use Rattle.std.proofs.lemmas.Slice.Eq.{bytes_eq-Decides}
 use Rattle.std.specs.List.{list_any}
 use Rattle.std.specs.Str.{bytes_eq}
 use Rattle.anti_lang.specs.Blocks.{lines_of}
-use Rattle.anti_lang.specs.Program.{Step, Block, End, Then, Write, Append, Remove, Transfer, Barrier, DryRun, Read, Scan, Poll, Call, Send, Nack, Root, Stop, Repeat, IfAbsent}
+use Rattle.anti_lang.specs.Program.{Step, Block, End, Then, Write, Remove, Transfer, Read, Scan, Poll, Nack, Root, Stop, Repeat, IfAbsent}
 use Rattle.anti_place.specs.declared.doubt.Doubt.{Doubt}
 use Rattle.anti_place.specs.declared.doubt.Doubt.TheVariants.{Always, Unsettled, Rows}
 use Rattle.anti_place.specs.declared.fault.Fault.{Fault}
@@ -14,10 +15,13 @@ use Rattle.anti_place.specs.declared.flow.Flow.{Flow}
 use Rattle.anti_place.specs.declared.flow.Flow.TheVariants.{Stops, Clears, Keeps, Sets}
 use Rattle.anti_place.specs.declared.reason.Reason.{Reason}
 use Rattle.anti_place.specs.declared.reason.Reason.TheVariants as why
-use Rattle.anti_place.specs.Paths.{State, Spot, Path, is_some_left, changed, reasons, in_turn, turned, height, step_paths, block_paths, paths, ends_path, faults_on, earlier, first, first_fault}
-use Rattle.anti_place.specs.inner.Joined.{if_same, does, forbidden, wants_settled, wants_transferred, at_line, fault_here, behind, fault_of, reads_in, reads_of, by_rows, joined_fault}
+use Rattle.anti_place.specs.declared.search.Search.{Search}
+use Rattle.anti_place.specs.declared.search.Sought.TheVariants.{Faults}
+use Rattle.anti_place.specs.Paths.{State, Spot, Path, is_some_left, changed, reasons, height, step_paths, block_paths, paths, ends_path, faults_on, all_faults, earlier, first, first_fault}
+use Rattle.anti_place.specs.inner.Joined.{if_same, does, forbidden, wants_settled, wants_transferred, is_later, at_line, fault_here, behind, fault_of, reads_in, reads_of, by_rows, joined_fault}
 use Rattle.anti_place.proofs.Earlier.{earlier_none, earlier_itself, earlier_comm, earlier_mixed, none_of, first_append}
 use Rattle.anti_place.proofs.Joining.{Further, path_fault, least, body_finds}
+use Rattle.anti_place.proofs.Ways.{OnWay, OnWays, ways_turned, ways_turns}
 
 -- ---- all doubts
 
@@ -61,13 +65,14 @@ AreNamed names [] = Unit {0}
 AreNamed names (x ∷ xs) = (list_any (λ y. bytes_eq y x) names ≡ true) × AreNamed names xs
 
 -- the variables that a way reads into, and those of some ways
+abbrev Names : List (List ℕ) → Spot → Type 0
+Names names spot = AreNamed names (reads_in spot.statement)
+
 abbrev pub IsNamed : List (List ℕ) → Path → Type 0
-IsNamed names [] = Unit {0}
-IsNamed names (spot ∷ path) = AreNamed names (reads_in spot.statement) × IsNamed names path
+IsNamed names path = OnWay (Names names) path
 
 abbrev pub AllNamed : List (List ℕ) → List Path → Type 0
-AllNamed names [] = Unit {0}
-AllNamed names (path ∷ paths) = IsNamed names path × AllNamed names paths
+AllNamed names paths = OnWays (Names names) paths
 
 module _ (names : List (List ℕ)) where
   named_parts : (xs ys : List (List ℕ)) → AreNamed names (xs ++ ys) → AreNamed names xs × AreNamed names ys
@@ -82,30 +87,9 @@ module _ (names : List (List ℕ)) where
       go true others = (named.0, others)
       go false others = others
 
-  path_append : (p q : Path) → IsNamed names p → IsNamed names q → IsNamed names (p ++ q)
-  path_append [] q these those = those
-  path_append (spot ∷ p) q these those = (these.0, path_append p q these.1 those)
-
-  all_append : (ps qs : List Path) → AllNamed names ps → AllNamed names qs → AllNamed names (ps ++ qs)
-  all_append [] qs these those = those
-  all_append (p ∷ ps) qs these those = (these.0, all_append ps qs these.1 those)
-
-  all_behind : (p : Path) (qs : List Path) → IsNamed names p → AllNamed names qs → AllNamed names (map (λ further. p ++ further) qs)
-  all_behind p [] this those = tt
-  all_behind p (q ∷ qs) this those = (path_append p q this those.0, all_behind p qs this those.1)
-
-  all_turns : (ps qs : List Path) → AllNamed names ps → AllNamed names qs → AllNamed names (in_turn ps qs)
-  all_turns [] qs these those = tt
-  all_turns (p ∷ ps) qs these those =
-      all_append (map (λ further. p ++ further) qs) (in_turn ps qs) (all_behind p qs these.0 those) (all_turns ps qs these.1 those)
-
-  all_turned : (count : ℕ) (ps : List Path) → AllNamed names ps → AllNamed names (turned count ps)
-  all_turned zero ps these = (tt, tt)
-  all_turned (suc n) ps these = all_append ps (in_turn ps ps) these (all_turns ps ps these these)
-
   mutual
     step_named : (line : ℕ) (statement : Step) → AreNamed names (reads_in statement) → AllNamed names (step_paths line statement)
-    step_named line (Repeat count block) named = all_turned count (block_paths (line + 1) block) (block_named (line + 1) block named)
+    step_named line (Repeat count block) named = ways_turned (Names names) count (block_paths (line + 1) block) (block_named (line + 1) block named)
     step_named line (IfAbsent x block) named = (tt, block_named (line + 1) block named)
     step_named line statement named = ((named, tt), tt)
 
@@ -113,12 +97,12 @@ module _ (names : List (List ℕ)) where
     block_named line End named = (tt, tt)
     block_named line (Then first rest) named =
         let parts = named_parts (reads_in first) (reads_of rest) named in
-        all_turns (step_paths line first) (block_paths (line + height first) rest)
+        ways_turns (Names names) (step_paths line first) (block_paths (line + height first) rest)
         (step_named line first parts.0) (block_named (line + height first) rest parts.1)
 
   body_named : (body : Block) → AreNamed names (reads_of body) → AllNamed names (paths body)
   body_named body named =
-      all_turns (block_paths 1 body) ((record { line = length (lines_of body) + 1; statement = Nack } ∷ []) ∷ []) (block_named 1 body named) ((tt, tt), tt)
+      ways_turns (Names names) (block_paths 1 body) ((record { line = length (lines_of body) + 1; statement = Nack } ∷ []) ∷ []) (block_named 1 body named) ((tt, tt), tt)
 
   -- those that are left are named
   still_named : (statement : Step) (s : State) → AreNamed names s.rows → AreNamed names (reads_in statement) → AreNamed names (changed statement s).rows
@@ -143,7 +127,7 @@ named_themselves (x ∷ xs) =
 
 -- ---- a statement
 
-ends_with : (statement : Step) → ends_path statement ≡ true → (doubt : Doubt) → does doubt statement ≡ Stops
+pub ends_with : (statement : Step) → ends_path statement ≡ true → (doubt : Doubt) → does doubt statement ≡ Stops
 ends_with Nack ends Always = refl
 ends_with Nack ends Unsettled = refl
 ends_with Nack ends (Rows x) = refl
@@ -239,16 +223,20 @@ rows_left : (names rows : List (List ℕ)) → AreNamed names rows → list_any 
 rows_left names [] named = none_any names
 rows_left names (y ∷ rows) named = any_more y rows names named.0
 
-module _ (called : Bool) (line : ℕ) where
+-- what is sought: lines that fail, behind a fault or all
+abbrev pub faults_after : Bool → Option Fault → Search
+faults_after called after = record { sought = Faults called; after = after }
+
+module _ (called : Bool) (after : Option Fault) (line : ℕ) where
   abbrev here : Step → State → Doubt → Option Fault
-  here statement s doubt = fault_here called doubt line statement (holds s doubt)
+  here statement s doubt = fault_here (faults_after called after) doubt line statement (holds s doubt)
 
   rows_here : (statement : Step) (s : State) (names : List (List ℕ))
-      → by_rows (here statement s) names ≡ cond (list_any (λ x. list_any (bytes_eq x) s.rows) names) (at_line line (wants_transferred called statement)) None
+      → by_rows (here statement s) names ≡ cond (list_any (λ x. list_any (bytes_eq x) s.rows) names) (at_line after line (wants_transferred called statement)) None
   rows_here statement s [] = refl
   rows_here statement s (x ∷ names) =
       ap (earlier (here statement s (Rows x))) (rows_here statement s names)
-      ∙ go (list_any (bytes_eq x) s.rows) (list_any (λ x. list_any (bytes_eq x) s.rows) names) (at_line line (wants_transferred called statement))
+      ∙ go (list_any (bytes_eq x) s.rows) (list_any (λ x. list_any (bytes_eq x) s.rows) names) (at_line after line (wants_transferred called statement))
     where
       go : (one more : Bool) (fault : Option Fault) → earlier (cond one fault None) (cond more fault None) ≡ cond (one || more) fault None
       go true true fault = earlier_itself fault
@@ -258,18 +246,39 @@ module _ (called : Bool) (line : ℕ) where
   abbrev fault : Reason → Fault
   fault reason = record { line = line; reason = reason }
 
+  -- the first of these reasons at the line
+  abbrev told : List Reason → Option Fault
+  told [] = None
+  told (reason ∷ []) = at_line after line (Some reason)
+  told (reason ∷ other ∷ reasons) = earlier (at_line after line (Some reason)) (told (other ∷ reasons))
+
+  told_first : (reasons : List Reason) → first (filter (is_later after) (map fault reasons)) ≡ told reasons
+  told_first [] = refl
+  told_first (reason ∷ []) = go (is_later after (fault reason))
+    where
+      go : (test : Bool) → first (cond test (fault reason ∷ []) []) ≡ cond test (Some (fault reason)) None
+      go true = refl
+      go false = refl
+  told_first (reason ∷ other ∷ reasons) =
+      go (is_later after (fault reason)) (filter (is_later after) (map fault (other ∷ reasons)))
+      ∙ ap (earlier (at_line after line (Some reason))) (told_first (other ∷ reasons))
+    where
+      go : (test : Bool) (others : List Fault) → first (cond test (fault reason ∷ others) others) ≡ earlier (cond test (Some (fault reason)) None) (first others)
+      go true others = refl
+      go false others = refl
+
   abbrev Told : Step → Bool → Bool → Type 0
   Told statement some_left unsettled =
-      first (map fault (reasons called statement some_left unsettled))
-      ≡ earlier (at_line line (forbidden statement))
-      (earlier (cond unsettled (at_line line (wants_settled statement)) None) (cond some_left (at_line line (wants_transferred called statement)) None))
+      told (reasons called statement some_left unsettled)
+      ≡ earlier (at_line after line (forbidden statement))
+      (earlier (cond unsettled (at_line after line (wants_settled statement)) None) (cond some_left (at_line after line (wants_transferred called statement)) None))
 
   told_end : (some_left unsettled : Bool) → Told Nack some_left unsettled
   told_end some_left unsettled = go called some_left unsettled
     where
       go : (called some_left unsettled : Bool)
-          → first (map fault (cond called (cond some_left (why.Untransferred ∷ []) []) []))
-          ≡ earlier (cond unsettled None None) (cond some_left (at_line line (cond called (Some why.Untransferred) None)) None)
+          → told (cond called (cond some_left (why.Untransferred ∷ []) []) [])
+          ≡ earlier (cond unsettled None None) (cond some_left (at_line after line (cond called (Some why.Untransferred) None)) None)
       go true true true = refl
       go true true false = refl
       go true false true = refl
@@ -279,15 +288,33 @@ module _ (called : Bool) (line : ℕ) where
       go false false true = refl
       go false false false = refl
 
+  -- a statement that may stand nowhere
+  told_always : (reason : Reason) (some_left unsettled : Bool)
+      → told (reason ∷ []) ≡ earlier (at_line after line (Some reason)) (earlier (cond unsettled None None) (cond some_left None None))
+  told_always reason true true = sym (earlier_none (at_line after line (Some reason)))
+  told_always reason true false = sym (earlier_none (at_line after line (Some reason)))
+  told_always reason false true = sym (earlier_none (at_line after line (Some reason)))
+  told_always reason false false = sym (earlier_none (at_line after line (Some reason)))
+
+  -- one that reads
+  abbrev by_read : Bool → Bool → List Reason
+  by_read some_left unsettled = cond some_left (why.Untransferred ∷ []) [] ++ cond unsettled (why.Unsettled ∷ []) []
+
+  told_read : (some_left unsettled : Bool)
+      → told (by_read some_left unsettled)
+      ≡ earlier (cond unsettled (at_line after line (Some why.Unsettled)) None) (cond some_left (at_line after line (Some why.Untransferred)) None)
+  told_read true true = earlier_comm (at_line after line (Some why.Untransferred)) (at_line after line (Some why.Unsettled))
+  told_read true false = refl
+  told_read false true = sym (earlier_none (at_line after line (Some why.Unsettled)))
+  told_read false false = refl
+
   told_by : (statement : Step) (some_left unsettled : Bool) → Told statement some_left unsettled
   told_by Nack some_left unsettled = told_end some_left unsettled
-  told_by (Read store key x) true true = earlier_comm (Some (fault why.Untransferred)) (Some (fault why.Unsettled))
-  told_by (Scan store prefix x) true true = earlier_comm (Some (fault why.Untransferred)) (Some (fault why.Unsettled))
-  told_by (Poll store key x) true true = earlier_comm (Some (fault why.Untransferred)) (Some (fault why.Unsettled))
-  told_by (Write store key value variable true) true true = refl
-  told_by (Write store key value variable true) true false = refl
-  told_by (Write store key value variable true) false true = refl
-  told_by (Write store key value variable true) false false = refl
+  told_by (Remove x) some_left unsettled = told_always why.Removed some_left unsettled
+  told_by (Write store key value variable true) some_left unsettled = told_always why.Untracked some_left unsettled
+  told_by (Read store key x) some_left unsettled = told_read some_left unsettled
+  told_by (Scan store prefix x) some_left unsettled = told_read some_left unsettled
+  told_by (Poll store key x) some_left unsettled = told_read some_left unsettled
   told_by (Write store key value variable false) true true = refl
   told_by (Write store key value variable false) true false = refl
   told_by (Write store key value variable false) false true = refl
@@ -298,57 +325,67 @@ module _ (called : Bool) (line : ℕ) where
   told_by statement false false = refl
 
   by_reasons : (names : List (List ℕ)) (statement : Step) (s : State) → AreNamed names s.rows
-      → first (map fault (reasons called statement (is_some_left s) s.unsettled)) ≡ by_doubts (here statement s) names
+      → first (filter (is_later after) (map fault (reasons called statement (is_some_left s) s.unsettled))) ≡ by_doubts (here statement s) names
   by_reasons names statement s named =
-      told_by statement (is_some_left s) s.unsettled
-      ∙ ap (λ (x : Option Fault). earlier (at_line line (forbidden statement)) (earlier (cond s.unsettled (at_line line (wants_settled statement)) None) x))
-      (ap (λ (test : Bool). cond test (at_line line (wants_transferred called statement)) None) (sym (rows_left names s.rows named)) ∙ sym (rows_here statement s names))
+      told_first (reasons called statement (is_some_left s) s.unsettled)
+      ∙ told_by statement (is_some_left s) s.unsettled
+      ∙ ap (λ (x : Option Fault). earlier (at_line after line (forbidden statement)) (earlier (cond s.unsettled (at_line after line (wants_settled statement)) None) x))
+      (ap (λ (test : Bool). cond test (at_line after line (wants_transferred called statement)) None) (sym (rows_left names s.rows named)) ∙ sym (rows_here statement s names))
 
 -- ---- a way, and all ways
 
-module _ (called : Bool) (names : List (List ℕ)) where
+module _ (called : Bool) (after : Option Fault) (names : List (List ℕ)) where
+  abbrev sought : Search
+  sought = faults_after called after
+
+  abbrev later : List Fault → List Fault
+  later faults = filter (is_later after) faults
+
+  first_later : (these those : List Fault) → first (later (these ++ those)) ≡ earlier (first (later these)) (first (later those))
+  first_later these those = ap first (filter-append (is_later after) these those) ∙ first_append (later these) (later those)
+
   -- what comes behind a statement
   behind_by_doubts : (statement : Step) (s : State) (path : Path)
-      → first (faults_on called (changed statement s) path) ≡ by_doubts (λ doubt. path_fault called doubt path (holds (changed statement s) doubt)) names
-      → first (cond (ends_path statement) [] (faults_on called (changed statement s) path))
-      ≡ by_doubts (λ doubt. behind (does doubt statement) (holds s doubt) (path_fault called doubt path)) names
+      → first (later (faults_on called (changed statement s) path)) ≡ by_doubts (λ doubt. path_fault sought doubt path (holds (changed statement s) doubt)) names
+      → first (later (cond (ends_path statement) [] (faults_on called (changed statement s) path)))
+      ≡ by_doubts (λ doubt. behind (does doubt statement) (holds s doubt) (path_fault sought doubt path)) names
   behind_by_doubts statement s path further = go (ends_path statement) refl
     where
       go : (ends : Bool) → ends_path statement ≡ ends
-          → first (cond ends [] (faults_on called (changed statement s) path))
-          ≡ by_doubts (λ doubt. behind (does doubt statement) (holds s doubt) (path_fault called doubt path)) names
+          → first (later (cond ends [] (faults_on called (changed statement s) path)))
+          ≡ by_doubts (λ doubt. behind (does doubt statement) (holds s doubt) (path_fault sought doubt path)) names
       go true e =
-          sym (by_same (λ doubt. behind (does doubt statement) (holds s doubt) (path_fault called doubt path)) (λ doubt. None)
-          (λ doubt. ap (λ (flow : Flow). behind flow (holds s doubt) (path_fault called doubt path)) (ends_with statement e doubt)) names
+          sym (by_same (λ doubt. behind (does doubt statement) (holds s doubt) (path_fault sought doubt path)) (λ doubt. None)
+          (λ doubt. ap (λ (flow : Flow). behind flow (holds s doubt) (path_fault sought doubt path)) (ends_with statement e doubt)) names
           ∙ by_rows_none names)
       go false e =
           further
-          ∙ by_same (λ doubt. path_fault called doubt path (holds (changed statement s) doubt))
-          (λ doubt. behind (does doubt statement) (holds s doubt) (path_fault called doubt path))
-          (λ doubt. sym (holds_on statement e s doubt (path_fault called doubt path))) names
+          ∙ by_same (λ doubt. path_fault sought doubt path (holds (changed statement s) doubt))
+          (λ doubt. behind (does doubt statement) (holds s doubt) (path_fault sought doubt path))
+          (λ doubt. sym (holds_on statement e s doubt (path_fault sought doubt path))) names
 
   path_by_doubts : (path : Path) (s : State) → AreNamed names s.rows → IsNamed names path
-      → first (faults_on called s path) ≡ by_doubts (λ doubt. path_fault called doubt path (holds s doubt)) names
+      → first (later (faults_on called s path)) ≡ by_doubts (λ doubt. path_fault sought doubt path (holds s doubt)) names
   path_by_doubts [] s rows reads = sym (by_rows_none names)
   path_by_doubts (spot ∷ path) s rows reads =
       let further = path_by_doubts path (changed spot.statement s) (still_named names spot.statement s rows reads.0) reads.1 in
-      first_append (map (fault called spot.line) (reasons called spot.statement (is_some_left s) s.unsettled))
+      first_later (map (fault called after spot.line) (reasons called spot.statement (is_some_left s) s.unsettled))
       (cond (ends_path spot.statement) [] (faults_on called (changed spot.statement s) path))
-      ∙ ap₂ earlier (by_reasons called spot.line names spot.statement s rows) (behind_by_doubts spot.statement s path further)
-      ∙ sym (by_doubts_both (here called spot.line spot.statement s) (λ doubt. behind (does doubt spot.statement) (holds s doubt) (path_fault called doubt path)) names)
+      ∙ ap₂ earlier (by_reasons called after spot.line names spot.statement s rows) (behind_by_doubts spot.statement s path further)
+      ∙ sym (by_doubts_both (here called after spot.line spot.statement s) (λ doubt. behind (does doubt spot.statement) (holds s doubt) (path_fault sought doubt path)) names)
 
   all_by_doubts : (paths : List Path) (s : State) → AreNamed names s.rows → AllNamed names paths
-      → first (flat_map (faults_on called s) paths) ≡ by_doubts (λ doubt. least called doubt paths (holds s doubt)) names
+      → first (later (flat_map (faults_on called s) paths)) ≡ by_doubts (λ doubt. least sought doubt paths (holds s doubt)) names
   all_by_doubts [] s rows reads = sym (by_rows_none names)
   all_by_doubts (path ∷ paths) s rows reads =
-      first_append (faults_on called s path) (flat_map (faults_on called s) paths)
+      first_later (faults_on called s path) (flat_map (faults_on called s) paths)
       ∙ ap₂ earlier (path_by_doubts path s rows reads.0) (all_by_doubts paths s rows reads.1)
-      ∙ sym (by_doubts_both (λ doubt. path_fault called doubt path (holds s doubt)) (λ doubt. least called doubt paths (holds s doubt)) names)
+      ∙ sym (by_doubts_both (λ doubt. path_fault sought doubt path (holds s doubt)) (λ doubt. least sought doubt paths (holds s doubt)) names)
 
 -- ---- a body
 
 -- what is known where a body begins, and which doubts are held there
-abbrev first_state : Bool → State
+abbrev pub first_state : Bool → State
 first_state named = record { rows = []; unsettled = named }
 
 abbrev pub at_start : Bool → Doubt → Bool
@@ -356,31 +393,46 @@ at_start named Always = true
 at_start named Unsettled = named
 at_start named (Rows x) = false
 
-body_by_doubts : (called named : Bool) (names : List (List ℕ)) (body : Block) → AreNamed names (reads_of body)
-    → first_fault called named body ≡ by_doubts (λ doubt. fault_of called doubt body (holds (first_state named) doubt)) names
-body_by_doubts called named names body reads =
-    all_by_doubts called names (paths body) (first_state named) tt (body_named names body reads)
-    ∙ by_same (λ doubt. least called doubt (paths body) (holds (first_state named) doubt)) (λ doubt. fault_of called doubt body (holds (first_state named) doubt))
-    (λ doubt. (body_finds called doubt body).found (holds (first_state named) doubt)) names
+-- the first fault of a body behind another
+abbrev pub first_later_fault : Bool → Bool → Option Fault → Block → Option Fault
+first_later_fault called named after body = first (filter (is_later after) (all_faults called named body))
 
--- The first line that fails on some way through a body is the first that fails where all ways are gone together.
-pub joined_is_first : (called named : Bool) (body : Block) → first_fault called named body ≡ joined_fault called named body
-joined_is_first called named body =
-    body_by_doubts called named (reads_of body) body (named_themselves (reads_of body))
-    ∙ ap (λ (x : Option Fault). earlier (fault_of called Always body true) (earlier (fault_of called Unsettled body named) x))
-    (by_rows_same (λ doubt. fault_of called doubt body (holds (first_state named) doubt)) (λ doubt. fault_of called doubt body false) (λ x. refl) (reads_of body))
+body_by_doubts : (called named : Bool) (after : Option Fault) (names : List (List ℕ)) (body : Block) → AreNamed names (reads_of body)
+    → first_later_fault called named after body ≡ by_doubts (λ doubt. fault_of (faults_after called after) doubt body (holds (first_state named) doubt)) names
+body_by_doubts called named after names body reads =
+    let search : Search = faults_after called after in
+    all_by_doubts called after names (paths body) (first_state named) tt (body_named names body reads)
+    ∙ by_same (λ doubt. least search doubt (paths body) (holds (first_state named) doubt)) (λ doubt. fault_of search doubt body (holds (first_state named) doubt))
+    (λ doubt. (body_finds search doubt body).found (holds (first_state named) doubt)) names
+
+-- The first line behind another that fails on some way through a body is the first that fails where all ways are gone together.
+pub joined_is_first : (called named : Bool) (after : Option Fault) (body : Block)
+    → first_later_fault called named after body ≡ joined_fault (faults_after called after) named body
+joined_is_first called named after body =
+    let search : Search = faults_after called after in
+    body_by_doubts called named after (reads_of body) body (named_themselves (reads_of body))
+    ∙ ap (λ (x : Option Fault). earlier (fault_of search Always body true) (earlier (fault_of search Unsettled body named) x))
+    (by_rows_same (λ doubt. fault_of search doubt body (holds (first_state named) doubt)) (λ doubt. fault_of search doubt body false) (λ x. refl) (reads_of body))
+
+-- where all faults are sought
+pub all_later : (faults : List Fault) → filter (is_later None) faults ≡ faults
+all_later [] = refl
+all_later (fault ∷ faults) = ap (λ (those : List Fault). fault ∷ those) (all_later faults)
+
+pub first_of_all : (called named : Bool) (body : Block) → first_later_fault called named None body ≡ first_fault called named body
+first_of_all called named body = ap first (all_later (all_faults called named body))
 
 -- Where no line fails, none fails by any doubt, also not by one on a variable that no line reads into.
 pub none_by : (called named : Bool) (body : Block) → first_fault called named body ≡ None
-    → (doubt : Doubt) → fault_of called doubt body (at_start named doubt) ≡ None
+    → (doubt : Doubt) → fault_of (faults_after called None) doubt body (at_start named doubt) ≡ None
 none_by called named body none Always =
-    let all = sym (body_by_doubts called named (reads_of body) body (named_themselves (reads_of body))) ∙ none in
-    (none_of (fault_of called Always body true) _ all).0
+    let all = sym (body_by_doubts called named None (reads_of body) body (named_themselves (reads_of body))) ∙ first_of_all called named body ∙ none in
+    (none_of (fault_of (faults_after called None) Always body true) _ all).0
 none_by called named body none Unsettled =
-    let all = sym (body_by_doubts called named (reads_of body) body (named_themselves (reads_of body))) ∙ none in
-    (none_of (fault_of called Unsettled body named) _ (none_of (fault_of called Always body true) _ all).1).0
+    let all = sym (body_by_doubts called named None (reads_of body) body (named_themselves (reads_of body))) ∙ first_of_all called named body ∙ none in
+    (none_of (fault_of (faults_after called None) Unsettled body named) _ (none_of (fault_of (faults_after called None) Always body true) _ all).1).0
 none_by called named body none (Rows x) =
     let reads : AreNamed (x ∷ reads_of body) (reads_of body) = named_more x (reads_of body) (reads_of body) (named_themselves (reads_of body)) in
-    let all = sym (body_by_doubts called named (x ∷ reads_of body) body reads) ∙ none in
-    let rows = (none_of (fault_of called Unsettled body named) _ (none_of (fault_of called Always body true) _ all).1).1 in
-    (none_of (fault_of called (Rows x) body false) _ rows).0
+    let all = sym (body_by_doubts called named None (x ∷ reads_of body) body reads) ∙ first_of_all called named body ∙ none in
+    let rows = (none_of (fault_of (faults_after called None) Unsettled body named) _ (none_of (fault_of (faults_after called None) Always body true) _ all).1).1 in
+    (none_of (fault_of (faults_after called None) (Rows x) body false) _ rows).0

@@ -26,11 +26,15 @@ rank_again Untracked = refl
 rank_again Untransferred = refl
 rank_again Unsettled = refl
 
-place : Fault → ℕ
+pub place : Fault → ℕ
 place fault = 4 * fault.line + rank fault.reason
 
 abbrev fault : ℕ → Reason → Fault
 fault line reason = record { line = line; reason = reason }
+
+-- faults of one line and one rank are one
+pub same_fault : (a b : Fault) → a.line ≡ b.line → rank a.reason ≡ rank b.reason → a ≡ b
+same_fault a b line ranks = ap₂ fault line (sym (rank_again a.reason) ∙ ap ranked ranks ∙ rank_again b.reason)
 
 lines_same : (l m r s : ℕ) → r ≤ 3 → s ≤ 3 → 4 * l + r ≡ 4 * m + s → l ≡ m
 lines_same l m r s few_r few_s e = omega arith
@@ -40,13 +44,12 @@ unfolding place
 same_place a b e =
     let line : a.line ≡ b.line = lines_same a.line b.line (rank a.reason) (rank b.reason) (rank_few a.reason) (rank_few b.reason) e in
     let ranks : rank a.reason ≡ rank b.reason = omega arith in
-    let reason : a.reason ≡ b.reason = sym (rank_again a.reason) ∙ ap ranked ranks ∙ rank_again b.reason in
-    ap₂ fault line reason
+    same_fault a b line ranks
 
 numbers_before : (l m r s : ℕ) → r ≤ 3 → s ≤ 3 → (nat_lt l m || (l == m && nat_lt r s)) ≡ nat_lt (4 * l + r) (4 * m + s)
 numbers_before l m r s few_r few_s = grind (arith, nat_tests)
 
-before_place : (a b : Fault) → is_before a b ≡ nat_lt (place a) (place b)
+pub before_place : (a b : Fault) → is_before a b ≡ nat_lt (place a) (place b)
 unfolding place
 before_place a b = numbers_before a.line b.line (rank a.reason) (rank b.reason) (rank_few a.reason) (rank_few b.reason)
 

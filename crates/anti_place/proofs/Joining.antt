@@ -1,5 +1,5 @@
 -- What all ways through a body find by one doubt is what is found where it is carried through on all of them together.
-use Rattle.std.proofs.Common.{◌≡◌, ℕ, zero, suc, ◌+◌, Bool, true, false, ◌||◌, List, [], ◌∷◌, ◌++◌, map, length, Option, None, Some, refl, sym, ap, ap₂, ◌∙◌, subst}
+use Rattle.std.proofs.Common.{◌≡◌, ℕ, zero, suc, ◌+◌, Bool, true, false, ◌||◌, List, [], ◌∷◌, ◌++◌, map, length, Option, None, refl, sym, ap, ap₂, ◌∙◌, subst}
 use Rattle.std.proofs.Math.Path.{fun_ext}
 use Rattle.anti_lang.specs.Program.{Step, Block, End, Then, Nack, Repeat, IfAbsent}
 use Rattle.anti_lang.specs.Blocks.{lines_of}
@@ -7,7 +7,8 @@ use Rattle.anti_place.specs.declared.doubt.Doubt.{Doubt}
 use Rattle.anti_place.specs.declared.fault.Fault.{Fault}
 use Rattle.anti_place.specs.declared.flow.Flow.{Flow}
 use Rattle.anti_place.specs.declared.flow.Flow.TheVariants.{Stops, Clears, Keeps, Sets}
-use Rattle.anti_place.specs.Paths.{Spot, Path, in_turn, turned, height, step_paths, block_paths, paths, earlier}
+use Rattle.anti_place.specs.declared.search.Search.{Search}
+use Rattle.anti_place.specs.Paths.{Path, in_turn, turned, height, step_paths, block_paths, paths, earlier}
 use Rattle.anti_place.specs.inner.Joined.{left, is_stop, then_flow, either, turned_flow, does, through, through_block, fault_here, turned_fault, behind, fault_at, fault_in, fault_of}
 use Rattle.anti_place.proofs.Earlier.{earlier_none, earlier_itself, earlier_comm, earlier_assoc, earlier_mixed}
 use Rattle.anti_place.proofs.Flows.{then_assoc, then_itself, then_keeps, then_stops, either_assoc, either_itself, either_none, then_either, either_then}
@@ -95,7 +96,7 @@ entered Keeps false Q grows = earlier_itself (Q false)
 entered Sets true Q grows = earlier_itself (Q true)
 entered Sets false Q grows = sym grows
 
-module _ (called : Bool) (doubt : Doubt) where
+module _ (search : Search) (doubt : Doubt) where
   -- ---- ways
 
   -- what a way does to the doubt, and what it finds by it
@@ -105,7 +106,7 @@ module _ (called : Bool) (doubt : Doubt) where
 
   abbrev pub path_fault : Path → Bool → Option Fault
   path_fault [] held = None
-  path_fault (spot ∷ path) held = earlier (fault_here called doubt spot.line spot.statement held) (behind (does doubt spot.statement) held (path_fault path))
+  path_fault (spot ∷ path) held = earlier (fault_here search doubt spot.line spot.statement held) (behind (does doubt spot.statement) held (path_fault path))
 
   -- what some ways do to it and find
   abbrev pub any_flow : List Path → Flow
@@ -119,7 +120,7 @@ module _ (called : Bool) (doubt : Doubt) where
   grows_path : (path : Path) → Grows (path_fault path)
   grows_path [] = refl
   grows_path (spot ∷ path) =
-      grows_both (fault_here called doubt spot.line spot.statement) (λ held. behind (does doubt spot.statement) held (path_fault path))
+      grows_both (fault_here search doubt spot.line spot.statement) (λ held. behind (does doubt spot.statement) held (path_fault path))
       refl (grows_behind (does doubt spot.statement) (path_fault path) (grows_path path))
 
   grows_least : (paths : List Path) → Grows (least paths)
@@ -135,7 +136,7 @@ module _ (called : Bool) (doubt : Doubt) where
   fault_append : (p q : Path) (held : Bool) → path_fault (p ++ q) held ≡ earlier (path_fault p held) (behind (path_flow p) held (path_fault q))
   fault_append [] q held = refl
   fault_append (spot ∷ p) q held =
-      let here : Option Fault = fault_here called doubt spot.line spot.statement held in
+      let here : Option Fault = fault_here search doubt spot.line spot.statement held in
       let flow : Flow = does doubt spot.statement in
       ap (λ (Q : Further). earlier here (behind flow held Q)) (fun_ext (λ (entered : Bool). fault_append p q entered))
       ∙ ap (earlier here) (behind_both flow held (path_fault p) (λ entered. behind (path_flow p) entered (path_fault q)))
@@ -203,11 +204,11 @@ module _ (called : Bool) (doubt : Doubt) where
   finds_none : Finds ([] ∷ []) Keeps (λ held. None)
   finds_none = record { flows = refl; found = λ held. refl; one = []; others = []; some = refl }
 
-  finds_leaf : (line : ℕ) (statement : Step) → Finds ((record { line = line; statement = statement } ∷ []) ∷ []) (does doubt statement) (fault_here called doubt line statement)
+  finds_leaf : (line : ℕ) (statement : Step) → Finds ((record { line = line; statement = statement } ∷ []) ∷ []) (does doubt statement) (fault_here search doubt line statement)
   finds_leaf line statement = record {
     flows = either_none (then_flow (does doubt statement) Keeps) ∙ then_keeps (does doubt statement);
     found = λ held.
-        let here : Option Fault = fault_here called doubt line statement held in
+        let here : Option Fault = fault_here search doubt line statement held in
         earlier_none (earlier here (behind (does doubt statement) held (path_fault []))) ∙ ap (earlier here) (behind_none (does doubt statement) held) ∙ earlier_none here;
     one = record { line = line; statement = statement } ∷ [];
     others = [];
@@ -247,14 +248,14 @@ module _ (called : Bool) (doubt : Doubt) where
   finds_if {ps} finds = record { flows = ap (either Keeps) finds.flows; found = λ held. finds.found held; one = []; others = ps; some = refl }
 
   mutual
-    pub step_finds : (line : ℕ) (statement : Step) → Finds (step_paths line statement) (through doubt statement) (fault_at called doubt line statement)
+    pub step_finds : (line : ℕ) (statement : Step) → Finds (step_paths line statement) (through doubt statement) (fault_at search doubt line statement)
     step_finds line (Repeat count block) = finds_turned count (block_finds (line + 1) block)
     step_finds line (IfAbsent x block) = finds_if (block_finds (line + 1) block)
     step_finds line statement = finds_leaf line statement
 
-    pub block_finds : (line : ℕ) (block : Block) → Finds (block_paths line block) (through_block doubt block) (fault_in called doubt line block)
+    pub block_finds : (line : ℕ) (block : Block) → Finds (block_paths line block) (through_block doubt block) (fault_in search doubt line block)
     block_finds line End = finds_none
     block_finds line (Then first rest) = finds_turns (step_finds line first) (block_finds (line + height first) rest)
 
-  pub body_finds : (body : Block) → Finds (paths body) (then_flow (through_block doubt body) (does doubt Nack)) (fault_of called doubt body)
+  pub body_finds : (body : Block) → Finds (paths body) (then_flow (through_block doubt body) (does doubt Nack)) (fault_of search doubt body)
   body_finds body = finds_turns (block_finds 1 body) (finds_leaf (length (lines_of body) + 1) Nack)

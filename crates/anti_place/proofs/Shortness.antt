@@ -1,6 +1,5 @@
 -- The handlers of a sound application are few, and their bodies are short.
 use Rattle.std.proofs.Common.{◌≡◌, ℕ, ◌<◌, ◌^◌, All, IsTrue, List, length, get_or, sym, ap, ◌∙◌, subst, arith}
-use Rattle.anti_ids.specs.declared.limits.TheConstants.{MOST_HANDLERS, MOST_LINES}
 use Rattle.anti_app.specs.declared.app.App.{App}
 use Rattle.anti_app.specs.declared.app.HandlerDef.{HandlerDef}
 use Rattle.anti_app.specs.declared.app.ServiceDef.{ServiceDef}

@@ -1,5 +1,5 @@
 -- A step of a loop over statements: what is known of those from one on is known of it and of those behind it.
-use Rattle.std.proofs.Common.{◌≡◌, ℕ, ◌+◌, ◌<◌, ◌≤◌, Bool, true, false, List, [], ◌∷◌, ◌++◌, length, length-append, drop, drop-cons, get_or, Option, None, Some, refl, sym, ap, ap₂, ◌∙◌, add-one, arith}
+use Rattle.std.proofs.Common.{◌≡◌, ℕ, ◌+◌, ◌<◌, ◌≤◌, Bool, false, List, [], ◌∷◌, ◌++◌, length, length-append, drop, drop-cons, get_or, Option, refl, sym, ap, ap₂, ◌∙◌, add-one, arith}
 use Rattle.anti_lang.specs.Bodies.{block_from, step_of}
 use Rattle.anti_lang.specs.Blocks.{step_lines, lines_of}
 use Rattle.anti_lang.specs.Program.{Block, Then}
@@ -8,7 +8,7 @@ use Rattle.anti_lang.specs.Steps.{steps_of}
 use Rattle.anti_place.specs.declared.doubt.Doubt.{Doubt}
 use Rattle.anti_place.specs.declared.fault.Fault.{Fault}
 use Rattle.anti_place.specs.declared.flow.Flow.{Flow}
-use Rattle.anti_place.specs.declared.flow.Flow.TheVariants.{Stops, Clears, Keeps, Sets}
+use Rattle.anti_place.specs.declared.search.Search.{Search}
 use Rattle.anti_place.specs.Paths.{height, earlier}
 use Rattle.anti_place.specs.inner.Joined.{left, is_stop, then_flow, through, through_block, behind, fault_at, fault_in, reads_in, reads_of, by_rows}
 use Rattle.anti_place.proofs.Earlier.{earlier_assoc}
@@ -59,15 +59,15 @@ module _ (statements : List Statement) (i : ℕ) (statement : Statement) (within
       ∙ sym (ap (earlier found) (ap (λ (block : Block). by_rows fault (reads_of block)) one_more ∙ rows_append fault (reads_in (step_of statement)) (reads_of (from statements (i + 1)))))
       ∙ known
 
-  module _ (called : Bool) (doubt : Doubt) (here : ℕ) (held : Bool) (found one after whole : Option Fault) (flow : Flow)
-      (is_one : one ≡ fault_at called doubt here (step_of statement) held) (is_after : after ≡ earlier found one) (is_flow : flow ≡ through doubt (step_of statement))
-      (known : earlier found (fault_in called doubt here (from statements i) held) ≡ whole) where
+  module _ (search : Search) (doubt : Doubt) (here : ℕ) (held : Bool) (found one after whole : Option Fault) (flow : Flow)
+      (is_one : one ≡ fault_at search doubt here (step_of statement) held) (is_after : after ≡ earlier found one) (is_flow : flow ≡ through doubt (step_of statement))
+      (known : earlier found (fault_in search doubt here (from statements i) held) ≡ whole) where
     pub fault_more : (lines : ℕ) (entered : Bool) → is_stop flow ≡ false → entered ≡ left flow held → lines ≡ height (step_of statement)
-        → earlier after (fault_in called doubt (here + lines) (from statements (i + 1)) entered) ≡ whole
+        → earlier after (fault_in search doubt (here + lines) (from statements (i + 1)) entered) ≡ whole
     fault_more lines entered goes is_entered counted =
-        let further : Bool → Option Fault = fault_in called doubt (here + height (step_of statement)) (from statements (i + 1)) in
-        let at : fault_in called doubt (here + lines) (from statements (i + 1)) entered ≡ behind flow held further =
-        ap₂ (λ (n : ℕ) (b : Bool). fault_in called doubt (here + n) (from statements (i + 1)) b) counted is_entered ∙ sym (behind_left flow held further goes) in
+        let further : Bool → Option Fault = fault_in search doubt (here + height (step_of statement)) (from statements (i + 1)) in
+        let at : fault_in search doubt (here + lines) (from statements (i + 1)) entered ≡ behind flow held further =
+        ap₂ (λ (n : ℕ) (b : Bool). fault_in search doubt (here + n) (from statements (i + 1)) b) counted is_entered ∙ sym (behind_left flow held further goes) in
         ap₂ earlier (is_after ∙ ap (earlier found) is_one) (at ∙ ap (λ (f : Flow). behind f held further) is_flow)
-        ∙ earlier_assoc found (fault_at called doubt here (step_of statement) held) (behind (through doubt (step_of statement)) held further)
-        ∙ sym (ap (λ (block : Block). earlier found (fault_in called doubt here block held)) one_more) ∙ known
+        ∙ earlier_assoc found (fault_at search doubt here (step_of statement) held) (behind (through doubt (step_of statement)) held further)
+        ∙ sym (ap (λ (block : Block). earlier found (fault_in search doubt here block held)) one_more) ∙ known

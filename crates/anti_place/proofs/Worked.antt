@@ -1,5 +1,5 @@
--- Small bodies and the first line of each that fails, and small applications.
-use Rattle.std.proofs.Common.{◌≡◌, ℕ, Bool, true, false, List, [], ◌∷◌, codes, Option, Some, None, refl}
+-- Small bodies and the first line of each that fails, all its faults and all its barriers that never have to wait, and small applications.
+use Rattle.std.proofs.Common.{◌≡◌, ℕ, true, false, List, [], ◌∷◌, codes, Option, Some, None, refl}
 use Rattle.anti_ids.specs.List.{plain}
 use Rattle.anti_lang.specs.Bodies.{block_from, body_of}
 use Rattle.anti_lang.specs.Program.{Step, Write, Append, Remove, Transfer, Barrier, Read, Call, Send, Nack, Root, Stop, Repeat, IfAbsent}
@@ -15,6 +15,9 @@ use Rattle.anti_place.specs.declared.reason.Reason.{Reason}
 use Rattle.anti_place.specs.declared.reason.Reason.TheVariants.{Removed, Untracked, Untransferred, Unsettled}
 use Rattle.anti_place.specs.Paths.{first_fault}
 use Rattle.anti_place.specs.Placements.{placement}
+use Rattle.anti_place.specs.declared.remark.Finding.TheVariants.{Fails, Superfluous}
+use Rattle.anti_place.specs.Reviews.{faults_of, superfluous, review}
+use Rattle.anti_place.specs.Without.{block_without}
 
 -- names: a store, two keys, and two variables
 abbrev s : List ℕ
@@ -116,6 +119,78 @@ behind_nack = refl
 stop_without_root : Alone (Stop ∷ write ∷ Root ∷ read_x ∷ []) None
 stop_without_root = refl
 
+-- ---- all faults of a body
+
+abbrev AllAlone : List Step → List Fault → Type 0
+AllAlone body faults = faults_of false false (block_from body) ≡ faults
+
+abbrev fault : ℕ → Reason → Fault
+fault line reason = record { line = line; reason = reason }
+
+-- two reasons at one line, and a line behind it
+both_reasons : AllAlone (read_x ∷ Append x ∷ read_y ∷ write ∷ []) (fault 3 Untransferred ∷ fault 3 Unsettled ∷ fault 4 Untransferred ∷ [])
+both_reasons = refl
+
+-- on the way through the block of an `if`, and on the way past it
+on_both_ways :
+    AllAlone (read_x ∷ Transfer x ∷ IfAbsent x (block_from (write_x ∷ Remove x ∷ Barrier ∷ [])) ∷ read_y ∷ []) (fault 5 Removed ∷ fault 8 Unsettled ∷ [])
+on_both_ways = refl
+
+-- a block that is gone through twice tells its faults once
+told_once : AllAlone (Repeat 2 (block_from (untracked_x ∷ read_x ∷ [])) ∷ []) (fault 2 Untracked ∷ fault 3 Untransferred ∷ [])
+told_once = refl
+
+placed_body : AllAlone (read_x ∷ Transfer x ∷ Barrier ∷ read_y ∷ []) []
+placed_body = refl
+
+-- ---- barriers that never have to wait
+
+abbrev NeverWait : List Step → List ℕ → Type 0
+NeverWait body lines = superfluous false (block_from body) ≡ lines
+
+-- straight behind a barrier
+barrier_again : NeverWait (write ∷ Barrier ∷ Barrier ∷ []) (3 ∷ [])
+barrier_again = refl
+
+-- what is settled on one way alone is not
+settled_on_one_way : NeverWait (write ∷ IfAbsent x (block_from (Barrier ∷ [])) ∷ Barrier ∷ []) []
+settled_on_one_way = refl
+
+settled_on_both : NeverWait (write ∷ Barrier ∷ IfAbsent x (block_from (Barrier ∷ [])) ∷ []) (4 ∷ [])
+settled_on_both = refl
+
+-- a span of its own has nothing to wait for
+barrier_in_a_new_span : NeverWait (write ∷ Root ∷ Barrier ∷ []) (3 ∷ [])
+barrier_in_a_new_span = refl
+
+-- a handler that nothing names carries nothing at first, one that is named may
+nothing_carried : NeverWait (Barrier ∷ []) (1 ∷ [])
+nothing_carried = refl
+
+carried_at_first : superfluous true (block_from (Barrier ∷ Barrier ∷ [])) ≡ 2 ∷ []
+carried_at_first = refl
+
+-- on the second turn it has to
+second_turn_waits : NeverWait (Repeat 2 (block_from (Barrier ∷ write ∷ [])) ∷ Barrier ∷ []) []
+second_turn_waits = refl
+
+-- no way comes to it
+never_come_to : NeverWait (write ∷ Nack ∷ Barrier ∷ []) (3 ∷ [])
+never_come_to = refl
+
+never_turned : NeverWait (write ∷ Repeat 0 (block_from (Barrier ∷ [])) ∷ []) (3 ∷ [])
+never_turned = refl
+
+-- a body without a barrier, also one that stands in a block, and with a line that is none
+without_one : block_without 3 1 (block_from (write ∷ Barrier ∷ Barrier ∷ Remove x ∷ [])) ≡ block_from (write ∷ Barrier ∷ Remove x ∷ [])
+without_one = refl
+
+without_in_block : block_without 3 1 (block_from (write ∷ IfAbsent x (block_from (Barrier ∷ write ∷ [])) ∷ Barrier ∷ [])) ≡ block_from (write ∷ IfAbsent x (block_from (write ∷ [])) ∷ Barrier ∷ [])
+without_in_block = refl
+
+without_none : block_without 1 1 (block_from (write ∷ Barrier ∷ [])) ≡ block_from (write ∷ Barrier ∷ [])
+without_none = refl
+
 -- ---- applications: one service `w`, with the handlers `one` and `two`
 
 abbrev named : List ℕ → List Step → HandlerDef
@@ -158,3 +233,12 @@ named_behind_a_nack = rw (step_again Nack, step_again send, step_again read_x) r
 
 called : placement (app_of (call ∷ []) (Root ∷ read_x ∷ []) []) ≡ No 0 1 3 Untransferred
 called = rw (step_again call, step_again Root, step_again read_x) refl
+
+-- all faults of all handlers, and behind them the barriers
+reviewed :
+    review (app_of (Barrier ∷ write_x ∷ Remove x ∷ []) (read_x ∷ []) (sub ∷ []))
+    ≡ record { service = 0; handler = 0; line = 3; finding = Fails Removed }
+    ∷ record { service = 0; handler = 1; line = 1; finding = Fails Unsettled }
+    ∷ record { service = 0; handler = 0; line = 1; finding = Superfluous }
+    ∷ []
+reviewed = rw (step_again Barrier, step_again write_x, step_again (Remove x), step_again read_x) refl

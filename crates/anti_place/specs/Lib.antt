@@ -1,3 +1,5 @@
 pub mod Paths
 pub mod Placements
+pub mod Reviews
+pub mod Without
 pub mod inner

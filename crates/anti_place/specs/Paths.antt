@@ -2,7 +2,7 @@
 use Rattle.std.specs.Prelude.{ℕ, zero, suc, ◌+◌, nat_lt, ◌&&◌, ◌||◌, ◌==◌, not, Bool, true, false, cond, List, [], ◌∷◌, ◌++◌, length, map, Option, Some, None}
 use Rattle.std.specs.List.{filter, flat_map, list_any}
 use Rattle.std.specs.Str.{bytes_eq}
-use Rattle.anti_lang.specs.Program.{Step, Block, End, Then, Write, Append, Remove, Transfer, Barrier, DryRun, Read, Scan, Poll, Call, Send, Reply, Nack, Root, Stop, Repeat, IfAbsent}
+use Rattle.anti_lang.specs.Program.{Step, Block, End, Then, Write, Append, Remove, Transfer, Barrier, DryRun, Read, Scan, Poll, Call, Send, Nack, Root, Stop, Repeat, IfAbsent}
 use Rattle.anti_lang.specs.Blocks.{step_lines, lines_of}
 use Rattle.anti_place.specs.declared.fault.Fault.{Fault}
 use Rattle.anti_place.specs.declared.reason.Reason.{Reason}
@@ -123,7 +123,11 @@ abbrev pub first : List Fault → Option Fault
 first [] = None
 first (a ∷ faults) = earlier (Some a) (first faults)
 
--- The first fault of a body on any of its ways. At its start no rows are left, and what is carried is unsettled where messages or rows can bring
+-- The faults of a body on all its ways. At its start no rows are left, and what is carried is unsettled where messages or rows can bring
 -- something: where a call, a send or a subscription names the handler.
+abbrev pub all_faults : Bool → Bool → Block → List Fault
+all_faults called named body = flat_map (faults_on called (record { rows = []; unsettled = named })) (paths body)
+
+-- The first fault of a body on any of its ways.
 abbrev pub first_fault : Bool → Bool → Block → Option Fault
-first_fault called named body = first (flat_map (faults_on called (record { rows = []; unsettled = named })) (paths body))
+first_fault called named body = first (all_faults called named body)

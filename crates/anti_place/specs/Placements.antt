@@ -1,5 +1,5 @@
 -- Whether barriers, transfers and roots stand where they must in an application, or the first line at which they do not.
-use Rattle.std.specs.Prelude.{ℕ, ◌+◌, ◌&&◌, ◌||◌, ◌==◌, Bool, true, false, List, [], ◌∷◌, Option, None, Some}
+use Rattle.std.specs.Prelude.{ℕ, ◌+◌, ◌&&◌, ◌||◌, ◌==◌, Bool, false, List, [], ◌∷◌, Option, None, Some}
 use Rattle.std.specs.List.{list_any}
 use Rattle.anti_lang.specs.Bodies.{block_of}
 use Rattle.anti_lang.specs.Blocks.{lines_of}

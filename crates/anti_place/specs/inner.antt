@@ -1,3 +1,4 @@
 pub mod Joined
 pub mod Posted
+pub mod Said
 pub mod Told

@@ -1,18 +1,22 @@
-ghost use Rattle.std.specs.Prelude.{◌≡◌, ◌+◌, ◌^◌, ◌<◌, ◌||◌, false, length};
+ghost use Rattle.std.specs.Prelude.{◌≡◌, ◌==◌, ◌+◌, ◌^◌, ◌<◌, ◌||◌, false, length};
+ghost use Rattle.std.specs.List.{filter, list_any};
 ghost use Rattle.anti_lang.specs.Blocks.{lines_of};
 ghost use Rattle.anti_lang.specs.Bodies.{block_from, step_of};
 ghost use Rattle.anti_lang.specs.Steps.{steps_of};
-ghost use Rattle.anti_place.specs.Paths.{first_fault, height};
-ghost use Rattle.anti_place.specs.inner.Joined.{by_rows, fault_at, fault_here, fault_in, fault_of, left, reads_in, reads_of, through, through_block};
+ghost use Rattle.anti_place.specs.Paths.{all_faults, first, height};
+ghost use Rattle.anti_place.specs.Reviews.{all_waits};
+ghost use Rattle.anti_place.specs.inner.Joined.{by_rows, fault_at, fault_here, fault_in, fault_of, is_later, left, reads_in, reads_of, through, through_block};
 
 use crate::doubt::Doubt;
 use crate::fault::{Fault, at_line, earlier, turned_fault};
 use crate::flow::Flow;
+use crate::reason::Reason;
+use crate::search::{Search, Sought};
 use anti_lang::Statement;
 
-// How many lines a statement has, with its block.
+/// How many lines a statement has, with its block.
 #[cycle(heights)]
-fn height(statement: &Statement) -> u32
+pub fn height(statement: &Statement) -> u32
     requires { height (step_of statement.now) < 2 ^ 32 }
     ensures { result ≡ height (step_of statement.now) }
 {
@@ -60,20 +64,23 @@ fn through_block(doubt: &Doubt, statements: &[Statement]) -> Flow
     flow
 }
 
-// The fault of a statement without a block.
+// The fault of a statement without a block. Inlined, since it is looked for at each line by each doubt.
+#[inline(always)]
 fn fault_here(
-    called: bool,
+    search: &Search,
     doubt: &Doubt,
     line: u32,
     statement: &Statement,
     held: bool,
 ) -> Option<Fault>
-    ensures { result ≡ fault_here called doubt.now line (step_of statement.now) held }
+    ensures { result ≡ fault_here search.now doubt.now line (step_of statement.now) held }
 {
-    if held {
-        at_line(line, doubt.fails(called, statement))
-    } else {
-        None
+    if !held {
+        return None;
+    }
+    match doubt.fails(search.sought, statement) {
+        Some(reason) => at_line(search.after, line, reason),
+        None => None,
     }
 }
 
@@ -88,49 +95,49 @@ fn entered(doubt: &Doubt, block: &[Statement], held: bool) -> bool
 // The first fault of a statement, by one doubt.
 #[cycle(faults)]
 fn fault_at(
-    called: bool,
+    search: &Search,
     doubt: &Doubt,
     line: u32,
     statement: &Statement,
     held: bool,
 ) -> Option<Fault>
     requires { line + height (step_of statement.now) < 2 ^ 32 }
-    ensures { result ≡ fault_at called doubt.now line (step_of statement.now) held }
+    ensures { result ≡ fault_at search.now doubt.now line (step_of statement.now) held }
 {
     match statement {
         Statement::Repeat { count, body } => {
             let held = entered(doubt, body.as_slice(), held);
-            let fault = fault_in(called, doubt, line + 1, body.as_slice(), held);
+            let fault = fault_in(search, doubt, line + 1, body.as_slice(), held);
             turned_fault(*count, fault)
         }
         Statement::IfAbsent { body, .. } => fault_in(
-            called,
+            search,
             doubt,
             line + 1,
             body.as_slice(),
             held,
         ),
-        _ => fault_here(called, doubt, line, statement, held),
+        _ => fault_here(search, doubt, line, statement, held),
     }
 }
 
 // The first fault of some statements, by one doubt.
 #[cycle(faults)]
 fn fault_in(
-    called: bool,
+    search: &Search,
     doubt: &Doubt,
     line: u32,
     statements: &[Statement],
     held: bool,
 ) -> Option<Fault>
     requires { line + length (lines_of (block_from (steps_of statements.now))) < 2 ^ 32 }
-    ensures { result ≡ fault_in called doubt.now line (block_from (steps_of statements.now)) held }
+    ensures { result ≡ fault_in search.now doubt.now line (block_from (steps_of statements.now)) held }
 {
     let mut found = None;
     let mut here = line;
     let mut held = held;
     for statement in statements {
-        found = earlier(found, fault_at(called, doubt, here, statement, held));
+        found = earlier(found, fault_at(search, doubt, here, statement, held));
         let flow = through(doubt, statement);
         if flow.stops() {
             return found;
@@ -142,11 +149,11 @@ fn fault_in(
 }
 
 // The first fault of a body, by one doubt. Its end counts as a `nack` behind its last line.
-fn fault_of(called: bool, doubt: &Doubt, body: &[Statement], held: bool) -> Option<Fault>
+fn fault_of(search: &Search, doubt: &Doubt, body: &[Statement], held: bool) -> Option<Fault>
     requires { length (lines_of (block_from (steps_of body.now))) < 2 ^ 31 }
-    ensures { result ≡ fault_of called doubt.now (block_from (steps_of body.now)) held }
+    ensures { result ≡ fault_of search.now doubt.now (block_from (steps_of body.now)) held }
 {
-    let found = fault_in(called, doubt, 1, body, held);
+    let found = fault_in(search, doubt, 1, body, held);
     let flow = through_block(doubt, body);
     if flow.stops() {
         return found;
@@ -154,51 +161,83 @@ fn fault_of(called: bool, doubt: &Doubt, body: &[Statement], held: bool) -> Opti
     let end = lines(body) + 1;
     earlier(
         found,
-        fault_here(called, doubt, end, &Statement::Nack, flow.leaves(held)),
+        fault_here(search, doubt, end, &Statement::Nack, flow.leaves(held)),
     )
 }
 
 // The first fault of a body by the rows of each variable that a statement reads into.
 #[cycle(rows)]
-fn fault_of_read(called: bool, statement: &Statement, body: &[Statement]) -> Option<Fault>
+fn fault_of_read(search: &Search, statement: &Statement, body: &[Statement]) -> Option<Fault>
     requires { length (lines_of (block_from (steps_of body.now))) < 2 ^ 31 }
     ensures { result ≡
-        by_rows (λ doubt. fault_of called doubt (block_from (steps_of body.now)) false) (reads_in (step_of statement.now)) }
+        by_rows (λ doubt. fault_of search.now doubt (block_from (steps_of body.now)) false) (reads_in (step_of statement.now)) }
 {
     match statement {
-        Statement::Read { variable, .. } => fault_of(called, &Doubt::Rows(*variable), body, false),
-        Statement::Scan { variable, .. } => fault_of(called, &Doubt::Rows(*variable), body, false),
-        Statement::Poll { variable, .. } => fault_of(called, &Doubt::Rows(*variable), body, false),
-        Statement::Repeat { body: block, .. } => fault_of_reads(called, block.as_slice(), body),
-        Statement::IfAbsent { body: block, .. } => fault_of_reads(called, block.as_slice(), body),
+        Statement::Read { variable, .. } => fault_of(search, &Doubt::Rows(*variable), body, false),
+        Statement::Scan { variable, .. } => fault_of(search, &Doubt::Rows(*variable), body, false),
+        Statement::Poll { variable, .. } => fault_of(search, &Doubt::Rows(*variable), body, false),
+        Statement::Repeat { body: block, .. } => fault_of_reads(search, block.as_slice(), body),
+        Statement::IfAbsent { body: block, .. } => fault_of_reads(search, block.as_slice(), body),
         _ => None,
     }
 }
 
 // The first fault of a body by the rows of each variable that some statements read into.
 #[cycle(rows)]
-fn fault_of_reads(called: bool, statements: &[Statement], body: &[Statement]) -> Option<Fault>
+fn fault_of_reads(search: &Search, statements: &[Statement], body: &[Statement]) -> Option<Fault>
     requires { length (lines_of (block_from (steps_of body.now))) < 2 ^ 31 }
     ensures { result ≡
-        by_rows (λ doubt. fault_of called doubt (block_from (steps_of body.now)) false)
+        by_rows (λ doubt. fault_of search.now doubt (block_from (steps_of body.now)) false)
         (reads_of (block_from (steps_of statements.now))) }
 {
     let mut found = None;
     for statement in statements {
-        found = earlier(found, fault_of_read(called, statement, body));
+        found = earlier(found, fault_of_read(search, statement, body));
     }
     found
 }
 
-/// The first fault of a body on any way through it, in a handler that is called or not, and named or not.
-pub fn first_fault(called: bool, named: bool, body: &[Statement]) -> Option<Fault>
+/// The first fault of a body behind another on any way through it, in a handler that is called or not, and named or not; its first
+/// fault where there is no other.
+pub fn next_fault(
+    called: bool,
+    named: bool,
+    after: Option<Fault>,
+    body: &[Statement],
+) -> Option<Fault>
     requires { length (lines_of (block_from (steps_of body.now))) < 2 ^ 31 }
-    ensures { result ≡ first_fault called named (block_from (steps_of body.now)) }
+    ensures { result ≡
+        first (filter (is_later after) (all_faults called named (block_from (steps_of body.now)))) }
 {
-    let always = fault_of(called, &Doubt::Always, body, true);
-    let unsettled = fault_of(called, &Doubt::Unsettled, body, named);
+    let search = Search {
+        sought: Sought::Faults { called },
+        after,
+    };
+    let always = fault_of(&search, &Doubt::Always, body, true);
+    let unsettled = fault_of(&search, &Doubt::Unsettled, body, named);
     earlier(
         always,
-        earlier(unsettled, fault_of_reads(called, body, body)),
+        earlier(unsettled, fault_of_reads(&search, body, body)),
     )
+}
+
+/// Whether the barrier at a line of a body has to wait on some way through it, in a handler that is named or not.
+pub fn waits_at(named: bool, line: u32, body: &[Statement]) -> bool
+    requires { length (lines_of (block_from (steps_of body.now))) < 2 ^ 31 }
+    ensures { result ≡
+        list_any (λ waits. waits == line) (all_waits named (block_from (steps_of body.now))) }
+{
+    // behind the faults of this line that are told before the one that is sought
+    let before = Fault {
+        line,
+        reason: Reason::Untransferred,
+    };
+    let search = Search {
+        sought: Sought::Waits,
+        after: Some(before),
+    };
+    match fault_of(&search, &Doubt::Unsettled, body, named) {
+        Some(found) => found.line == line,
+        None => false,
+    }
 }

@@ -1,9 +1,10 @@
 ghost use Rattle.std.specs.Prelude.{◌≡◌};
 ghost use Rattle.anti_lang.specs.Bodies.{step_of};
-ghost use Rattle.anti_place.specs.inner.Joined.{does, fails, forbidden, goes_on, if_same, settles, transfers, wants_settled, wants_transferred};
+ghost use Rattle.anti_place.specs.inner.Joined.{does, fails, forbidden, goes_on, has_to_wait, if_same, settles, transfers, wants_settled, wants_transferred};
 
 use crate::flow::Flow;
 use crate::reason::Reason;
+use crate::search::Sought;
 use anti_ids::Name;
 use anti_lang::Statement;
 
@@ -127,6 +128,16 @@ fn wants_transferred(called: bool, statement: &Statement) -> Option<Reason>
     }
 }
 
+// Why a statement is told where barriers are sought that have to wait, and what is carried is not settled.
+fn has_to_wait(statement: &Statement) -> Option<Reason>
+    ensures { result ≡ has_to_wait (step_of statement.now) }
+{
+    match statement {
+        Statement::Barrier => Some(Reason::Unsettled),
+        _ => None,
+    }
+}
+
 impl Doubt {
     /// What a statement without a block does to it.
     pub fn after(&self, statement: &Statement) -> Flow
@@ -139,14 +150,24 @@ impl Doubt {
         }
     }
 
-    /// Why a statement without a block fails where it is held, in a handler that is called or not.
-    pub fn fails(&self, called: bool, statement: &Statement) -> Option<Reason>
-        ensures { result ≡ fails called self.now (step_of statement.now) }
+    // Why a statement without a block fails where it is held, in a handler that is called or not.
+    fn fault(&self, called: bool, statement: &Statement) -> Option<Reason>
+        ensures { result ≡ fails (Sought.Faults called) self.now (step_of statement.now) }
     {
         match self {
             Doubt::Always => forbidden(statement),
             Doubt::Unsettled => wants_settled(statement),
             Doubt::Rows(_) => wants_transferred(called, statement),
+        }
+    }
+
+    /// Why a statement without a block is told where the doubt is held.
+    pub fn fails(&self, sought: Sought, statement: &Statement) -> Option<Reason>
+        ensures { result ≡ fails sought self.now (step_of statement.now) }
+    {
+        match sought {
+            Sought::Faults { called } => self.fault(called, statement),
+            Sought::Waits => has_to_wait(statement),
         }
     }
 }

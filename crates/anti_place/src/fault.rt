@@ -1,6 +1,6 @@
-ghost use Rattle.std.specs.Prelude.{◌≡◌};
+ghost use Rattle.std.specs.Prelude.{◌≡◌, Some};
 ghost use Rattle.anti_place.specs.Paths.{earlier, is_before, rank};
-ghost use Rattle.anti_place.specs.inner.Joined.{at_line, turned_fault};
+ghost use Rattle.anti_place.specs.inner.Joined.{at_line, is_later, turned_fault};
 
 use crate::reason::Reason;
 
@@ -45,13 +45,25 @@ pub fn earlier(a: Option<Fault>, b: Option<Fault>) -> Option<Fault>
     if is_before(other, one) { b } else { a }
 }
 
-/// A reason as a fault of a line.
-pub fn at_line(line: u32, reason: Option<Reason>) -> Option<Fault>
-    ensures { result ≡ at_line line reason }
+// Whether a fault is told behind another, where there is one.
+fn is_later(after: Option<Fault>, fault: Fault) -> bool
+    ensures { result ≡ is_later after fault }
 {
-    match reason {
-        Some(reason) => Some(Fault { line, reason }),
-        None => None,
+    match after {
+        Some(other) => is_before(other, fault),
+        None => true,
+    }
+}
+
+/// A reason as a fault of a line, where that is told behind another.
+pub fn at_line(after: Option<Fault>, line: u32, reason: Reason) -> Option<Fault>
+    ensures { result ≡ at_line after line (Some reason) }
+{
+    let fault = Fault { line, reason };
+    if is_later(after, fault) {
+        Some(fault)
+    } else {
+        None
     }
 }
 

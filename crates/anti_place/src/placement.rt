@@ -8,7 +8,7 @@ ghost use Rattle.anti_place.specs.Paths.{first_fault};
 ghost use Rattle.anti_place.specs.Placements.{handlers_from, is_called, is_named, placement};
 ghost use Rattle.anti_place.specs.inner.Told.{IsShort, or_later};
 
-use crate::body::first_fault;
+use crate::body::next_fault;
 use crate::fault::Fault;
 use crate::reason::Reason;
 use crate::targets::Target;
@@ -42,7 +42,7 @@ fn fault_of_handler(app: &App, target: Target, body: &Body) -> Option<Fault>
 {
     let called = target.is_called(app);
     let named = target.is_named(app, called);
-    first_fault(called, named, body.as_slice())
+    next_fault(called, named, None, body.as_slice())
 }
 
 // Whether the handlers of a service are right, or the first that is not.

@@ -6,6 +6,7 @@ pub mod Sessions
 pub mod Diagnoses
 pub mod Processes
 pub mod Record
+pub mod Reviews
 pub mod Spans
 pub mod Summary
 pub mod Words

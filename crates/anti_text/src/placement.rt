@@ -1,6 +1,6 @@
 ghost use Rattle.std.specs.Prelude.{◌≡◌, ◌++◌, IfOk, OnOk};
 ghost use Rattle.anti_ids.specs.List.{plain};
-ghost use Rattle.anti_text.specs.Placements.{placement_line, reason_word};
+ghost use Rattle.anti_text.specs.Placements.{place_of_line, placement_line, reason_word};
 
 use crate::output::Output;
 use crate::words::{handler_name, service_name};
@@ -10,8 +10,8 @@ use anti_place::{Placement, Reason};
 use itoa::Buffer;
 use std::alloc::Global;
 
-// The word of a reason.
-fn reason_word(reason: Reason) -> &'static [u8]
+/// The word of a reason.
+pub fn reason_word(reason: Reason) -> &'static [u8]
     ensures { result.now ≡ reason_word reason }
 {
     match reason {
@@ -20,6 +20,27 @@ fn reason_word(reason: Reason) -> &'static [u8]
         Reason::Untransferred => b"untransferred",
         Reason::Unsettled => b"unsettled",
     }
+}
+
+/// Writes which line of a handler it is, and a space.
+pub fn place_of_line(
+    out: &mut Output,
+    app: &App,
+    service: u32,
+    handler: u32,
+    line: u32,
+) -> Result<(), NoMemory>
+    ensures { OnOk result (out.new ≡ out.old ++ place_of_line app.now service handler line) }
+{
+    let mut digits = Buffer::new();
+    out.put_all(&[
+        service_name(app, service as usize),
+        b" ",
+        handler_name(app, service as usize, handler as usize),
+        b" ",
+        digits.format(line).as_bytes(),
+        b" ",
+    ])
 }
 
 // Writes the line that tells a placement.
@@ -34,16 +55,8 @@ fn put_line(out: &mut Output, app: &App, placement: Placement) -> Result<(), NoM
             line,
             reason,
         } => {
-            let mut digits = Buffer::new();
-            out.put_all(&[
-                b"unplaced ",
-                service_name(app, service as usize),
-                b" ",
-                handler_name(app, service as usize, handler as usize),
-                b" ",
-                digits.format(line).as_bytes(),
-                b" ",
-            ])?;
+            out.put(b"unplaced ")?;
+            place_of_line(out, app, service, handler, line)?;
             out.put_all(&[reason_word(reason), b"\n"])
         }
     }

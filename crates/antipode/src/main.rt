@@ -1,7 +1,8 @@
 //! `antipode step` plays the choices of the document on standard input, and writes the record of the run to standard output; `antipode
 //! json` writes it as JSON. `antipode run` lets workers on threads play the document, and writes the record of what they did. `antipode
 //! session` plays the document as `step` does, and writes what its sessions saw, and `antipode doctor` what its reads missed, or orders that
-//! explain them. `antipode place` tells whether barriers, transfers and roots stand where they must in the document. `antipode
+//! explain them. `antipode place` tells whether barriers, transfers and roots stand where they must in the document, and `antipode review`
+//! all lines at which they do not, and the barriers that never have to wait. `antipode
 //! load 400` plays the load of 400 requests, and writes the summary of the run; it reads nothing.
 #![tactic(auto)]
 

@@ -27,7 +27,7 @@ use Rattle.anti_proc.specs.Meaning.{Go, after_post, asks, block_tree, carry, lea
 use Rattle.anti_proc.specs.Trees.{Tree}
 use Rattle.law_causal.specs.Words.{comes_with}
 use Rattle.law_causal.proofs.Looks.{planned_for}
-use Rattle.law_placed.proofs.Clearing.{Doubts, NoEndFails, NoLineFails, NoStepFails, Within, behind_block, behind_step, block_stops, end_fine, first_fine, held_behind, held_passed, held_through, left_once, not_held, passes, rest_fine, rest_stops, step_stops}
+use Rattle.law_placed.proofs.Clearing.{Doubts, NoEndFails, NoLineFails, NoStepFails, Within, all_that_fail, behind_block, behind_step, block_stops, end_fine, first_fine, held_behind, held_passed, held_through, left_once, not_held, passes, rest_fine, rest_stops, step_stops}
 use Rattle.law_placed.proofs.Histories.{Good, History}
 use Rattle.law_placed.proofs.Staying.{AllCarried, AllFound, Inv, Kept, NoneLeft, Pending, all_carried, carried_kept, changed, weaker}
 use Rattle.law_placed.proofs.Asking.{Covers, Goes, among_new, among_old, call_good, carry_good, covers_more, deep_good, goes_within, key_good, leave_good, looks_good, one_good, owes_reply, read_brings, read_good, send_good, write_good}
@@ -77,14 +77,14 @@ module _ (s : Setting) (called : Bool) (owes : owes_reply s.role.duty ≡ true �
   -- ---- the end
 
   -- a process that owes a reply has no rows left at its end
-  end_good : (good : Bool) (line : ℕ) (a : Doubts) → ((d : Doubt) → fault_here called d line program.Nack (a d) ≡ None)
+  end_good : (good : Bool) (line : ℕ) (a : Doubts) → ((d : Doubt) → fault_here (all_that_fail called) d line program.Nack (a d) ≡ None)
       → (l : Local) (h : History) → HoldsIn a l h → Good s.app h (leave good s Fine l)
   end_good good line a none l h inv = leave_good s s.role.duty good Fine l h (λ owing. all_carried s.app s.role.region a l h inv (none_left owing))
     where
       none_left : owes_reply s.role.duty ≡ true → NoneLeft a
       none_left owing x =
           let rows : Doubt = doubts.Rows x in
-          not_held (a rows) _ (ap (λ (b : Bool). fault_here b rows line program.Nack (a rows)) (sym (owes owing)) ∙ none rows)
+          not_held (a rows) _ (ap (λ (b : Bool). fault_here (all_that_fail b) rows line program.Nack (a rows)) (sym (owes owing)) ∙ none rows)
 
   -- ---- statements without a call
 

@@ -7,8 +7,10 @@ use Rattle.anti_place.specs.declared.doubt.Doubt.TheVariants as doubts
 use Rattle.anti_place.specs.declared.fault.Fault.{Fault}
 use Rattle.anti_place.specs.declared.flow.Flow.{Flow}
 use Rattle.anti_place.specs.declared.flow.Flow.TheVariants.{Stops, Clears, Keeps, Sets}
+use Rattle.anti_place.specs.declared.search.Search.{Search}
 use Rattle.anti_place.specs.Paths.{height}
 use Rattle.anti_place.specs.inner.Joined.{behind, does, either, fault_at, fault_here, fault_in, is_stop, left, then_flow, through, through_block}
+use Rattle.anti_place.proofs.Doubting.{faults_after}
 use Rattle.anti_place.proofs.Earlier.{none_of}
 
 -- which doubts are held
@@ -138,16 +140,20 @@ mutual
 
 -- ---- no line fails
 
+-- what is sought in a body: all lines that fail
+abbrev pub all_that_fail : Bool → Search
+all_that_fail called = faults_after called None
+
 abbrev pub NoStepFails : Bool → ℕ → Step → Doubts → Type 0
-NoStepFails called line statement a = (d : Doubt) → fault_at called d line statement (a d) ≡ None
+NoStepFails called line statement a = (d : Doubt) → fault_at (all_that_fail called) d line statement (a d) ≡ None
 
 abbrev pub NoLineFails : Bool → ℕ → Block → Doubts → Type 0
-NoLineFails called line block a = (d : Doubt) → fault_in called d line block (a d) ≡ None
+NoLineFails called line block a = (d : Doubt) → fault_in (all_that_fail called) d line block (a d) ≡ None
 
 -- nor does the end behind a block, where a way comes to it
 abbrev pub NoEndFails : Bool → ℕ → Block → Doubts → Type 0
 NoEndFails called line block a =
-    block_stops block ≡ false → (d : Doubt) → fault_here called d line program.Nack (behind_block block a d) ≡ None
+    block_stops block ≡ false → (d : Doubt) → fault_here (all_that_fail called) d line program.Nack (behind_block block a d) ≡ None
 
 -- a doubt for which a statement would fail is not held
 pub not_held : (held : Bool) (f : Fault) → cond held (Some f) None ≡ None → held ≡ false
@@ -157,12 +163,12 @@ not_held false f none = refl
 module _ (called : Bool) (line : ℕ) (first : Step) (rest : Block) (a : Doubts) where
   -- what fails behind the first statement
   abbrev further : Doubt → Bool → Option Fault
-  further d held = fault_in called d (line + height first) rest held
+  further d held = fault_in (all_that_fail called) d (line + height first) rest held
 
-  parts : (d : Doubt) → fault_in called d line (Then first rest) (a d) ≡ None
-      → (fault_at called d line first (a d) ≡ None)
+  parts : (d : Doubt) → fault_in (all_that_fail called) d line (Then first rest) (a d) ≡ None
+      → (fault_at (all_that_fail called) d line first (a d) ≡ None)
       × (behind (through d first) (a d) (further d) ≡ None)
-  parts d none = none_of (fault_at called d line first (a d)) (behind (through d first) (a d) (further d)) none
+  parts d none = none_of (fault_at (all_that_fail called) d line first (a d)) (behind (through d first) (a d) (further d)) none
 
   -- neither the first statement fails, ..
   pub first_fine : NoLineFails called line (Then first rest) a → NoStepFails called line first a
@@ -187,4 +193,4 @@ module _ (called : Bool) (line : ℕ) (first : Step) (rest : Block) (a : Doubts)
     -- .. nor the end
     pub end_fine : (last : ℕ) → NoEndFails called last (Then first rest) a → NoEndFails called last rest (behind_step first a)
     end_fine last fine ends d =
-        ap (λ (held : Bool). fault_here called d last program.Nack held) (sym (held_behind d)) ∙ fine (rest_stops ends) d
+        ap (λ (held : Bool). fault_here (all_that_fail called) d last program.Nack held) (sym (held_behind d)) ∙ fine (rest_stops ends) d

@@ -31,7 +31,7 @@ use Rattle.anti_proc.proofs.Started.{each_task, its_body, started_each}
 use Rattle.law_causal.specs.Words.{brings, comes_with}
 use Rattle.law_placed.proofs.Asking.{among_new, owes_reply}
 use Rattle.law_placed.proofs.Bodies.{body_good}
-use Rattle.law_placed.proofs.Clearing.{NoEndFails, NoLineFails, behind_left, block_alike}
+use Rattle.law_placed.proofs.Clearing.{NoEndFails, NoLineFails, all_that_fail, behind_left, block_alike}
 use Rattle.law_placed.proofs.Histories.{Good, History, came_before, more, nothing}
 use Rattle.law_placed.proofs.Placing.{body_fine, body_stands}
 use Rattle.law_placed.proofs.Staying.{Inv}
@@ -113,17 +113,17 @@ module _ (app : App) (region : ℕ) (named : Bool) (birth : Entry) (first_span :
   }
 
 -- where no fault is in a body, no line of it fails, nor its end
-module _ (called named : Bool) (body : Block) (fine : (d : Doubt) → fault_of called d body (at_start named d) ≡ None) where
+module _ (called named : Bool) (body : Block) (fine : (d : Doubt) → fault_of (all_that_fail called) d body (at_start named d) ≡ None) where
   abbrev last : ℕ
   last = length (lines_of body) + 1
 
   abbrev at_end : Doubt → Bool → Option Fault
-  at_end d held = fault_here called d last program.Nack held
+  at_end d held = fault_here (all_that_fail called) d last program.Nack held
 
-  line_or_end : (d : Doubt) → (fault_in called d 1 body (at_start named d) ≡ None)
+  line_or_end : (d : Doubt) → (fault_in (all_that_fail called) d 1 body (at_start named d) ≡ None)
       × (behind (through_block d body) (at_start named d) (at_end d) ≡ None)
   line_or_end d =
-      none_of (fault_in called d 1 body (at_start named d)) (behind (through_block d body) (at_start named d) (at_end d)) (fine d)
+      none_of (fault_in (all_that_fail called) d 1 body (at_start named d)) (behind (through_block d body) (at_start named d) (at_end d)) (fine d)
 
   no_line : NoLineFails called 1 body (at_start named)
   no_line d = (line_or_end d).0
@@ -144,7 +144,7 @@ process_good app sound placed birth first_span by_name =
     let called : Bool = is_called app service handler in
     let named : Bool = is_named app service handler in
     let came : CameByName app task = by_name task is in
-    let fine : (d : Doubt) → fault_of called d body (at_start named d) ≡ None =
+    let fine : (d : Doubt) → fault_of (all_that_fail called) d body (at_start named d) ≡ None =
     none_by called named body (body_fine app placed service handler) in
     body_good (setting_of app task) called came.called body (body_stands app sound service handler) 1 (length (lines_of body) + 1)
     (at_start named) (no_line called named body fine) (no_end called named body fine) (record first_local { carried = ids })

@@ -45,6 +45,7 @@ static NO_COMMANDS: [&[&[u8]]; 17] = [
     &[b"load", b"all"],
     &[b"load", b"7", b"7"],
     &[b"place", b"7"],
+    &[b"review", b"7"],
     &[b"session", b"c.1"],
     &[b"doctor", b""],
     &[b"step", b"x"],

@@ -1,4 +1,4 @@
-// What `place` writes, and what it is worth: the runs of a placed application, whatever their schedule.
+// What `place` and `review` write, and what a placement is worth: the runs of a placed application, whatever their schedule.
 use crate::call_rows::{CallRow, STEP, assert_of, assert_texts, comes_to, served};
 use crate::past::WHOLE;
 use crate::run_rows::{Wanted, holds};
@@ -10,6 +10,44 @@ const PLACE: CallRow = CallRow {
     word: b"place",
     ..STEP
 };
+
+// A call of `review`.
+const REVIEW: CallRow = CallRow {
+    word: b"review",
+    ..STEP
+};
+
+// Documents, and what is said of their lines.
+static REVIEWS: [(&str, &str); 4] = [
+    (served!("", "", ""), "review 1\nend 0\n"),
+    // a barrier that one way passes has to wait on the other
+    (
+        served!(
+            "",
+            "'write s k a'",
+            "'read s k as x', 'transfer x', 'if x absent', 'barrier', 'end', 'read s j as y'"
+        ),
+        "review 1\nw two 6 unsettled\nend 1\n",
+    ),
+    // several lines, and two reasons at one of them
+    (
+        served!(
+            "",
+            "'read s k as x', 'write s j b as y', 'read s j as z', 'remove y'",
+            "'write s k a as x untracked'"
+        ),
+        "review 1\nw one 2 untransferred\nw one 3 untransferred\nw one 3 unsettled\nw one 4 removed\nw two 1 untracked\nend 5\n",
+    ),
+    // barriers before anything is carried, behind a barrier, and behind a block whose barrier one way passes
+    (
+        served!(
+            "",
+            "'barrier', 'write s k a', 'barrier', 'barrier'",
+            "'read s k as x', 'transfer x', 'if x absent', 'barrier', 'end', 'barrier'"
+        ),
+        "review 1\nw one 1 superfluous\nw one 4 superfluous\nend 2\n",
+    ),
+];
 
 // Documents that are not placed, and the line that is written of each.
 static LINES: [(&str, &str); 6] = [
@@ -110,6 +148,11 @@ fn is_ordered(alloc: Global, choices: &str) -> bool {
 fn documents_are_placed_or_told_where_not(rt: HostRuntime) {
     assert_texts(&rt, rt.alloc(), &PLACE, &[(WHOLE, "placed\n")]);
     assert_texts(&rt, rt.alloc(), &PLACE, &LINES);
+}
+
+#[test]
+fn lines_are_reviewed(rt: HostRuntime) {
+    assert_texts(&rt, rt.alloc(), &REVIEW, &REVIEWS);
 }
 
 #[test]

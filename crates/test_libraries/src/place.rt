@@ -2,7 +2,7 @@
 
 use crate::made::assert_at;
 use anti_app::read_app;
-use anti_place::{Placement, Reason, placed};
+use anti_place::{Finding, Placement, Reason, Remark, placed, review};
 use std::alloc::{AllocError, Global};
 
 // The bodies of the handlers `one`, `two` and `three`.
@@ -222,6 +222,65 @@ static UNPLACED: [(Bodies, u32, u32, Reason); 24] = [
     ),
 ];
 
+// What is told of a line: the number of its handler, its line, and why it fails; `None` of a barrier that never has to wait.
+type Told = (u32, u32, Option<Reason>);
+
+// Bodies, and all that is told of them.
+static REVIEWED: [(Bodies, &[Told]); 6] = [
+    (["'write s k a', 'barrier', 'read s k as x'", "", ""], &[]),
+    // two reasons at one line, and a line behind it; faults of two handlers, and behind them a barrier
+    (
+        [
+            "'write s k a as w', 'barrier', 'read s k as x', 'append w', 'read s j as y', 'write s k b'",
+            "'barrier'",
+            "'read s k as x'",
+        ],
+        &[
+            (0, 5, Some(Reason::Untransferred)),
+            (0, 5, Some(Reason::Unsettled)),
+            (0, 6, Some(Reason::Untransferred)),
+            (2, 1, Some(Reason::Unsettled)),
+            (1, 1, None),
+        ],
+    ),
+    // in a block that is gone through twice, and at the end
+    (
+        [
+            "'repeat 3', 'read s k as x', 'end', 'call w two v as y'",
+            "'barrier', 'read s k as x'",
+            "",
+        ],
+        &[
+            (0, 2, Some(Reason::Untransferred)),
+            (0, 4, Some(Reason::Untransferred)),
+            (1, 3, Some(Reason::Untransferred)),
+        ],
+    ),
+    // a barrier behind a barrier, and one that is settled on one way alone
+    (
+        [
+            "'read s k as x', 'transfer x', 'if x absent', 'barrier', 'end', 'barrier', 'barrier'",
+            "",
+            "",
+        ],
+        &[(0, 7, None)],
+    ),
+    // in a new span, and where no way leads
+    (
+        [
+            "'write s k a', 'root', 'barrier'",
+            "'write s k a', 'nack', 'barrier'",
+            "",
+        ],
+        &[(0, 3, None), (1, 3, None)],
+    ),
+    // a handler that nothing names, and one that is started
+    (
+        ["'barrier'", "", "'barrier', 'barrier'"],
+        &[(0, 1, None), (2, 2, None)],
+    ),
+];
+
 // Whether the check says this of the application that the document with such bodies states. `false` where it states none or
 // memory runs out.
 fn is_told(alloc: Global, bodies: &Bodies, wanted: Placement) -> bool {
@@ -232,6 +291,38 @@ fn is_told(alloc: Global, bodies: &Bodies, wanted: Placement) -> bool {
         return false;
     };
     placed(&app) == wanted
+}
+
+// Whether a remark says this.
+fn says(remark: &Remark, (handler, line, reason): &Told) -> bool {
+    let found = match remark.finding {
+        Finding::Fails(reason) => Some(reason),
+        Finding::Superfluous => None,
+    };
+    remark.service == 0 && remark.handler == *handler && remark.line == *line && found == *reason
+}
+
+// Whether just this is told, in this order, of the application that the document with such bodies states. `false` where it states none
+// or memory runs out.
+fn are_told(alloc: Global, bodies: &Bodies, told: &[Told]) -> bool {
+    let Ok(document) = document(alloc, bodies) else {
+        return false;
+    };
+    let Ok(app) = read_app(alloc, document.as_bytes()) else {
+        return false;
+    };
+    let Ok(remarks) = review(alloc, &app) else {
+        return false;
+    };
+    if remarks.len() != told.len() {
+        return false;
+    }
+    for (place, row) in told.iter().enumerate() {
+        if !says(remarks.at(place), row) {
+            return false;
+        }
+    }
+    true
 }
 
 #[test]
@@ -251,5 +342,12 @@ fn the_first_failing_line_is_told(rt: HostRuntime) {
             reason: *reason,
         };
         assert_at(&rt, place, is_told(rt.alloc(), bodies, wanted));
+    }
+}
+
+#[test]
+fn all_that_is_missing_is_told(rt: HostRuntime) {
+    for (place, (bodies, told)) in REVIEWED.iter().enumerate() {
+        assert_at(&rt, place, are_told(rt.alloc(), bodies, told));
     }
 }

@@ -10,7 +10,10 @@ use Rattle.anti_place.specs.declared.flow.Flow.{Flow}
 use Rattle.anti_place.specs.declared.flow.Flow.TheVariants.{Stops, Clears, Keeps, Sets}
 use Rattle.anti_place.specs.declared.reason.Reason.{Reason}
 use Rattle.anti_place.specs.declared.reason.Reason.TheVariants as why
-use Rattle.anti_place.specs.Paths.{height, earlier}
+use Rattle.anti_place.specs.declared.search.Search.{Search}
+use Rattle.anti_place.specs.declared.search.Sought.{Sought}
+use Rattle.anti_place.specs.declared.search.Sought.TheVariants.{Faults, Waits}
+use Rattle.anti_place.specs.Paths.{height, is_before, earlier}
 
 -- ---- what becomes of a doubt
 
@@ -118,20 +121,32 @@ wants_transferred called (Poll store key x) = Some why.Untransferred
 wants_transferred called Nack = cond called (Some why.Untransferred) None
 wants_transferred called statement = None
 
-abbrev pub fails : Bool → Doubt → Step → Option Reason
-fails called Always statement = forbidden statement
-fails called Unsettled statement = wants_settled statement
-fails called (Rows x) statement = wants_transferred called statement
+abbrev pub has_to_wait : Step → Option Reason
+has_to_wait Barrier = Some why.Unsettled
+has_to_wait statement = None
+
+-- where it is a line that fails that is sought, or a barrier that has to wait
+abbrev pub fails : Sought → Doubt → Step → Option Reason
+fails (Faults called) Always statement = forbidden statement
+fails (Faults called) Unsettled statement = wants_settled statement
+fails (Faults called) (Rows x) statement = wants_transferred called statement
+fails Waits doubt statement = has_to_wait statement
 
 -- ---- the first line that fails, by one doubt
 
-abbrev pub at_line : ℕ → Option Reason → Option Fault
-at_line line None = None
-at_line line (Some reason) = Some (record { line = line; reason = reason })
+-- whether a fault is told behind another, where there is one
+abbrev pub is_later : Option Fault → Fault → Bool
+is_later None fault = true
+is_later (Some after) fault = is_before after fault
+
+abbrev pub at_line : Option Fault → ℕ → Option Reason → Option Fault
+at_line after line None = None
+at_line after line (Some reason) =
+    cond (is_later after (record { line = line; reason = reason })) (Some (record { line = line; reason = reason })) None
 
 -- that of a statement without a block
-abbrev pub fault_here : Bool → Doubt → ℕ → Step → Bool → Option Fault
-fault_here called doubt line statement held = cond held (at_line line (fails called doubt statement)) None
+abbrev pub fault_here : Search → Doubt → ℕ → Step → Bool → Option Fault
+fault_here search doubt line statement held = cond held (at_line search.after line (fails search.sought doubt statement)) None
 
 -- that of a block with this count
 abbrev pub turned_fault : ℕ → Option Fault → Option Fault
@@ -147,23 +162,23 @@ behind Sets held further = further (left Sets held)
 
 -- A block of a `repeat` is entered with what comes before it, and with what its own end leaves.
 abbrev mutual
-  pub fault_at : Bool → Doubt → ℕ → Step → Bool → Option Fault
-  fault_at called doubt line (Repeat count block) held =
-      turned_fault count (fault_in called doubt (line + 1) block (held || left (through_block doubt block) held))
-  fault_at called doubt line (IfAbsent x block) held = fault_in called doubt (line + 1) block held
-  fault_at called doubt line statement held = fault_here called doubt line statement held
+  pub fault_at : Search → Doubt → ℕ → Step → Bool → Option Fault
+  fault_at search doubt line (Repeat count block) held =
+      turned_fault count (fault_in search doubt (line + 1) block (held || left (through_block doubt block) held))
+  fault_at search doubt line (IfAbsent x block) held = fault_in search doubt (line + 1) block held
+  fault_at search doubt line statement held = fault_here search doubt line statement held
 
-  pub fault_in : Bool → Doubt → ℕ → Block → Bool → Option Fault
-  fault_in called doubt line End held = None
-  fault_in called doubt line (Then first rest) held =
-      earlier (fault_at called doubt line first held)
-      (behind (through doubt first) held (λ entered. fault_in called doubt (line + height first) rest entered))
+  pub fault_in : Search → Doubt → ℕ → Block → Bool → Option Fault
+  fault_in search doubt line End held = None
+  fault_in search doubt line (Then first rest) held =
+      earlier (fault_at search doubt line first held)
+      (behind (through doubt first) held (λ entered. fault_in search doubt (line + height first) rest entered))
 
 -- that of a body; its end counts as a `nack` behind its last line
-abbrev pub fault_of : Bool → Doubt → Block → Bool → Option Fault
-fault_of called doubt body held =
-    earlier (fault_in called doubt 1 body held)
-    (behind (through_block doubt body) held (λ entered. fault_here called doubt (length (lines_of body) + 1) Nack entered))
+abbrev pub fault_of : Search → Doubt → Block → Bool → Option Fault
+fault_of search doubt body held =
+    earlier (fault_in search doubt 1 body held)
+    (behind (through_block doubt body) held (λ entered. fault_here search doubt (length (lines_of body) + 1) Nack entered))
 
 -- ---- all doubts
 
@@ -186,8 +201,8 @@ abbrev pub by_rows : (Doubt → Option Fault) → List (List ℕ) → Option Fau
 by_rows fault [] = None
 by_rows fault (x ∷ names) = earlier (fault (Rows x)) (by_rows fault names)
 
--- The first line of a body that fails.
-abbrev pub joined_fault : Bool → Bool → Block → Option Fault
-joined_fault called named body =
-    earlier (fault_of called Always body true)
-    (earlier (fault_of called Unsettled body named) (by_rows (λ doubt. fault_of called doubt body false) (reads_of body)))
+-- The first line of a body that fails, of those that are sought.
+abbrev pub joined_fault : Search → Bool → Block → Option Fault
+joined_fault search named body =
+    earlier (fault_of search Always body true)
+    (earlier (fault_of search Unsettled body named) (by_rows (λ doubt. fault_of search doubt body false) (reads_of body)))

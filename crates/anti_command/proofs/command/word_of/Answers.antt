@@ -7,6 +7,3 @@ returns-in-json c = grind (arith, common_steps)
 
 pub returns-in-step : goal.returns-in-step
 returns-in-step c = grind (arith, common_steps)
-
-pub returns-in-place : goal.returns-in-place
-returns-in-place c = grind (arith, common_steps)

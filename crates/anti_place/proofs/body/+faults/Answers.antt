@@ -11,7 +11,7 @@ pub fault_in-loop-statement-preserved : goal.fault_in-loop-statement-preserved
 fault_in-loop-statement-preserved t c = record {
   rest =
       fault_more c.args.statements.now c.loop-statement.statement-index c.statement-item.result c.loop-statement-test.true c.statement-item.is
-      c.args.called c.args.doubt.now c.loop-statement.here c.loop-statement.held c.loop-statement.found c.fault_at.result c.earlier-found.result _ c.through-flow.result
+      c.args.search.now c.args.doubt.now c.loop-statement.here c.loop-statement.held c.loop-statement.found c.fault_at.result c.earlier-found.result _ c.through-flow.result
       c.fault_at.ensures c.earlier-found.ensures c.through-flow.ensures c.loop-statement.invariant.rest
       c.height-here.result c.leaves-held.result (sym c.stops.ensures ∙ c.if-stops.false) c.leaves-held.ensures c.height-here.ensures;
   lines =

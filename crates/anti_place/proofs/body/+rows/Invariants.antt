@@ -7,5 +7,5 @@ use Rattle.anti_place.proofs.body.+rows.Given as goal
 
 abbrev pub invariant-fault_of_reads-loop-statement : goal.invariant-fault_of_reads-loop-statement
 invariant-fault_of_reads-loop-statement l =
-    earlier l.found (by_rows (λ doubt. fault_of l.called doubt (block_from (steps_of l.body)) false) (reads_of (block_from (steps_of (drop l.statement-index l.statements)))))
-    ≡ by_rows (λ doubt. fault_of l.called doubt (block_from (steps_of l.body)) false) (reads_of (block_from (steps_of l.statements)))
+    earlier l.found (by_rows (λ doubt. fault_of l.search doubt (block_from (steps_of l.body)) false) (reads_of (block_from (steps_of (drop l.statement-index l.statements)))))
+    ≡ by_rows (λ doubt. fault_of l.search doubt (block_from (steps_of l.body)) false) (reads_of (block_from (steps_of l.statements)))
