@@ -32,7 +32,7 @@ end 4
 ";
 
 // Words that ask for nothing.
-static NO_COMMANDS: [&[&[u8]]; 17] = [
+static NO_COMMANDS: [&[&[u8]]; 18] = [
     &[],
     &[b"load"],
     &[b"load", b""],
