@@ -8,8 +8,8 @@ use Rattle.anti_kind.specs.declared.actor.Actor.TheVariants.{Carrier}
 use Rattle.anti_object.specs.declared.object.Object.{Object}
 use Rattle.anti_shared.specs.Passes.{Identity, PassView, SharedView}
 use Rattle.anti_shim.specs.declared.caller.Caller.{Caller}
-use Rattle.anti_live.specs.Clients.{id_of_pass, id_of_shared}
-use Rattle.anti_live.specs.inner.Lives.{AreOf, IsClient}
+use Rattle.anti_live.specs.Clients.{IsClient, id_of_pass, id_of_shared}
+use Rattle.anti_live.specs.inner.Lives.{AreOf}
 
 module _ (shareds : List (SharedView Object)) (passes : List (PassView Object)) (of : AreOf shareds passes) where
   pub same_long : length passes ≡ length shareds

@@ -13,9 +13,9 @@ use Rattle.anti_kind.specs.declared.entry.Entry.{Entry}
 use Rattle.anti_object.specs.declared.object.Object.{Object}
 use Rattle.anti_shared.specs.Passes.{Identity, PassView, SharedView, with_count}
 use Rattle.anti_shim.specs.declared.caller.Caller.{Caller}
-use Rattle.anti_live.specs.Clients.{ClientView, IsAsked, IsLeft, IsOf, LiveView, asked_alone, id_of_pass, id_of_shared, is_another_out}
+use Rattle.anti_live.specs.Clients.{ClientView, IsAsked, IsClient, IsLeft, IsOf, LiveView, asked_alone, id_of_pass, id_of_shared, is_another_out}
 use Rattle.anti_live.specs.inner.Closing.{AreAsking, AreClosing}
-use Rattle.anti_live.specs.inner.Lives.{AreOf, IsClient}
+use Rattle.anti_live.specs.inner.Lives.{AreOf}
 use Rattle.anti_live.proofs.Belonging.{client_stays, id_at, of_others, same_long}
 use Rattle.anti_live.proofs.Changed.{changed_all, changed_first, changed_more, next_same, zipped_at}
 

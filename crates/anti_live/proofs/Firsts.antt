@@ -5,8 +5,7 @@ use Rattle.anti_kind.specs.declared.actor.Actor.TheVariants.{Carrier}
 use Rattle.anti_object.specs.declared.object.Object.{Object}
 use Rattle.anti_shared.specs.Passes.{PassView, SharedView, first_pass}
 use Rattle.anti_live.specs.Stores.{here_of}
-use Rattle.anti_live.specs.Clients.{ClientView, IsFirst, IsOf, LiveView, id_of_pass, id_of_shared}
-use Rattle.anti_live.specs.inner.Lives.{IsClient}
+use Rattle.anti_live.specs.Clients.{ClientView, IsClient, IsFirst, IsOf, LiveView, id_of_pass, id_of_shared}
 
 abbrev firsts_of : List (SharedView Object) → List (PassView Object)
 firsts_of shareds = map (λ s. first_pass (id_of_shared s)) shareds

@@ -7,9 +7,9 @@ use Rattle.std.proofs.lemmas.Option.{same_Some, slice_get_within}
 use Rattle.anti_object.specs.declared.object.Object.{Object}
 use Rattle.anti_shared.specs.Passes.{IsJoined, PassView, SharedView}
 use Rattle.anti_shim.specs.declared.caller.Caller.{Caller}
-use Rattle.anti_live.specs.Clients.{ClientView, IsJoinedTo, IsOf, LiveView, id_of_pass}
+use Rattle.anti_live.specs.Clients.{ClientView, IsClient, IsJoinedTo, IsOf, LiveView, id_of_pass}
 use Rattle.anti_live.specs.inner.Joining.{AllJoined, AreJoining}
-use Rattle.anti_live.specs.inner.Lives.{AreJoined, AreOf, IsClient}
+use Rattle.anti_live.specs.inner.Lives.{AreJoined, AreOf}
 use Rattle.anti_live.proofs.Belonging.{client_stays, id_at, same_long, stands_too}
 
 -- what stands at a place of the three lists

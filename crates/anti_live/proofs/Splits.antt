@@ -7,9 +7,9 @@ use Rattle.std.proofs.lemmas.List.Elements.{all_zip_more}
 use Rattle.anti_object.specs.declared.object.Object.{Object}
 use Rattle.anti_shared.specs.Passes.{IsSplit, PassView, SharedView}
 use Rattle.anti_shim.specs.declared.caller.Caller.{Caller}
-use Rattle.anti_live.specs.Clients.{ClientView, IsOf, IsSplitOff, LiveView, id_of_pass, least_room}
+use Rattle.anti_live.specs.Clients.{ClientView, IsClient, IsOf, IsSplitOff, LiveView, id_of_pass, least_room}
 use Rattle.anti_live.specs.Stores.{here_of}
-use Rattle.anti_live.specs.inner.Lives.{AreOf, AreSplit, IsClient}
+use Rattle.anti_live.specs.inner.Lives.{AreOf, AreSplit}
 use Rattle.anti_live.specs.inner.Splitting.{AreSplitting, IsLeftOf, IsSplitFrom}
 use Rattle.anti_live.proofs.Belonging.{client_stays, id_at, of_others, same_long, stands_too}
 use Rattle.anti_live.proofs.Changed.{changed_all, changed_first, changed_more, next_same, zipped_at}

@@ -11,9 +11,8 @@ use Rattle.anti_shim.specs.declared.caller.Caller.{Caller}
 use Rattle.anti_shim.specs.declared.caller.Made.{Made}
 use Rattle.anti_shim.specs.declared.fault.ShimFault.{ShimFault}
 use Rattle.anti_shim.specs.Steps.{Step, IsAsked, MayAsk, caller_after}
-use Rattle.anti_live.specs.Clients.{ClientView, IsOf, LiveView, Stays, id_of_pass}
+use Rattle.anti_live.specs.Clients.{ClientView, IsClient, IsOf, LiveView, Stays, id_of_pass}
 use Rattle.anti_live.specs.Stores.{here_of}
-use Rattle.anti_live.specs.inner.Lives.{IsClient}
 use Rattle.anti_live.proofs.Places.{item_at}
 
 ids_of_rests : (passes : List (PassView Object)) → map id_of_pass (map rest_of passes) ≡ map id_of_pass passes

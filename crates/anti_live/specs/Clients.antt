@@ -48,6 +48,10 @@ pub record IsOf (live : LiveView) (client : ClientView) : Type 0 where
   pub passes : map id_of_pass client.passes ≡ map id_of_shared live.shareds
   pub here : client.here ≡ here_of client.region live.stores
 
+-- The actor of a client's entries is the carrier with the number of its pass of store 0.
+abbrev pub IsClient : List (PassView Object) → Caller → Type 0
+IsClient passes who = (pass : PassView Object) → slice_get passes 0 ≡ Some pass → who.actor ≡ Carrier pass.number
+
 -- The port that a client is.
 
 -- the store of a number, by the client's pass of it

@@ -6,7 +6,7 @@ ghost use Rattle.anti_object.specs.Standing.{object_start};
 ghost use Rattle.anti_shared.specs.Passes.{IsPass};
 ghost use Rattle.anti_shim.specs.Shims.{brought_by};
 ghost use Rattle.anti_live.specs.Stores.{is_among};
-ghost use Rattle.anti_live.specs.Clients.{ClientView, begins_span, carries, least_room};
+ghost use Rattle.anti_live.specs.Clients.{ClientView, IsClient, begins_span, carries, least_room};
 
 use anti_ids::{Lineage, LineageRefused};
 use anti_kind::Row;
@@ -32,8 +32,7 @@ pub struct Client {
 }
 
 impl Model for Client {
-    ghost use Rattle.anti_live.specs.Clients.{ClientView};
-    ghost use Rattle.anti_live.specs.inner.Lives.{IsClient};
+    ghost use Rattle.anti_live.specs.Clients.{ClientView, IsClient};
     ghost use Rattle.std.specs.Coded.{codes};
     ghost use Rattle.anti_object.specs.contracts.object.Object as object;
 
@@ -148,9 +147,11 @@ impl Client {
     }
 
     /// What is true of each client: of each store it has seen a legal history. Its own entries, and those of the clients that were joined
-    /// into it, are all that the history has of their numbers, which differ. It takes no memory.
+    /// into it, are all that the history has of their numbers, which differ. The actor of its entries is the carrier with its number at
+    /// store 0. It takes no memory.
     pub fn histories(&self)
-        ensures { All (IsPass object_start) self.now.passes }
+        ensures legal { All (IsPass object_start) self.now.passes }
+        ensures actor { IsClient self.now.passes self.now.who }
     {
         for pass in self.passes.as_slice() {
             // it tells what is true of each pass

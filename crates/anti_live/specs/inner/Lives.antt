@@ -1,12 +1,10 @@
 -- How the code stands for shared stores and for a client.
 use Rattle.std.specs.Prelude.{◌≡◌, ℕ, ◌≤◌, true, List, [], length, map, Some, is_some, slice_get}
 use Rattle.anti_ids.specs.List.{Listed, plain}
-use Rattle.anti_kind.specs.declared.actor.Actor.TheVariants.{Carrier}
 use Rattle.anti_kind.specs.declared.entry.Entry.{Entry}
 use Rattle.anti_object.specs.declared.object.Object.{Object}
 use Rattle.anti_object.specs.Standing.{ObjectAt, object_start}
 use Rattle.anti_shared.specs.Passes.{IsJoined, IsSplit, PassView, SharedView, first_pass, rest_of, start_of}
-use Rattle.anti_shim.specs.declared.caller.Caller.{Caller}
 use Rattle.anti_live.specs.declared.stores.LiveStore.{LiveStore}
 use Rattle.anti_live.specs.Stores.{AreStores, start_at}
 use Rattle.anti_live.specs.Clients.{id_of_pass, id_of_shared}
@@ -25,10 +23,6 @@ pub record IsLive (stores : List LiveStore) (names : List (List ℕ)) (shareds :
   pub are_shared : AreShared stores shareds
   pub none : kepts.items ≡ []
   pub room : length stores ≤ kepts.spare
-
--- The actor is the carrier with the number of the first pass.
-abbrev pub IsClient : List (PassView Object) → Caller → Type 0
-IsClient passes who = (pass : PassView Object) → slice_get passes 0 ≡ Some pass → who.actor ≡ Carrier pass.number
 
 -- The passes are those of the shared objects, each of which has the number of its place, and a start.
 pub record ArePasses (shareds : List (SharedView Object)) (passes : List (PassView Object)) : Type 0 where

@@ -1,8 +1,8 @@
 use Rattle.std.proofs.Common.{List, max, refl, sym, ap, ◌∙◌, subst}
 use Rattle.anti_object.specs.declared.object.Object.{Object}
 use Rattle.anti_shared.specs.Passes.{PassView, SharedView}
-use Rattle.anti_live.specs.Clients.{ClientView, IsJoinedTo, LiveView}
-use Rattle.anti_live.specs.inner.Lives.{AreJoined, IsClient}
+use Rattle.anti_live.specs.Clients.{ClientView, IsClient, IsJoinedTo, LiveView}
+use Rattle.anti_live.specs.inner.Lives.{AreJoined}
 use Rattle.anti_live.proofs.Joins.{join_stays, joined_to}
 use Rattle.anti_live.proofs.live.Live.join.Goals as goal
 

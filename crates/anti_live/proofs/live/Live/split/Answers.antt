@@ -1,9 +1,9 @@
 use Rattle.std.proofs.Common.{List, sym, ap, ◌∙◌, subst}
 use Rattle.anti_object.specs.declared.object.Object.{Object}
 use Rattle.anti_shared.specs.Passes.{PassView, SharedView}
-use Rattle.anti_live.specs.Clients.{ClientView, IsSplitOff, LiveView}
+use Rattle.anti_live.specs.Clients.{ClientView, IsClient, IsSplitOff, LiveView}
 use Rattle.anti_live.specs.Stores.{here_of}
-use Rattle.anti_live.specs.inner.Lives.{AreSplit, IsClient}
+use Rattle.anti_live.specs.inner.Lives.{AreSplit}
 use Rattle.anti_live.proofs.Splits.{split_off, split_stays}
 use Rattle.anti_live.proofs.live.Live.split.Goals as goal
 

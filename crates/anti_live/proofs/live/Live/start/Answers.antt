@@ -1,8 +1,7 @@
 use Rattle.std.proofs.Common.{◌≡◌, ◌≤◌, List, length, ap, ◌∙◌, subst, arith}
 use Rattle.anti_live.specs.declared.stores.LiveStore.{LiveStore}
 use Rattle.anti_live.specs.Stores.{here_of}
-use Rattle.anti_live.specs.Clients.{ClientView, LiveView}
-use Rattle.anti_live.specs.inner.Lives.{IsClient}
+use Rattle.anti_live.specs.Clients.{ClientView, IsClient, LiveView}
 use Rattle.anti_live.proofs.Firsts.{first_client}
 use Rattle.anti_live.proofs.live.Live.start.Goals as goal
 
