@@ -1,6 +1,7 @@
 ghost use Rattle.anti_command.specs.Placed.{TellsPlacement, TellsReview};
 
 use anti_app::App;
+use anti_doctor::diagnoses_decide;
 use anti_ids::{Bytes, NoMemory};
 use anti_place::{placed, review, review_begins_with_the_placement, superfluous_barriers_can_go};
 use anti_text::{placement_line, review_text};
@@ -30,6 +31,7 @@ impl Telling for PlacementLine {
     #[tactic(auto, unfolding(crate::specs::inner::Stated::IsPlayable))]
     fn tell(alloc: Global, app: &App) -> Result<Bytes, NoMemory> {
         placed_applications_keep_all();
+        diagnoses_decide();
         placement_line(alloc, app, placed(app))
     }
 }

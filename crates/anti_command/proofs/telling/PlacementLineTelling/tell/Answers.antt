@@ -2,6 +2,7 @@ use Rattle.std.proofs.Common.{ℕ, ◌≡◌, ◌∙◌, ap}
 use Rattle.std.specs.Prelude.{IfOk, Result, Ok, Err}
 use Rattle.anti_ids.specs.List.{Listed, plain}
 use Rattle.anti_app.specs.declared.app.App.{App}
+use Rattle.anti_doctor.specs.declared.diagnosis.Diagnosis.TheVariants.{Misses}
 use Rattle.anti_text.specs.Placements.{placement_line}
 use Rattle.anti_command.specs.Placed.{TellsPlacement}
 use Rattle.anti_command.specs.inner.Stated.{IsPlayable}
@@ -23,5 +24,8 @@ returns c = go c.placement_line.result c.placement_line.ensures
             lossless = keep.lossless app c.requires placed trace legal;
             settled = keep.settled app c.requires placed trace legal;
             explained = keep.explained app c.requires placed trace legal;
+            sound = λ birth span findings found.
+                (c.diagnoses_decide.ensures.spans app trace c.requires legal birth span (Misses findings) found).2
+                _ (keep.explained app c.requires placed trace legal birth span);
           };
         }
