@@ -103,6 +103,10 @@ module _ (app : App) (w : World) (trace : List Entry) (b : Birth) (i : ℕ) (p :
     pub goes_asked : IsAsked app trace it
     goes_asked = left_is
 
+    -- so this is its next call
+    pub next_asks : next_call app trace b ≡ Some it
+    next_asks = ap (asked_by trace b) left_is
+
     asks_next : chosen_next ≡ made_at app trace it
     asks_next = ap (λ (x : Want). option_and_then (made_at app trace) (asked_by trace b x)) left_is
 
@@ -195,7 +199,7 @@ module _ (app : App) (w : World) (trace : List Entry) (b : Birth) (i : ℕ) (p :
 
     -- what is asked for is this call
     is_going : (q : Asking) → next_call app trace b ≡ Some q → q ≡ it
-    is_going q next = let both : Some q ≡ Some it = sym next ∙ ap (asked_by trace b) left_is in cc
+    is_going q next = let both : Some q ≡ Some it = sym next ∙ next_asks in cc
 
     pub stops_made : (ns : List AtObject) (e : Entry) → made_at app trace it ≡ Some e → Stops app trace b ns
     stops_made ns e m q next full =

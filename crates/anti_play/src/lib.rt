@@ -11,6 +11,7 @@ mod reading;
 mod world;
 mod world_agenda;
 mod world_trace;
+mod world_view;
 
 pub use first_world::objects;
 pub use laws::{finish_completes, pulls_start_handlers};

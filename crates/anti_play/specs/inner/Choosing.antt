@@ -1,5 +1,5 @@
 -- What the code takes a choice to ask for, and what comes of a process that is to go on.
-use Rattle.std.specs.Prelude.{◌≡◌, ℕ, true, List, None, Some, slice_get, slice_index_or, Result, Bool, OnOk}
+use Rattle.std.specs.Prelude.{◌≡◌, ℕ, true, List, Option, None, Some, slice_get, slice_index_or, Result, Bool, OnOk}
 use Rattle.anti_ids.specs.declared.memory.NoMemory.{NoMemory}
 use Rattle.anti_kind.specs.declared.actor.Actor.TheVariants.{Process as Acting}
 use Rattle.anti_kind.specs.declared.actor.Birth.{Birth}
@@ -63,3 +63,7 @@ MakesNext app w b result n =
 -- and it is ended, if its call was ready and did not fit.
 abbrev pub StopsUnfit : App → World → Birth → Result Bool NoMemory → World → Type 0
 StopsUnfit app w b result n = (trace : List Entry) → WorldStands app w trace → OnOk result (Stops app trace b (lists n.processes))
+
+-- a call is asked for at this object
+abbrev pub AsksAt : Option Asking → ℕ → Type 0
+AsksAt asks object = (q : Asking) × (asks ≡ Some q) × (q.object ≡ object)
