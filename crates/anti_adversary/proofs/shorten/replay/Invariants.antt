@@ -1,0 +1,5 @@
+use Rattle.anti_adversary.specs.inner.Playing.{IsPlayer}
+use Rattle.anti_adversary.proofs.shorten.replay.Given as goal
+
+abbrev pub invariant-loop-number : goal.invariant-loop-number
+invariant-loop-number l = IsPlayer l.app l.stage.player

@@ -1,0 +1,3 @@
+pub mod Examining
+pub mod Playing
+pub mod Searching
