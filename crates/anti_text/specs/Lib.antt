@@ -1,4 +1,5 @@
 pub mod Calls
+pub mod Counterexamples
 pub mod Entries
 pub mod Json
 pub mod Placements

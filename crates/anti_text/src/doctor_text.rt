@@ -65,8 +65,8 @@ fn diagnosis_text(
     }
 }
 
-// Writes the line of a span with its diagnosis.
-fn diagnosis_line(
+/// Writes the line of a span with its diagnosis.
+pub fn diagnosis_line(
     out: &mut Output,
     texts: &MarkTexts,
     found: &SpanDiagnosis,

@@ -2,6 +2,7 @@
 #![tactic(auto)]
 
 mod call_words;
+mod counterexample;
 mod doctor_text;
 mod entry_lines;
 mod id_texts;
@@ -28,6 +29,7 @@ mod wait_lines;
 mod words;
 mod written_ids;
 
+pub use counterexample::verdict_text;
 pub use doctor_text::DoctorText;
 pub use placement::placement_line;
 pub use record_json::{RecordJson, json, print_json};

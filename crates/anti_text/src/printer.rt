@@ -11,7 +11,7 @@ use crate::span_lines::{answer_text, answered_line};
 use anti_app::{App, store_names};
 use anti_baggage::BaggageFault;
 use anti_ids::{Lineage, NoMemory};
-use anti_kind::Message;
+use anti_kind::{Entry, Message};
 use anti_order::{OrderAnswer, SpanAnswer};
 use anti_report::Report;
 use anti_trace::Mark;
@@ -47,10 +47,23 @@ impl<'a> Printer<'a> {
     pub fn new(alloc: Global, app: &'a App, report: &Report) -> Result<Printer<'a>, NoMemory>
         ensures { IfOk result (λ printer. printer.app.now ≡ app.now) }
     {
+        let writes = marked(report.spans.as_slice());
+        Printer::of(alloc, app, report.trace.as_slice(), writes)
+    }
+
+    /// What prints entries of a trace, and orders that share the marks of these writes.
+    pub fn of(
+        alloc: Global,
+        app: &'a App,
+        trace: &[Entry],
+        writes: &[Mark],
+    ) -> Result<Printer<'a>, NoMemory>
+        ensures { IfOk result (λ printer. printer.app.now ≡ app.now) }
+    {
         let stores = store_names(alloc, app)?;
         let objects = app.stores.len().saturating_add(app.services.len());
-        let ids = IdTexts::of(alloc, stores, objects, report.trace.as_slice())?;
-        let marks = MarkTexts::of(alloc, app, marked(report.spans.as_slice()))?;
+        let ids = IdTexts::of(alloc, stores, objects, trace)?;
+        let marks = MarkTexts::of(alloc, app, writes)?;
         Ok(Printer {
             alloc,
             app,

@@ -94,7 +94,8 @@ fn go_text(out: &mut Output, app: &App, object: u32, place: u32) -> Result<(), N
     mark_text(out, app, object, place)
 }
 
-fn choice_text(out: &mut Output, app: &App, choice: &Choice) -> Result<(), NoMemory>
+/// Writes a choice in its own words.
+pub fn choice_text(out: &mut Output, app: &App, choice: &Choice) -> Result<(), NoMemory>
     ensures { OnOk result (out.new ≡ out.old ++ choice_text app.now choice.now) }
 {
     match choice {
