@@ -1,2 +1,3 @@
 mod ByWorkers
 mod Settled
+mod Worth

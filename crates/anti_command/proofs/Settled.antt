@@ -57,6 +57,7 @@ tells (Some commands.Session) left can reads = can
 tells (Some commands.Doctor) left can reads = can
 tells (Some commands.Place) left can reads = can
 tells (Some commands.Review) left can reads = can
+tells (Some commands.Counterexample) left can reads = can
 tells (Some (commands.Load requests)) left can reads = absurd (cc)
 
 module _ (asked : Option Command) (left rest : Option (List ℕ)) (read : Type 0) (can : CanBeDone asked left) (sound : ¬ read) where

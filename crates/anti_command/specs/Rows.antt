@@ -9,8 +9,8 @@ use Rattle.anti_text.specs.Record.{text_of}
 use Rattle.anti_text.specs.Sessions.{PrintsSessions}
 use Rattle.anti_text.specs.Summary.{summary_of}
 use Rattle.anti_command.specs.declared.command.Command.{Command}
-use Rattle.anti_command.specs.Placed.{TellsPlacement, TellsReview}
-use Rattle.anti_command.specs.declared.command.Command.TheVariants.{Step, Json, Session, Doctor, Place, Review, Load}
+use Rattle.anti_command.specs.Placed.{TellsCounterexample, TellsPlacement, TellsReview}
+use Rattle.anti_command.specs.declared.command.Command.TheVariants.{Step, Json, Session, Doctor, Place, Review, Counterexample, Load}
 use Rattle.anti_command.specs.declared.command.Command.TheVariants as commands
 
 -- the document that the source has, or the load of so many requests
@@ -40,4 +40,5 @@ row_of Session = record { origin = Document; product = Run Choices (λ app trace
 row_of Doctor = record { origin = Document; product = Run Choices (λ app trace waits. PrintsDiagnoses app trace) }
 row_of Place = record { origin = Document; product = Told TellsPlacement }
 row_of Review = record { origin = Document; product = Told TellsReview }
+row_of Counterexample = record { origin = Document; product = Told TellsCounterexample }
 row_of (Load requests) = record { origin = Requests requests; product = Run Choices (IsPrinted summary_of) }

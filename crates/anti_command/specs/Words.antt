@@ -4,7 +4,7 @@ use Rattle.std.specs.Str.{bytes_eq}
 use Rattle.anti_ids.specs.Decimals.{decimal_in}
 use Rattle.anti_ids.specs.declared.limits.TheConstants.{MOST_REQUESTS}
 use Rattle.anti_command.specs.declared.command.Command.{Command}
-use Rattle.anti_command.specs.declared.command.Command.TheVariants.{Step, Json, Run, Session, Doctor, Place, Review, Load}
+use Rattle.anti_command.specs.declared.command.Command.TheVariants.{Step, Json, Run, Session, Doctor, Place, Review, Counterexample, Load}
 
 -- the command of a word that asks what is found of a run
 abbrev pub finding_of : List ℕ → Option Command
@@ -12,7 +12,10 @@ finding_of word = if bytes_eq word (codes "session") then Some Session else if b
 
 -- the command of a word that asks what is told of an application
 abbrev pub telling_of : List ℕ → Option Command
-telling_of word = if bytes_eq word (codes "place") then Some Place else if bytes_eq word (codes "review") then Some Review else finding_of word
+telling_of word =
+    if bytes_eq word (codes "place") then Some Place else
+    if bytes_eq word (codes "review") then Some Review else
+    if bytes_eq word (codes "counterexample") then Some Counterexample else finding_of word
 
 -- the command of one word
 abbrev pub word_of : List ℕ → Option Command

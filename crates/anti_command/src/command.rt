@@ -21,6 +21,8 @@ pub enum Command {
     Place,
     /// Tell all lines of the document that is read at which a barrier, a transfer or a root is missing, and all barriers that never have to wait.
     Review,
+    /// Look for a run of the document that is read in which a read misses a write, whatever its choices are, and write that run's choices.
+    Counterexample,
     /// Play the load of so many requests, 1 to `MOST_REQUESTS`, and write the summary of the run. Nothing is read.
     Load { requests: u32 },
 }
@@ -47,6 +49,9 @@ fn telling_of(word: &[u8]) -> Option<Command>
     }
     if word == b"review".as_slice() {
         return Some(Command::Review);
+    }
+    if word == b"counterexample".as_slice() {
+        return Some(Command::Counterexample);
     }
     finding_of(word)
 }
@@ -77,7 +82,8 @@ fn load_of(word: &[u8], number: &[u8]) -> Option<Command>
     })
 }
 
-/// The command that the words ask for: `step`, `json`, `run`, `session`, `doctor`, `place` or `review`, alone,
+/// The command that the words ask for: `step`, `json`, `run`, `session`, `doctor`, `place`, `review` or
+/// `counterexample`, alone,
 /// or `load` and a number. It is `None` where they ask for none.
 pub fn asked_for(words: &[Value]) -> Option<Command>
     ensures command { result ≡ command_of words.now }

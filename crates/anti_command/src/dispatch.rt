@@ -9,7 +9,7 @@ use crate::command::{Command, asked_for};
 use crate::fault::TopFault;
 use crate::prepared::Prepared;
 use crate::products::{play_document, play_load, tell_document};
-use crate::telling::{PlacementLine, ReviewLines};
+use crate::telling::{CounterexampleText, PlacementLine, ReviewLines};
 use anti_edge::Source;
 use anti_ids::Value;
 use anti_text::{DoctorText, RecordJson, RecordText, SessionText, SummaryText};
@@ -35,6 +35,7 @@ pub fn prepare<S: Source>(alloc: Global, words: &[Value], src: &mut S) -> Result
         Some(Command::Doctor) => play_document::<DoctorText, S>(alloc, src),
         Some(Command::Place) => tell_document::<PlacementLine, S>(alloc, src),
         Some(Command::Review) => tell_document::<ReviewLines, S>(alloc, src),
+        Some(Command::Counterexample) => tell_document::<CounterexampleText, S>(alloc, src),
         Some(Command::Load { requests }) => Ok(play_load::<SummaryText>(alloc, requests)?),
         Some(Command::Run) => Err(TopFault::Usage),
         None => Err(TopFault::Usage),

@@ -111,7 +111,7 @@ pub fn tell_document<T: Telling, S: Source>(
     ensures unwritten { IfErr result (λ fault. writes (Some fault) ≡ false) }
 {
     let app = app_of(alloc, src)?;
-    let text = T::tell(alloc, &app)?;
+    let text = T::tell(alloc, app)?;
     Ok((None, text))
 }
 

@@ -1,10 +1,11 @@
-ghost use Rattle.anti_command.specs.Placed.{TellsPlacement, TellsReview};
+ghost use Rattle.anti_command.specs.Placed.{TellsCounterexample, TellsPlacement, TellsReview};
 
+use anti_adversary::search;
 use anti_app::App;
 use anti_doctor::diagnoses_decide;
 use anti_ids::{Bytes, NoMemory};
 use anti_place::{placed, review, review_begins_with_the_placement, superfluous_barriers_can_go};
-use anti_text::{placement_line, review_text};
+use anti_text::{placement_line, review_text, verdict_text};
 use law_placed::placed_applications_keep_all;
 use std::alloc::Global;
 
@@ -17,9 +18,9 @@ pub trait Telling {
     ghost tells: { App → List ℕ → Type 0 };
 
     /// The text. The only error is want of memory.
-    fn tell(alloc: Global, app: &App) -> Result<Bytes, NoMemory>
-        requires { IsPlayable app.now }
-        ensures { IfOk result (λ t. tells app.now t.items) };
+    fn tell(alloc: Global, app: App) -> Result<Bytes, NoMemory>
+        requires { IsPlayable app }
+        ensures { IfOk result (λ t. tells app t.items) };
 }
 
 /// Whether barriers, transfers and roots stand where they must, or the first line at which they do not.
@@ -29,10 +30,10 @@ impl Telling for PlacementLine {
     ghost tells = { TellsPlacement };
 
     #[tactic(auto, unfolding(crate::specs::inner::Stated::IsPlayable))]
-    fn tell(alloc: Global, app: &App) -> Result<Bytes, NoMemory> {
+    fn tell(alloc: Global, app: App) -> Result<Bytes, NoMemory> {
         placed_applications_keep_all();
         diagnoses_decide();
-        placement_line(alloc, app, placed(app))
+        placement_line(alloc, &app, placed(&app))
     }
 }
 
@@ -43,10 +44,25 @@ impl Telling for ReviewLines {
     ghost tells = { TellsReview };
 
     #[tactic(auto, unfolding(crate::specs::inner::Stated::IsPlayable))]
-    fn tell(alloc: Global, app: &App) -> Result<Bytes, NoMemory> {
+    fn tell(alloc: Global, app: App) -> Result<Bytes, NoMemory> {
         review_begins_with_the_placement();
         superfluous_barriers_can_go();
-        let remarks = review(alloc, app)?;
-        review_text(alloc, app, remarks.as_slice())
+        let remarks = review(alloc, &app)?;
+        review_text(alloc, &app, remarks.as_slice())
+    }
+}
+
+/// The choices of a run in which a read misses a write, where one is found.
+pub struct CounterexampleText;
+
+impl Telling for CounterexampleText {
+    ghost tells = { TellsCounterexample };
+
+    #[tactic(auto, unfolding(crate::specs::inner::Stated::IsPlayable))]
+    fn tell(alloc: Global, app: App) -> Result<Bytes, NoMemory> {
+        placed_applications_keep_all();
+        diagnoses_decide();
+        let (app, verdict) = search(alloc, app)?;
+        verdict_text(alloc, &app, &verdict)
     }
 }

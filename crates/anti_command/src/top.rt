@@ -91,6 +91,7 @@ fn runs_workers(asked: Option<Command>) -> bool
         Some(Command::Doctor) => false,
         Some(Command::Place) => false,
         Some(Command::Review) => false,
+        Some(Command::Counterexample) => false,
         Some(Command::Load { .. }) => false,
     }
 }

@@ -2,8 +2,9 @@
 //! json` writes it as JSON. `antipode run` lets workers on threads play the document, and writes the record of what they did. `antipode
 //! session` plays the document as `step` does, and writes what its sessions saw, and `antipode doctor` what its reads missed, or orders that
 //! explain them. `antipode place` tells whether barriers, transfers and roots stand where they must in the document, and `antipode review`
-//! all lines at which they do not, and the barriers that never have to wait. `antipode
-//! load 400` plays the load of 400 requests, and writes the summary of the run; it reads nothing.
+//! all lines at which they do not, and the barriers that never have to wait. `antipode counterexample` looks for a run of the document in
+//! which a read misses a write, and writes its choices. `antipode load 400` plays the load of 400 requests, and writes the summary of the
+//! run; it reads nothing.
 #![tactic(auto)]
 
 ghost use Rattle.std.specs.Prelude.{◌≡◌, IfOk};
