@@ -32,7 +32,7 @@ end 4
 ";
 
 // Words that ask for nothing.
-static NO_COMMANDS: [&[&[u8]]; 18] = [
+static NO_COMMANDS: [&[&[u8]]; 20] = [
     &[],
     &[b"load"],
     &[b"load", b""],
@@ -46,6 +46,8 @@ static NO_COMMANDS: [&[&[u8]]; 18] = [
     &[b"load", b"7", b"7"],
     &[b"place", b"7"],
     &[b"review", b"7"],
+    &[b"counterexample", b"x"],
+    &[b"counterexamples"],
     &[b"session", b"c.1"],
     &[b"doctor", b""],
     &[b"step", b"x"],

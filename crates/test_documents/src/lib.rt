@@ -9,6 +9,8 @@ mod call_rows;
 #[cfg(test)]
 mod command;
 #[cfg(test)]
+mod counterexamples;
+#[cfg(test)]
 mod findings;
 #[cfg(test)]
 mod finishes;
