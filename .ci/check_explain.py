@@ -78,7 +78,7 @@ def mistakes(writes):
         said, status = explained(data)
         if writes:
             text.write_text(said, encoding="utf-8")
-        if status or not text.exists() or text.read_text(encoding="utf-8") != said:
+        if not status or not text.exists() or text.read_text(encoding="utf-8") != said:
             raise Differs(f"{text.name} is not what is said of {document.name}:\n{said}")
         shown += said
     numbers = {int(number) for number in re.findall(r"^(?:further: )?app (\d+) ", shown, re.MULTILINE)}
@@ -107,7 +107,7 @@ def examples():
     for document in sorted((TOP / "examples").glob("*.toml")):
         data = document.read_bytes()
         texts[document.name] = data.decode()
-        if agrees(data, document.name) or explained(data) != (RIGHT, 1):
+        if agrees(data, document.name) or explained(data) != (RIGHT, 0):
             raise Differs(f"something is said to be wrong with {document.name}")
         if plain(read(data.decode())) != tomllib.loads(data.decode()):
             raise Differs(f"{document.name} is not read as Python reads it")
@@ -144,7 +144,7 @@ def too_long():
 def calls():
     """Checks the statuses of the command itself, and that a line which is given is explained."""
     right, wrong = "examples/barrier.toml", "tools/mistakes/unknown_kind.toml"
-    wanted = [([right], 1), ([wrong], 0), ([wrong, "app", "11", "store", "1", "0"], 0), ([right, "app 23 handler 1 1"], 0), ([wrong, "no memory"], 0),
+    wanted = [([right], 0), ([wrong], 1), ([wrong, "app", "11", "store", "1", "0"], 1), ([right, "app 23 handler 1 1"], 1), ([wrong, "no memory"], 1),
               ([], 2), ([wrong, "no line"], 2), (["no_such_document"], 2)]
     for words, status in wanted:
         ended = subprocess.run([str(TOP / "tools" / "explain"), *words], cwd=TOP, capture_output=True)

@@ -252,13 +252,13 @@ def only_the_line(data, line):
 
 
 def explained(data, line=None):
-    """What is said of a document, with the line with which it is said to be refused, and the status: 0 where something is explained, 1 where
+    """What is said of a document, with the line with which it is said to be refused, and the status: 1 where something is explained, 0 where
     nothing is wrong."""
     if line in OTHER_LINES:
-        return "\n".join([line] + wrapped("", OTHER_LINES[line])) + "\n", 0
+        return "\n".join([line] + wrapped("", OTHER_LINES[line])) + "\n", 1
     found, says = told(data)
     if found is None:
-        return ("\n".join(only_the_line(data, line)) + "\n", 0) if line else (RIGHT, 1)
+        return ("\n".join(only_the_line(data, line)) + "\n", 1) if line else (RIGHT, 0)
     if line and line != found:
         says = [f"{shown(line)}", f"    Here something else is found to be wrong: {ANOTHER}"] + says
-    return "\n".join(says) + "\n", 0
+    return "\n".join(says) + "\n", 1
