@@ -260,7 +260,7 @@ module _ (app : App) (w : World) (trace : List Entry) (b : Birth) (i : ℕ) (p :
 
 -- a process that is not there asks for nothing
 module _ (app : App) (w : World) (trace : List Entry) (b : Birth) (s : WorldStands app w trace) (absent : position (is_named b) (born_at (lists w.processes) b.object) ≡ None) where
-  absent_none : next_call app trace b ≡ None
+  pub absent_none : next_call app trace b ≡ None
   absent_none =
       let unborn : entries_by (Acting b) trace ≡ [] = subst (λ (o : Option ℕ). Lives app trace (born_at (lists w.processes) b.object) o (entries_by (Acting b) trace)) absent (s.processes.live b) in
       ap (λ (es : List Entry). asked_by trace b (want_of (process_after app es))) unborn

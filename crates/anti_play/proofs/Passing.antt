@@ -23,6 +23,11 @@ use Rattle.anti_play.specs.inner.Standing.{WorldStands}
 use Rattle.anti_play.proofs.GoFirst.{birth_found, birth_here, birth_is, born_length, no_entry}
 use Rattle.anti_play.proofs.GoOn.{IsFound, next_none, on_p}
 
+-- what is true anyhow is so where there is none
+pub on_none : {X P : Type 0} (o : Option X) → P → IfNone o P
+on_none None p = p
+on_none (Some x) p = tt
+
 -- what is said of none, where there is none
 pub if_none : {X : Type 0} (o : Option X) (P : Type 0) → is_some o ≡ false → IfNone o P → P
 if_none None P off none = none

@@ -1,5 +1,5 @@
 -- What the code takes a choice to ask for, and what comes of a process that is to go on.
-use Rattle.std.specs.Prelude.{◌≡◌, ℕ, true, List, Option, None, Some, slice_get, slice_index_or, Result, Bool, OnOk}
+use Rattle.std.specs.Prelude.{◌≡◌, ℕ, true, List, Option, None, Some, option_and_then, slice_get, slice_index_or, Result, Bool, OnOk}
 use Rattle.anti_ids.specs.declared.memory.NoMemory.{NoMemory}
 use Rattle.anti_kind.specs.declared.actor.Actor.TheVariants.{Process as Acting}
 use Rattle.anti_kind.specs.declared.actor.Birth.{Birth}
@@ -67,3 +67,7 @@ StopsUnfit app w b result n = (trace : List Entry) → WorldStands app w trace �
 -- a call is asked for at this object
 abbrev pub AsksAt : Option Asking → ℕ → Type 0
 AsksAt asks object = (q : Asking) × (asks ≡ Some q) × (q.object ≡ object)
+
+-- what is asked for, if anything is, makes no entry
+abbrev pub MakesNone : App → List Entry → Option Asking → Type 0
+MakesNone app trace asks = option_and_then (made_at app trace) asks ≡ None

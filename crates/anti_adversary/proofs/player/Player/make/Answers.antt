@@ -20,7 +20,7 @@ chose c made trace stands =
 few : (c : In_ok-choose) → c.in_ok-choose.field-0 ≡ true → length c.in-Some-history.history.now ≤ MOST_UNITS + 1
 few c made =
     few_before c.args.app.now c.args.self.now.world c.choose.new.self c.args.choice c.in-Some.object c.in-Some-history.history.now
-    c.in-Some.ensures (c.in-Some-history.ensures c.args.app.now) (chose c made) (world_of c.args.app.now c.args.self.now c.requires.player)
+    c.in-Some.ensures.some (c.in-Some-history.ensures.some c.args.app.now) (chose c made) (world_of c.args.app.now c.args.self.now c.requires.player)
 
 pub overflow_cast-mark : goal.overflow_cast-mark
 overflow_cast-mark c =
@@ -33,6 +33,6 @@ overflow_add-mark c =
 pub returns : goal.returns
 returns c = λ choices has.
     made_more c.args.app.now c.args.self.now.world c.choose.new.self c.args.choice c.in-Some.object c.in-Some-history.history.now
-    c.in-Some.ensures (c.in-Some-history.ensures c.args.app.now) (chose ((goal.at.returns c).In_ok-choose) c.if-not-branch.false)
+    c.in-Some.ensures.some (c.in-Some-history.ensures.some c.args.app.now) (chose ((goal.at.returns c).In_ok-choose) c.if-not-branch.false)
     c.args.self.now.marks (length c.in-Some-history.history.now + 1) c.add.new.self choices has
     (sym c.names_what_is_there.ensures ∙ c.if-not-names_what_is_there.false) refl c.in_ok-add.ensures.ok
