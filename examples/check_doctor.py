@@ -5,7 +5,7 @@
     examples/check_doctor.py session RECORD DOCUMENT
 
 It shares nothing with the program, and goes another way. What is causally before a read it finds by a search from the read back along the
-edges of docs/MODEL.md, and which writes the read missed by looking at each write that the search came to. Whether any order explains the
+edges of docs/proof/MODEL.md, and which writes the read missed by looking at each write that the search came to. Whether any order explains the
 reads of a span it finds once more, and without that: in each order a read stands behind the write that it shows of a key, and before the
 next write to this key, so there is none just where these and the edges go round in a circle. Where the two ways do not agree, or an order
 that it is about to tell does not explain the reads, it says so, and the status is 1.

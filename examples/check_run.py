@@ -3,7 +3,7 @@
 
     examples/check_run.py [--complete] [--workers] DOCUMENT [RECORD..]
 
-It shares nothing with the program: it plays the entries of the record one after another, by docs/FORMAT.md and docs/MODEL.md alone. Each
+It shares nothing with the program: it plays the entries of the record one after another, by docs/FORMAT.md and docs/proof/MODEL.md alone. Each
 entry has to stand in its order, with the stamp and the place that are due; its call has to be just what its process asks for next, or one
 that starts a process or that a carrier may make; the call has to be ready and to fit; and its reply has to be the one that is due. Each
 line `process` has to tell how that process stands at the end. Lines `wait` and `span` are passed over: a record does not tell which
