@@ -37,10 +37,8 @@ def rule_texts():
 
 
 def alone(text):
-    """The words of a rule, without the page round them."""
-    for page, own in ((" (below)", ""), ("list above", "list of keys"), ("of the list.", "of the list of keys."), ("list allows", "list of keys allows")):
-        text = text.replace(page, own)
-    return text
+    """The words of a rule, so that they can be read without the page."""
+    return text.replace(" (below)", "").replace("the key table", "the key table of docs/FORMAT.md")
 
 
 # ---- lines of the output
